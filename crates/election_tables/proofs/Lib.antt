@@ -1,0 +1,16 @@
+mod Rows
+mod RollRows
+mod Walks
+mod Distinct
+mod Signs
+mod Breaks
+mod Rising
+mod Keys
+pub mod Kept
+mod Valid
+mod RollLines
+mod Reading
+mod Determined
+pub mod Named
+pub mod Places
+mod Numbers

@@ -1,0 +1,180 @@
+-- The tables of a document that keeps its rules have what callers rely on.
+use Rattle.std.proofs.Common.{◌≡◌, ◌≢◌, ℕ, ℤ, pos, ◌≤◌, ◌==◌, true, false, ◌&&◌, ◌||◌, List, [], ◌∷◌, length, map, get_or, nat_le, Some, IsPermutation, nat_cmp, refl, ap, sym, ◌∙◌, subst, arith}
+use Rattle.std.specs.List.{All, AllPairs, count_by, list_any}
+use Rattle.std.proofs.lemmas.List.Sums.{count_by-le-length, length-filter}
+use Rattle.std.specs.List.Sorted.{IsPermutation}
+use Rattle.std.specs.Ordering.{int_eq, eq_by_cmp}
+use Rattle.std.proofs.lemmas.Bool.{and_parts, leb-true, eq-eqb, false≢true}
+use Rattle.std.proofs.lemmas.List.{get_or-map, length-map}
+use Rattle.std.proofs.lemmas.List.Elements.{All-filter, All-same}
+use Rattle.std.proofs.lemmas.List.Sorted.{All-permutation, length_permutation, list_any-IsPermutation}
+use Rattle.std.proofs.lemmas.Map.Keys.{apart_from_distinct}
+use Rattle.urna_base.specs.Moment.{is_date}
+use Rattle.election_tables.specs.declared.document.OfficeEntry.{OfficeEntry}
+use Rattle.election_tables.specs.declared.document.PartyEntry.{PartyEntry}
+use Rattle.election_tables.specs.declared.document.CandidateEntry.{CandidateEntry}
+use Rattle.election_tables.specs.declared.tables.candidates.NamedCandidate.{NamedCandidate}
+use Rattle.election_tables.specs.declared.tables.parties.Party.{Party}
+use Rattle.election_tables.specs.declared.tables.sections.Section.{Section}
+use Rattle.election_tables.specs.declared.tables.panels.Panel.{Panel}
+use Rattle.election_tables.specs.DocumentData.{DocumentData}
+use Rattle.election_tables.specs.Fields.{is_within, is_valid_date, is_name, has_digits, first_two}
+use Rattle.election_tables.specs.Offices.{code_digits, most_seats}
+use Rattle.election_tables.specs.Rules.{are_distinct, kind_fits, seats_in_range, section_in_range, has_office, has_party}
+use Rattle.election_tables.specs.Tables.{AreTablesOf, IsPanelOf, candidates_of, entry_of_candidate, entry_of_office, entry_of_party, entry_of_section}
+use Rattle.election_tables.specs.TablesData.{TablesData, IsCandidate, IsPanel, IsParty, IsSection, IsTables}
+use Rattle.election_tables.proofs.Distinct.{IsDistinct-from_test}
+use Rattle.election_tables.proofs.Keys.{int_eq_by_cmp, nat_eq_by_cmp}
+use Rattle.election_tables.proofs.Kept as kept
+use Rattle.election_tables.proofs.Kept.{Kept, all_true}
+use Rattle.election_tables.proofs.Rising.{same_distinct}
+
+-- a number in a range
+within : (low high n : ℕ) → is_within low high (pos n) ≡ true → (low ≤ n) × (n ≤ high)
+within low high n h =
+    let (least, most) = and_parts (nat_le low n) (nat_le n high) h in
+    (leb-true low n least, leb-true n high most)
+
+within_same : (low high n : ℕ) (z : ℤ) → pos n ≡ z → is_within low high z ≡ true → (low ≤ n) × (n ≤ high)
+within_same low high n z same h =
+    let P : ℤ → Type 0 = λ y. is_within low high y ≡ true in
+    within low high n (subst P (sym same) h)
+
+-- ---- parties
+
+party_from : (q : Party) → is_within 10 99 (entry_of_party q).number ≡ true → is_name (entry_of_party q).name ≡ true → IsParty q
+party_from q number name = record { number = within 10 99 q.number number; name = name }
+
+-- what is so of each entry of the document is so of each part of the tables
+parts_at : {E X : Type 0} (P : E → Type 0) (entry : X → E) (xs : List X) → All P (map entry xs) → All (λ x. P (entry x)) xs
+parts_at P entry xs all k d h =
+    let same_length : length (map entry xs) ≡ length xs = length-map xs entry in
+    let at = all k (entry d) (omega arith) in
+    let here : get_or (map entry xs) k (entry d) ≡ entry (get_or xs k d) = get_or-map entry xs k d (entry d) h in
+    subst P here at
+
+parts_are : {E X : Type 0} (P : E → Type 0) (entries : List E) (entry : X → E) (xs : List X) → IsPermutation entries (map entry xs) → All P entries
+    → All (λ x. P (entry x)) xs
+parts_are P entries entry xs moved all = parts_at P entry xs (All-permutation P entries (map entry xs) moved all)
+
+-- ---- candidates
+
+any_party : (n : ℕ) (parties : List Party) → list_any (λ p. int_eq p.number (pos n)) (map entry_of_party parties) ≡ list_any (λ q. q.number == n) parties
+any_party n [] = refl
+any_party n (q ∷ qs) =
+    ap (λ x. x || list_any (λ p. int_eq p.number (pos n)) (map entry_of_party qs)) (int_eq_by_cmp q.number n ∙ sym (nat_eq_by_cmp q.number n))
+    ∙ ap (λ r. (q.number == n) || r) (any_party n qs)
+
+candidate_from : (offices : List OfficeEntry) (entries : List PartyEntry) (parties : List Party) (code digits : ℕ) (c : NamedCandidate)
+    → code_digits code ≡ Some digits → IsPermutation entries (map entry_of_party parties)
+    → has_office offices (entry_of_candidate code c) ≡ true → has_party entries (entry_of_candidate code c) ≡ true
+    → is_valid_date (entry_of_candidate code c).birth ≡ true → is_name (entry_of_candidate code c).name ≡ true → IsCandidate digits parties c
+candidate_from offices entries parties code digits c known moved office party birth name =
+    let (_, right) = and_parts (list_any (λ o. int_eq o.code (pos code)) offices) _ office in
+    let number : has_digits digits c.number ≡ true = rw known at right in
+    let there : list_any (λ p. int_eq p.number (pos (first_two digits c.number))) entries ≡ true = rw known at party in
+    record {
+      number = number;
+      party = sym (any_party (first_two digits c.number) parties)
+          ∙ sym (list_any-IsPermutation (λ (p : PartyEntry). int_eq p.number (pos (first_two digits c.number))) entries (map entry_of_party parties) moved) ∙ there;
+      birth = birth;
+      name = name;
+    }
+
+candidates_from : (d : DocumentData) (parties : List Party) (p : Panel) → Kept d → IsPermutation d.parties (map entry_of_party parties) → IsPanelOf d.candidates p
+    → All (IsCandidate p.office.digits parties) p.candidates
+candidates_from d parties p k moved of i e h =
+    let code = p.office.code in
+    let mine = λ (x : CandidateEntry). int_eq x.office (pos code) in
+    let entries : List CandidateEntry = candidates_of code d.candidates in
+    candidate_from d.offices d.parties parties code p.office.digits (get_or p.candidates i e) of.digits moved
+    (parts_are (λ x. has_office d.offices x ≡ true) entries (entry_of_candidate code) p.candidates of.candidates
+    (All-filter mine (λ x. has_office d.offices x ≡ true) d.candidates (all_true (has_office d.offices) d.candidates k.have_office)) i e h)
+    (parts_are (λ x. has_party d.parties x ≡ true) entries (entry_of_candidate code) p.candidates of.candidates
+    (All-filter mine (λ x. has_party d.parties x ≡ true) d.candidates (all_true (has_party d.parties) d.candidates k.have_party)) i e h)
+    (parts_are (λ x. is_valid_date x.birth ≡ true) entries (entry_of_candidate code) p.candidates of.candidates
+    (All-filter mine (λ x. is_valid_date x.birth ≡ true) d.candidates (all_true (λ x. is_valid_date x.birth) d.candidates k.births)) i e h)
+    (parts_are (λ x. is_name x.name ≡ true) entries (entry_of_candidate code) p.candidates of.candidates
+    (All-filter mine (λ x. is_name x.name ≡ true) d.candidates (all_true (λ x. is_name x.name) d.candidates (kept.candidate_names d k))) i e h)
+
+count_from : (d : DocumentData) (p : Panel) → Kept d → IsPanelOf d.candidates p → length p.candidates ≤ 4096
+count_from d p k of =
+    let code = p.office.code in
+    let mine = λ (x : CandidateEntry). int_eq x.office (pos code) in
+    let few = kept.candidates_few d k in
+    let all_length : length (map (entry_of_candidate code) p.candidates) ≡ length p.candidates = length-map p.candidates (entry_of_candidate code) in
+    let moved_length : length (map (entry_of_candidate code) p.candidates) ≡ length (candidates_of code d.candidates) = length_permutation (candidates_of code d.candidates) _ of.candidates in
+    let picked : length (candidates_of code d.candidates) ≡ count_by mine d.candidates = length-filter mine d.candidates in
+    let least : count_by mine d.candidates ≤ length d.candidates = count_by-le-length mine d.candidates in
+    omega arith
+
+panel_from : (d : DocumentData) (parties : List Party) (p : Panel) → Kept d → IsPermutation d.parties (map entry_of_party parties) → IsPanelOf d.candidates p
+    → kind_fits (entry_of_office p.office).code (entry_of_office p.office).kind ≡ true → seats_in_range (entry_of_office p.office) ≡ true → IsPanel parties p
+panel_from d parties p k moved of kind seats = record {
+  office = record { digits = of.digits; kind = kind; seats = within 1 (most_seats p.office.code) p.office.seats seats };
+  candidates = candidates_from d parties p k moved of;
+  rise = of.rise;
+  count = count_from d p k of;
+}
+
+-- ---- sections
+
+section_from : (s : Section) → section_in_range (entry_of_section s) ≡ true → IsSection s
+section_from s h =
+    let (zone, rest) = and_parts (is_within 1 9999 (pos s.zone)) (is_within 1 9999 (pos s.number) && is_within 1 600 (pos s.voters)) h in
+    let (number, voters) = and_parts (is_within 1 9999 (pos s.number)) (is_within 1 600 (pos s.voters)) rest in
+    record { zone = within 1 9999 s.zone zone; number = within 1 9999 s.number number; voters = within 1 600 s.voters voters }
+
+-- ---- the whole
+
+valid_date : (n : ℕ) (z : ℤ) → pos n ≡ z → is_valid_date z ≡ true → is_date n ≡ true
+valid_date n z same h =
+    let P : ℤ → Type 0 = λ y. is_valid_date y ≡ true in
+    subst P (sym same) h
+
+office_codes_differ : (d : DocumentData) (panels : List Panel) → map (λ p. entry_of_office p.office) panels ≡ d.offices
+    → are_distinct int_eq (map (λ o. o.code) d.offices) ≡ true → AllPairs (λ p q. p.office.code ≢ q.office.code) panels
+office_codes_differ d panels same distinct i j e before h equal =
+    let codes : List ℕ = map (λ p. p.office.code) panels in
+    let differ : are_distinct (eq_by_cmp nat_cmp) codes ≡ true =
+    sym (same_distinct int_eq (λ o. o.code) (λ (p : Panel). entry_of_office p.office) (λ p. p.office.code) nat_cmp (λ x y. int_eq_by_cmp x.office.code y.office.code) panels)
+    ∙ ap (λ (os : List OfficeEntry). are_distinct int_eq (map (λ o. o.code) os)) same ∙ distinct in
+    let size : length codes ≡ length panels = length-map panels (λ p. p.office.code) in
+    let apart : eq_by_cmp nat_cmp (get_or codes i e.office.code) (get_or codes j e.office.code) ≡ false =
+    apart_from_distinct (eq_by_cmp nat_cmp) codes i j e.office.code (IsDistinct-from_test (eq_by_cmp nat_cmp) codes differ) before (omega arith) in
+    let first : get_or codes i e.office.code ≡ (get_or panels i e).office.code = get_or-map (λ (p : Panel). p.office.code) panels i e e.office.code (omega arith) in
+    let second : get_or codes j e.office.code ≡ (get_or panels j e).office.code = get_or-map (λ (p : Panel). p.office.code) panels j e e.office.code h in
+    let here : eq_by_cmp nat_cmp (get_or panels i e).office.code (get_or panels j e).office.code ≡ false =
+    ap (λ x. eq_by_cmp nat_cmp x (get_or panels j e).office.code) (sym first) ∙ ap (λ y. eq_by_cmp nat_cmp (get_or codes i e.office.code) y) (sym second) ∙ apart in
+    false≢true (sym here ∙ sym (nat_eq_by_cmp (get_or panels i e).office.code (get_or panels j e).office.code) ∙ eq-eqb _ _ equal)
+
+pub tables_valid : (d : DocumentData) (t : TablesData) → Kept d → AreTablesOf d t → length t.digest ≡ 32 → IsTables t
+tables_valid d t k are size =
+    let offices_length : length t.panels ≡ length d.offices = sym (length-map t.panels (λ p. entry_of_office p.office)) ∙ ap length are.offices in
+    let parties_length : length t.parties ≡ length d.parties = sym (length-map t.parties entry_of_party) ∙ length_permutation _ _ are.parties in
+    let sections_length : length t.sections ≡ length d.sections = sym (length-map t.sections entry_of_section) ∙ length_permutation _ _ are.sections in
+    let few_offices = kept.offices_few d k in
+    let few_parties = kept.parties_few d k in
+    let few_sections = kept.sections_few d k in
+    record {
+      process = within_same 1 99999 t.process d.process are.process (kept.process_in_range d k);
+      date = valid_date t.date d.date are.date (kept.date_is_valid d k);
+      turn = within_same 1 2 t.turn d.turn are.turn (kept.turn_in_range d k);
+      panel_count = (omega arith, omega arith);
+      panels = (λ i p h. panel_from d t.parties (get_or t.panels i p) k are.parties (are.panels i p h)
+          (parts_at (λ o. kind_fits o.code o.kind ≡ true) (λ (x : Panel). entry_of_office x.office) t.panels
+          (All-same (λ o. kind_fits o.code o.kind ≡ true) _ d.offices are.offices (all_true (λ o. kind_fits o.code o.kind) d.offices k.kinds)) i p h)
+          (parts_at (λ o. seats_in_range o ≡ true) (λ (x : Panel). entry_of_office x.office) t.panels
+          (All-same (λ o. seats_in_range o ≡ true) _ d.offices are.offices (all_true seats_in_range d.offices k.seats)) i p h));
+      codes = office_codes_differ d t.panels are.offices (kept.codes_differ d k);
+      party_count = (omega arith, omega arith);
+      parties = (λ i q h. party_from (get_or t.parties i q)
+          (parts_are (λ p. is_within 10 99 p.number ≡ true) d.parties entry_of_party t.parties are.parties (all_true (λ p. is_within 10 99 p.number) d.parties k.party_numbers) i q h)
+          (parts_are (λ p. is_name p.name ≡ true) d.parties entry_of_party t.parties are.parties (all_true (λ p. is_name p.name) d.parties (kept.party_names d k)) i q h));
+      parties_rise = are.parties_rise;
+      section_count = (omega arith, omega arith);
+      sections = (λ i s h. section_from (get_or t.sections i s)
+          (parts_are (λ e. section_in_range e ≡ true) d.sections entry_of_section t.sections are.sections (all_true section_in_range d.sections (kept.sections_in_range d k)) i s h));
+      sections_rise = are.sections_rise;
+      digest = size;
+    }

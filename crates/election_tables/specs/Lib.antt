@@ -1,0 +1,13 @@
+pub mod Shape
+pub mod DocumentData
+pub mod Entries
+pub mod Fields
+pub mod Offices
+pub mod Rules
+pub mod Fitting
+pub mod TablesData
+pub mod Tables
+pub mod Verdict
+pub mod Roll
+pub mod RollAnswer
+pub mod Laws

@@ -1,0 +1,114 @@
+-- What contracts see of the tables, and what is so of all tables that were read.
+use Rattle.std.specs.Prelude.{◌≡◌, ◌≢◌, ℕ, ◌≤◌, List, [], length, map, slice_get, Option, Some, option_map, IsTrue, ◌==◌, ◌&&◌}
+use Rattle.std.specs.List.{All, AllPairs, find, list_any}
+use Rattle.std.specs.List.Sorted.{IsStrictlyIncreasing, IsStrictlySortedBy}
+use Rattle.std.specs.Option.{option_map_or}
+use Rattle.std.specs.Ordering.{nat_cmp, ordering_then}
+use Rattle.std.specs.declared.cmp.Ordering.{Ordering}
+use Rattle.urna_base.specs.Moment.{is_date}
+use Rattle.election_tables.specs.declared.office.Office.{Office}
+use Rattle.election_tables.specs.declared.tables.candidates.Candidate.{Candidate}
+use Rattle.election_tables.specs.declared.tables.candidates.NamedCandidate.{NamedCandidate}
+use Rattle.election_tables.specs.declared.tables.parties.Party.{Party}
+use Rattle.election_tables.specs.declared.tables.sections.Section.{Section}
+use Rattle.election_tables.specs.declared.tables.panels.Panel.{Panel}
+use Rattle.election_tables.specs.Offices.{code_digits, allows, most_seats}
+use Rattle.election_tables.specs.Fields.{is_name, has_digits, first_two}
+
+-- the tables of an election: the panels in the order of the ballot, the other lists rising
+pub record TablesData : Type 0 where
+  pub process : ℕ
+  pub date : ℕ
+  pub turn : ℕ
+  pub panels : List Panel
+  pub parties : List Party
+  pub sections : List Section
+  pub digest : List ℕ
+
+-- ---- look-ups
+
+-- the candidates of a panel; none where there is no such panel
+abbrev pub candidates_at : ℕ → TablesData → List NamedCandidate
+candidates_at panel t = option_map_or (λ p. p.candidates) (slice_get t.panels panel) []
+
+-- what `candidate` tells of a candidate
+abbrev pub without_name : NamedCandidate → Candidate
+without_name c = record { number = c.number; birth = c.birth }
+
+-- the name of the candidate of a number
+abbrev pub candidate_name : ℕ → List NamedCandidate → Option (List ℕ)
+candidate_name number candidates = option_map (λ c. c.name) (find (λ c. c.number == number) candidates)
+
+-- the name of the party of a number
+abbrev pub party_name : ℕ → List Party → Option (List ℕ)
+party_name number parties = option_map (λ q. q.name) (find (λ q. q.number == number) parties)
+
+-- the section of a zone and number
+abbrev pub section_with : ℕ → ℕ → List Section → Option Section
+section_with zone number sections = find (λ s. (s.zone == zone) && (s.number == number)) sections
+
+-- ---- order
+
+-- pairs of numbers by the first, then by the second
+abbrev pub pair_cmp : ℕ × ℕ → ℕ × ℕ → Ordering
+pair_cmp a b = ordering_then (nat_cmp a.0 b.0) (nat_cmp a.1 b.1)
+
+-- candidates rise by number, and so do parties; no number stands twice
+abbrev pub CandidatesRise : List NamedCandidate → Type 0
+CandidatesRise candidates = IsStrictlyIncreasing (map (λ c. c.number) candidates)
+
+abbrev pub PartiesRise : List Party → Type 0
+PartiesRise parties = IsStrictlyIncreasing (map (λ q. q.number) parties)
+
+-- sections rise by zone, then by number; none stands twice
+abbrev pub SectionsRise : List Section → Type 0
+SectionsRise sections = IsStrictlySortedBy pair_cmp (map (λ s. (s.zone, s.number)) sections)
+
+-- ---- what is so of all tables
+
+-- the digits and the kind are those of the code, and there are no more seats than it may have
+pub record IsOffice (o : Office) : Type 0 where
+  pub digits : code_digits o.code ≡ Some o.digits
+  pub kind : IsTrue (allows o.code o.kind)
+  pub seats : (1 ≤ o.seats) × (o.seats ≤ most_seats o.code)
+
+-- a candidate of an office whose numbers have so many digits
+pub record IsCandidate (digits : ℕ) (parties : List Party) (c : NamedCandidate) : Type 0 where
+  pub number : IsTrue (has_digits digits c.number)
+  pub party : IsTrue (list_any (λ q. q.number == first_two digits c.number) parties)
+  pub birth : IsTrue (is_date c.birth)
+  pub name : IsTrue (is_name c.name)
+
+-- an office and its candidates, rising, each of one of the parties
+pub record IsPanel (parties : List Party) (p : Panel) : Type 0 where
+  pub office : IsOffice p.office
+  pub candidates : All (IsCandidate p.office.digits parties) p.candidates
+  pub rise : CandidatesRise p.candidates
+  pub count : length p.candidates ≤ 4096
+
+-- a party has a number of two digits and a name
+pub record IsParty (q : Party) : Type 0 where
+  pub number : (10 ≤ q.number) × (q.number ≤ 99)
+  pub name : IsTrue (is_name q.name)
+
+-- a section has a place and 1 to 600 voters
+pub record IsSection (s : Section) : Type 0 where
+  pub zone : (1 ≤ s.zone) × (s.zone ≤ 9999)
+  pub number : (1 ≤ s.number) × (s.number ≤ 9999)
+  pub voters : (1 ≤ s.voters) × (s.voters ≤ 600)
+
+-- the tables have what the rules of the document ask for
+pub record IsTables (t : TablesData) : Type 0 where
+  pub process : (1 ≤ t.process) × (t.process ≤ 99999)
+  pub date : IsTrue (is_date t.date)
+  pub turn : (1 ≤ t.turn) × (t.turn ≤ 2)
+  pub panel_count : (1 ≤ length t.panels) × (length t.panels ≤ 8)
+  pub panels : All (IsPanel t.parties) t.panels
+  pub codes : AllPairs (λ p q. p.office.code ≢ q.office.code) t.panels
+  pub party_count : (1 ≤ length t.parties) × (length t.parties ≤ 40)
+  pub parties : All IsParty t.parties
+  pub parties_rise : PartiesRise t.parties
+  pub section_count : (1 ≤ length t.sections) × (length t.sections ≤ 2000)
+  pub sections : All IsSection t.sections
+  pub sections_rise : SectionsRise t.sections
+  pub digest : length t.digest ≡ 32

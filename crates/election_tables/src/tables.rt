@@ -1,0 +1,299 @@
+//! The tables as the layers above use them.
+ghost use Rattle.std.specs.Prelude.{◌≡◌, ◌≢◌, ◌<◌, ◌≤◌, ◌<ℤ◌, ◌≤ℤ◌, ℕ, None, Some, Err, pos, IsOk, IfOk, IfSome, IsTrue, length, map, option_map, option_copied, slice_get};
+ghost use Rattle.toml.specs.View.{table_view};
+ghost use Rattle.election_tables.specs.Entries.{document_of};
+ghost use Rattle.election_tables.specs.Fields.{is_name};
+ghost use Rattle.election_tables.specs.Rules.{broken_rule, first_broken, is_served, typed_rules};
+ghost use Rattle.election_tables.specs.Tables.{AreTablesOf, BreaksFirst, IsNoDocument, IsNotServed, IsReadAs, IsServed};
+ghost use Rattle.election_tables.specs.Verdict.{IsAnswerFor};
+ghost use Rattle.election_tables.specs.TablesData.{TablesData, IsOffice, IsTables, candidate_name, candidates_at, party_name, section_with, without_name};
+
+mod candidates;
+mod panels;
+mod parties;
+mod sections;
+
+use crate::document::Document;
+use crate::office::Office;
+use crate::shape::broken_shape;
+pub use candidates::Candidate;
+use panels::{Panel, panels_of};
+use parties::Parties;
+pub use sections::Section;
+use sections::Sections;
+use sha2::{Digest, Sha256};
+use std::alloc::{AllocError, Global};
+use std::marker::Model;
+use thiserror::Error;
+use toml::Table;
+
+/// The tables of an election. Contracts see them as `TablesData` (`specs/TablesData.antt`).
+#[derive(Drop)]
+pub struct Tables {
+    process: u32,
+    date: u32,
+    turn: u8,
+    panels: Vec<Panel>,
+    parties: Parties,
+    sections: Sections,
+    digest: [u8; 32],
+}
+
+impl Model for Tables {
+    ghost use Rattle.election_tables.specs.TablesData.{TablesData, IsTables};
+
+    ghost Value = { TablesData };
+
+    ghost view = { λ t. record {
+      process = t.process;
+      date = t.date;
+      turn = t.turn;
+      panels = t.panels.items;
+      parties = t.parties;
+      sections = t.sections;
+      digest = t.digest;
+    } };
+
+    ghost invariant = { λ t. IsTables (record {
+      process = t.process;
+      date = t.date;
+      turn = t.turn;
+      panels = t.panels.items;
+      parties = t.parties;
+      sections = t.sections;
+      digest = t.digest;
+    }) };
+}
+
+/// A number of the document, which its rules keep in range.
+fn to_u32(z: i64) -> u32
+    requires low { pos 0 ≤ℤ z }
+    requires high { z <ℤ pos 4294967296 }
+    ensures { pos result ≡ z }
+{
+    z as u32
+}
+
+/// Why a document gives no tables.
+#[derive(Clone, Copy, Debug, PartialEq, Eq, Error)]
+pub enum TablesError {
+    /// Memory ran out.
+    #[error("out of memory")]
+    Memory,
+    /// The bytes are no TOML document.
+    #[error("the tables are no TOML document")]
+    NotToml,
+    /// The first rule of docs/FORMATS.md, "Election tables", that the document breaks; 0 where it keeps every rule, but
+    /// the station doesn't serve its offices.
+    #[error("the tables break rule {0}")]
+    Rule(u8),
+}
+
+impl Tables {
+    /// The tables of a document that keeps rules 4 to 14.
+    fn of(alloc: Global, document: &Document, digest: [u8; 32]) -> Result<Tables, AllocError>
+        requires { first_broken 4 (typed_rules document.now) ≡ None }
+        ensures ok { IfOk result (AreTablesOf document.now) }
+        ensures digest { IfOk result (λ t. t.digest ≡ digest) }
+    {
+        Ok(Tables {
+            process: to_u32(document.process),
+            date: to_u32(document.date),
+            turn: to_u32(document.turn) as u8,
+            panels: panels_of(alloc, &document.offices, &document.candidates)?,
+            parties: Parties::of(alloc, &document.parties)?,
+            sections: Sections::of(alloc, &document.sections)?,
+            digest,
+        })
+    }
+
+    /// The tables in a TOML document, and the digest of its bytes.
+    #[tactic(auto, using(crate::proofs::Breaks::fault_by_shape, crate::proofs::Breaks::fault_by_entries, crate::proofs::Breaks::fault_unserved, crate::proofs::Breaks::no_fault))]
+    fn from_table(alloc: Global, table: &Table, digest: [u8; 32]) -> Result<Tables, TablesError>
+        ensures { IsAnswerFor (table_view table.now) digest result }
+    {
+        if let Some(k) = broken_shape(table) {
+            return Err(TablesError::Rule(k));
+        }
+        let document = match Document::read(alloc, table) {
+            Ok(document) => document,
+            Err(_) => return Err(TablesError::Memory),
+        };
+        match document.broken_rule(alloc) {
+            Ok(None) => {}
+            Ok(Some(k)) => return Err(TablesError::Rule(k)),
+            Err(_) => return Err(TablesError::Memory),
+        }
+        if !document.is_served() {
+            return Err(TablesError::Rule(0));
+        }
+        match Tables::of(alloc, &document, digest) {
+            Ok(tables) => Ok(tables),
+            Err(_) => Err(TablesError::Memory),
+        }
+    }
+
+    /// The tables in some bytes: a TOML document that keeps the rules of docs/FORMATS.md, "Election tables", with its
+    /// entries in any order. Bytes of any length may be given; the largest document that keeps the rules has about
+    /// 0.7 MB.
+    ///
+    /// Errors: `NotToml` where the bytes are no TOML document, `Rule(k)` where rule k is the first that doesn't hold,
+    /// `Rule(0)` where all hold and the station doesn't serve the offices, `Memory` where memory ran out.
+    pub fn read(alloc: Global, bytes: &[u8]) -> Result<Tables, TablesError>
+        ensures ok { IfOk result (IsReadAs bytes.now) }
+        ensures tables { IfOk result IsTables }
+
+        ensures not_toml { result ≡ Err TablesError.NotToml → IsNoDocument bytes.now }
+        ensures rule { (k : ℕ) → 1 ≤ k → result ≡ Err (TablesError.Rule k) → BreaksFirst bytes.now k }
+        ensures unserved { result ≡ Err (TablesError.Rule 0) → IsNotServed bytes.now }
+
+        // and exactly there, unless memory ran out
+        ensures not_toml_there { result ≢ Err TablesError.Memory → IsNoDocument bytes.now → result ≡ Err TablesError.NotToml }
+        ensures rule_there { result ≢ Err TablesError.Memory → (k : ℕ) → BreaksFirst bytes.now k → result ≡ Err (TablesError.Rule k) }
+        ensures unserved_there { result ≢ Err TablesError.Memory → IsNotServed bytes.now → result ≡ Err (TablesError.Rule 0) }
+        ensures ok_there { result ≢ Err TablesError.Memory → IsServed bytes.now → IsOk result }
+    {
+        match toml::table_from_slice(alloc, bytes) {
+            Ok(table) => Tables::from_table(alloc, &table, Sha256::digest(bytes)),
+            Err(e) => {
+                if e.is_memory() {
+                    return Err(TablesError::Memory);
+                }
+                Err(TablesError::NotToml)
+            }
+        }
+    }
+}
+
+impl Tables {
+    /// How many panels the ballot has: one for each office, in the order of the document.
+    pub fn panels(&self) -> u32
+        ensures count { result ≡ length self.now.panels }
+        ensures tables { IsTables self.now }
+    {
+        self.panels.len() as u32
+    }
+
+    /// The office of a panel.
+    pub fn office(&self, panel: u32) -> Office
+        requires { panel < length self.now.panels }
+        ensures office { option_map (λ p. p.office) (slice_get self.now.panels panel) ≡ Some result }
+        ensures fits { IsOffice result }
+        ensures digits { (2 ≤ result.digits) × (result.digits ≤ 5) }
+    {
+        self.panels[panel as usize].office
+    }
+
+    /// How many parties there are.
+    pub fn party_count(&self) -> u32
+        ensures count { result ≡ length self.now.parties }
+        ensures tables { IsTables self.now }
+    {
+        self.parties.len() as u32
+    }
+
+    /// The number of the party at a place, in rising order.
+    pub fn party(&self, i: u32) -> u8
+        requires { i < length self.now.parties }
+        ensures party { option_map (λ q. q.number) (slice_get self.now.parties i) ≡ Some result }
+        ensures two_digits { (10 ≤ result) × (result ≤ 99) }
+    {
+        self.parties.at(i as usize)
+    }
+
+    /// The name of the party of a number; `None` exactly where the tables have no such party.
+    pub fn party_name(&self, number: u8) -> Option<&str>
+        ensures name { option_copied result ≡ party_name number self.now.parties }
+        ensures printable { IfSome result (λ name. IsTrue (is_name name.now)) }
+        ensures short { IfSome result (λ name. (1 ≤ length name.now) × (length name.now ≤ 70)) }
+    {
+        self.parties.name_of(number)
+    }
+
+    /// How many candidates the office of a panel has.
+    pub fn candidate_count(&self, panel: u32) -> u32
+        requires { panel < length self.now.panels }
+        ensures count { result ≡ length (candidates_at panel self.now) }
+        ensures few { result ≤ 4096 }
+    {
+        let panel = &self.panels[panel as usize];
+        panel.candidates.len() as u32
+    }
+
+    /// The candidate at a place of a panel, in rising order of the numbers.
+    pub fn candidate(&self, panel: u32, i: u32) -> Candidate
+        requires panel { panel < length self.now.panels }
+        requires place { i < length (candidates_at panel self.now) }
+        ensures candidate { option_map without_name (slice_get (candidates_at panel self.now) i) ≡ Some result }
+        ensures digits { (10 ≤ result.number) × (result.number ≤ 99999) }
+    {
+        let panel = &self.panels[panel as usize];
+        panel.candidates.at(i as usize)
+    }
+
+    /// The name of the candidate of a number; `None` exactly where the panel has no such candidate, or there is no such
+    /// panel.
+    pub fn candidate_name(&self, panel: u32, number: u32) -> Option<&str>
+        ensures name { option_copied result ≡ candidate_name number (candidates_at panel self.now) }
+        ensures printable { IfSome result (λ name. IsTrue (is_name name.now)) }
+        ensures short { IfSome result (λ name. (1 ≤ length name.now) × (length name.now ≤ 70)) }
+    {
+        match self.panels.get(panel as usize) {
+            Some(panel) => panel.candidates.name_of(number),
+            None => None,
+        }
+    }
+
+    /// How many sections there are.
+    pub fn section_count(&self) -> u32
+        ensures count { result ≡ length self.now.sections }
+        ensures tables { IsTables self.now }
+    {
+        self.sections.len() as u32
+    }
+
+    /// The section at a place, rising by zone, then by number.
+    pub fn section(&self, i: u32) -> Section
+        requires { i < length self.now.sections }
+        ensures section { slice_get self.now.sections i ≡ Some result }
+        ensures voters { (1 ≤ result.voters) × (result.voters ≤ 600) }
+    {
+        self.sections.at(i as usize)
+    }
+
+    /// The section of a zone and number; `None` exactly where the tables have no such section.
+    pub fn find_section(&self, zone: u32, number: u32) -> Option<Section>
+        ensures section { result ≡ section_with zone number self.now.sections }
+        ensures voters { IfSome result (λ s. (1 ≤ s.voters) × (s.voters ≤ 600)) }
+    {
+        self.sections.with(zone, number)
+    }
+
+    /// The number of the election.
+    pub fn process(&self) -> u32
+        ensures { result ≡ self.now.process }
+    {
+        self.process
+    }
+
+    /// The date of the poll, as YYYYMMDD.
+    pub fn date(&self) -> u32
+        ensures { result ≡ self.now.date }
+    {
+        self.date
+    }
+
+    /// The turn, 1 or 2.
+    pub fn turn(&self) -> u8
+        ensures { result ≡ self.now.turn }
+    {
+        self.turn
+    }
+
+    /// The SHA-256 of the bytes that the tables were read from.
+    pub fn digest(&self) -> [u8; 32]
+        ensures { result ≡ self.now.digest }
+    {
+        self.digest
+    }
+}

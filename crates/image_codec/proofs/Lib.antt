@@ -1,0 +1,5 @@
+pub mod Ballots
+pub mod Steps
+pub mod Valid
+mod AddChoices
+mod Rows

@@ -1,0 +1,174 @@
+ghost use Rattle.std.specs.Prelude.{◌≡◌, ◌≤◌, true, length, IfOk};
+ghost use Rattle.urna_base.specs.Moment.{is_moment};
+ghost use Rattle.vote_kinds.specs.Ballot.{ballot_lines};
+ghost use Rattle.image_codec.specs.State.{opened_at, with_ballot, with_votes, sealed_at, rank_of, MayVote, IsBallot};
+ghost use Rattle.image_codec.specs.Valid.{ready_state, IsValid, IsOfVoters, HasRoom, MayClose};
+
+use election_tables::Tables;
+use std::alloc::Global;
+use std::marker::Model;
+use turnout::{Phase, Turnout};
+use urna_base::Memory;
+use vote_kinds::Choice;
+use vote_record::Rdv;
+
+/// The state of a poll (docs/RULES.md, "The state of a poll"). Contracts see its phase, who came, and a bag of choices for
+/// each panel.
+#[derive(Debug, Drop)]
+pub struct State {
+    phase: Phase,
+    turnout: Turnout,
+    votes: Rdv,
+}
+
+impl Model for State {
+    ghost use Rattle.std.specs.Prelude.{length};
+    ghost use Rattle.image_codec.specs.State as poll;
+
+    ghost Value = { poll.State };
+
+    ghost use Rattle.image_codec.specs.Valid.{IsValid, IsOfVoters};
+
+    ghost view = { λ s. record { phase = s.phase; came = s.turnout; bags = s.votes.bags } };
+
+    ghost invariant = { λ s. IsValid (record { phase = s.phase; came = s.turnout; bags = s.votes.bags }) × IsOfVoters s.votes (length s.turnout) };
+}
+
+impl State {
+    /// The state of a section with so many voters before the poll: nobody came, and no panel has a vote. All its memory
+    /// is taken here; `Memory` comes only where an allocation failed.
+    pub fn ready(alloc: Global, tables: &Tables, voters: u32) -> Result<State, Memory>
+        requires { voters ≤ 600 }
+        ensures { IfOk result (λ s. s ≡ ready_state tables.now voters) }
+    {
+        let turnout = Turnout::new(alloc, voters)?;
+        let votes = Rdv::new(alloc, tables, voters)?;
+        Ok(State {
+            phase: Phase::Ready,
+            turnout,
+            votes,
+        })
+    }
+
+    /// How far the poll is.
+    pub fn phase(&self) -> Phase
+        ensures phase { result ≡ self.now.phase }
+        ensures valid { IsValid self.now }
+    {
+        self.phase
+    }
+
+    /// Who came.
+    pub fn turnout(&self) -> &Turnout
+        ensures { result.now ≡ self.now.came }
+    {
+        &self.turnout
+    }
+
+    /// The record of the votes.
+    pub fn votes(&self) -> &Rdv
+        ensures bags { result.now.bags ≡ self.now.bags }
+        ensures valid { IsValid self.now }
+        ensures voters { IsOfVoters result.now (length self.now.came) }
+    {
+        &self.votes
+    }
+
+    /// The rank of the state: 0 if ready, one more than came if polling, two more if sealed. Each step raises it.
+    pub fn rank(&self) -> u32
+        ensures { result ≡ rank_of self.now }
+    {
+        match self.phase {
+            Phase::Ready => 0,
+            Phase::Polling { .. } => 1 + self.turnout.len(),
+            Phase::Sealed { .. } => self.turnout.len() + 2,
+        }
+    }
+
+    /// Opens the poll. The caller owes that the state is ready, and that the opening moment is one.
+    pub fn begin(&mut self, opened: u64)
+        requires ready { self.old.phase ≡ Phase.Ready }
+        requires moment { is_moment opened ≡ true }
+        ensures { self.new ≡ opened_at self.old opened }
+    {
+        self.phase = Phase::Polling { opened };
+    }
+
+    /// The voter of a place came and chose so. The caller owes that the poll is open and the voter has not come, that there
+    /// is one choice for each line of the ballot, each a choice of its line, and that the tables are those of the state.
+    pub fn ballot(&mut self, tables: &Tables, place: u32, choices: &[Choice])
+        requires voter { MayVote self.old place }
+        requires ballot { IsBallot (ballot_lines tables.now) choices.now }
+        requires panels { length self.old.bags ≡ length tables.now.panels }
+        ensures { self.new ≡ with_ballot (ballot_lines tables.now) self.old place choices.now }
+    {
+        self.turnout.mark(place);
+        add_choices(&mut self.votes, tables, choices);
+    }
+
+    /// Seals the poll. The caller owes that the poll is open, and that the closing moment is one and not below the opening.
+    pub fn seal(&mut self, closed: u64)
+        requires closing { MayClose self.old.phase closed }
+        requires moment { is_moment closed ≡ true }
+        ensures { self.new ≡ sealed_at self.old closed }
+    {
+        if let Phase::Polling { opened } = self.phase {
+            self.phase = Phase::Sealed { opened, closed };
+        }
+    }
+}
+
+// One voter's choices: each goes into the bag of its panel.
+fn add_choices(votes: &mut Rdv, tables: &Tables, choices: &[Choice])
+    requires ballot { IsBallot (ballot_lines tables.now) choices.now }
+    requires panels { length votes.old.bags ≡ length tables.now.panels }
+    requires room { HasRoom votes.old }
+    ensures { votes.new ≡ record votes.old { bags = with_votes (ballot_lines tables.now) choices.now votes.old.bags } }
+{
+    for panel in 0..tables.panels() {
+        votes.add(tables, panel, choices[panel as usize]);
+    }
+}
+
+#[cfg(test)]
+mod tests {
+    use super::*;
+    use std::test::Fail;
+    use urna_base::moment_ok;
+
+    const TABLES: &[u8] = br#"
+processo = 7
+data = 20261004
+turno = 1
+cargo = [{codigo = 11, regra = "absoluta", cadeiras = 1}]
+partido = [{numero = 13, nome = "PA"}]
+candidato = [{cargo = 11, numero = 13, nascimento = 19600303, nome = "CARLA"}]
+secao = [{zona = 1, secao = 42, eleitores = 2}]
+"#;
+
+    const OPENED: u64 = 20261004080000;
+
+    const CLOSED: u64 = 20261004170000;
+
+    #[test]
+    fn a_poll_of_two_voters_of_whom_one_came(rt: HostRuntime) -> Result<(), Fail> {
+        let tables = Tables::read(rt.alloc(), TABLES)?;
+        assert!(rt; tables.panels() == 1);
+        assert!(rt; moment_ok(OPENED) && moment_ok(CLOSED));
+        let mut state = State::ready(rt.alloc(), &tables, 2)?;
+        assert_eq!(rt; state.rank(), 0);
+        state.begin(OPENED);
+        state.ballot(&tables, 1, &[Choice::Blank]);
+        assert_eq!(rt; state.rank(), 2);
+        assert_eq!(rt; state.turnout().came(1), true);
+        assert_eq!(rt; state.votes().count(0, Choice::Blank), 1);
+        state.seal(CLOSED);
+        assert_eq!(rt; state.rank(), 3);
+        let sealed = Phase::Sealed {
+            opened: OPENED,
+            closed: CLOSED,
+        };
+        assert_eq!(rt; state.phase(), sealed);
+        Ok(())
+    }
+}

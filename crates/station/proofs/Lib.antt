@@ -1,0 +1,12 @@
+pub mod Single
+pub mod Unique
+pub mod Stands
+pub mod Choosing
+pub mod Replies
+pub mod Faithful
+pub mod RunLaws
+pub mod Lines
+pub mod Stepping
+pub mod Typing
+pub mod Performing
+pub mod Reaching

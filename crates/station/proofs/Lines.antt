@@ -1,0 +1,60 @@
+-- The lines of the ballot, by their numbers
+use Rattle.std.proofs.Common.{◌≡◌, ℕ, zero, suc, ◌+◌, ◌-◌, ◌<◌, ◌≤◌, ◌==◌, Bool, true, false, cond, List, [], ◌∷◌, length, slice_get, Option, Some, None, option_map, unwrap_or, nat_eq, refl, sym, ap, subst, ◌∙◌, arith}
+use Rattle.std.proofs.lemmas.Bool.Decides.{nat_tests}
+use Rattle.election_tables.specs.TablesData.{TablesData}
+use Rattle.election_tables.specs.declared.tables.panels.Panel.{Panel}
+use Rattle.vote_kinds.specs.declared.choice.Choice.{Choice}
+use Rattle.vote_kinds.specs.Ballot.{BallotLine, no_panel, panel_at, line_for, line_of, ballot_lines}
+use Rattle.vote_kinds.proofs.Lookups.{line_get}
+use Rattle.station.specs.Setting.{Setting, setting_of}
+use Rattle.station.specs.Output.{line_at, earlier_of, earlier_for}
+
+known : (panels : List Panel) (n : ℕ) → n < length panels → slice_get panels n ≡ Some (unwrap_or (slice_get panels n) no_panel)
+known [] n h = absurd (omega arith)
+known (p ∷ panels) zero h = refl
+known (p ∷ panels) (suc n) h = known panels n (omega arith)
+
+missing : (panels : List Panel) (n : ℕ) → length panels ≤ n → slice_get panels n ≡ None
+missing [] n h = refl
+missing (p ∷ panels) zero h = absurd (omega arith)
+missing (p ∷ panels) (suc n) h = missing panels n (omega arith)
+
+-- a line within the ballot is that of the panel of its number
+pub found_line : (t : TablesData) (n : ℕ) → n < length t.panels → slice_get (ballot_lines t) n ≡ Some (line_of t n)
+found_line t n h = line_get t n ∙ ap (option_map (line_for t n)) (known t.panels n h)
+
+pub no_line : (t : TablesData) (n : ℕ) → length t.panels ≤ n → slice_get (ballot_lines t) n ≡ None
+no_line t n h = line_get t n ∙ ap (option_map (line_for t n)) (missing t.panels n h)
+
+number_in : (t : TablesData) (n : ℕ) (o : Option Panel) (l : BallotLine) → option_map (line_for t n) o ≡ Some l → l.panel ≡ n
+number_in t n None l e = absurd (cc)
+number_in t n (Some p) l e = let same : line_for t n p ≡ l = cc in ap (λ (k : BallotLine). k.panel) (sym same)
+
+-- each line has a panel of its own
+line_number : (t : TablesData) (n : ℕ) (l : BallotLine) → slice_get (ballot_lines t) n ≡ Some l → l.panel ≡ n
+line_number t n l e = number_in t n (slice_get t.panels n) l (sym (line_get t n) ∙ e)
+
+other_panel : (previous l : BallotLine) (choice : Option Choice) (n : ℕ) → previous.panel ≡ n → l.panel ≡ suc n → earlier_of (Some previous) choice l ≡ None
+other_panel previous l None n e f = refl
+other_panel previous l (Some c) n e f =
+    let differ : nat_eq previous.panel l.panel ≡ false = grind (arith, nat_tests, e, f) in
+    rw differ refl
+
+before_line : (t : TablesData) (previous : Option BallotLine) (choice : Option Choice) (n : ℕ) (l : BallotLine) → slice_get (ballot_lines t) n ≡ previous → l.panel ≡ suc n
+    → earlier_of previous choice l ≡ None
+before_line t None choice n l e f = refl
+before_line t (Some previous) choice n l e f = other_panel previous l choice n (line_number t n previous e) f
+
+no_choice : (previous : Option BallotLine) (l : BallotLine) → earlier_of previous None l ≡ None
+no_choice None l = refl
+no_choice (Some previous) l = refl
+
+-- Where each panel has one line, no line has an earlier choice of its panel.
+pub no_earlier : (t : TablesData) (titles : List ℕ) (choices : List Choice) (l : BallotLine) → line_at (setting_of t titles) choices ≡ Some l
+    → earlier_for (setting_of t titles) choices l ≡ None
+no_earlier t titles [] l e = no_choice (slice_get (ballot_lines t) 0) l
+no_earlier t titles (c ∷ choices) l e =
+    let last : length (c ∷ choices) - 1 ≡ length choices = omega arith in
+    ap (λ (k : ℕ). earlier_of (slice_get (ballot_lines t) k) (slice_get (c ∷ choices) k) l) last
+    ∙ before_line t (slice_get (ballot_lines t) (length choices)) (slice_get (c ∷ choices) (length choices)) (length choices) l refl
+    (line_number t (suc (length choices)) l e)

@@ -1,0 +1,140 @@
+-- The lines of acts, some after others
+use Rattle.std.proofs.Common.{◌≡◌, ◌≤◌, ◌<◌, ◌^◌, ◌+◌, ℕ, zero, suc, true, List, [], ◌∷◌, ◌++◌, map, length, take, drop, get_or, slice_get, lit<, Option, Some, None, IsTrue, refl, sym, ap, subst, ◌∙◌, append_assoc, arith}
+use Rattle.std.proofs.lemmas.List.{take_more, take-append-drop, append-nil}
+use Rattle.std.proofs.lemmas.Grind.{flat_map-append}
+use Rattle.std.specs.List.{AllByRecursion, flat_map}
+use Rattle.urna_base.proofs.MomentLaws.{is_moment-below}
+use Rattle.key_script.specs.declared.keys.Key.{Key}
+use Rattle.key_script.specs.declared.keys.Event.{Event}
+use Rattle.key_script.specs.declared.keys.Event.TheVariants.{Clerk, Voter}
+use Rattle.key_script.specs.declared.keys.ClerkKey.{ClerkKey}
+use Rattle.key_script.specs.declared.keys.ClerkKey.TheVariants as clerk
+use Rattle.key_script.specs.Event.{IsKey, IsClerkKey, IsEvent}
+use Rattle.election_tables.specs.TablesData.{TablesData, IsTables}
+use Rattle.vote_kinds.specs.declared.choice.Choice.{Choice}
+use Rattle.vote_kinds.specs.declared.choice.Field.{Field}
+use Rattle.vote_kinds.specs.Ballot.{BallotLine, IsField}
+use Rattle.vote_kinds.proofs.Lookups.{line_digits}
+use Rattle.voter_term.specs.declared.panel.Shown.{Shown}
+use Rattle.voter_term.specs.declared.panel.Shown.TheVariants as shown
+use Rattle.voter_term.specs.Panel.{next_field, next_shown}
+use Rattle.voter_term.proofs.FieldFits.{next_field-fits, fits_more}
+use Rattle.clerk_term.specs.declared.replies.Mode.{Mode}
+use Rattle.clerk_term.specs.declared.replies.Mode.TheVariants as mode
+use Rattle.clerk_term.specs.declared.replies.ClerkAnswer.{ClerkAnswer}
+use Rattle.clerk_term.specs.declared.replies.ClerkAnswer.TheVariants as answer
+use Rattle.image_codec.specs.State.{State}
+use Rattle.station.specs.Setting.{Setting, IsSetting, setting_of, reply_at}
+use Rattle.station.specs.Output.{Output, Says, line_at, earlier_for}
+use Rattle.station.specs.Run.{suspension}
+use Rattle.station.specs.declared.line.Line.TheVariants as line
+use Rattle.station.specs.Press.{Standing, press, typed, on_line, after_key, goes_on, call, answered, title_of}
+use Rattle.station.specs.Acts.{IsAct, act_of, output_of, outputs_of}
+use Rattle.station.specs.Text.{output_lines, session_lines}
+use Rattle.station.specs.Valid.{IsStanding, IsPlaced, IsAnswer}
+use Rattle.station.specs.declared.act.Act.{Act}
+use Rattle.station.proofs.Replies.{answer_of}
+
+-- Acts in order
+
+outputs_of-append : (s : State) (a b : List Act) → outputs_of s (a ++ b) ≡ outputs_of s a ++ outputs_of s b
+outputs_of-append s [] b = refl
+outputs_of-append s (x ∷ a) b = ap (λ (o : List Output). output_of s x ∷ o) (outputs_of-append s a b)
+
+lines-append : (t : TablesData) (s : State) (a b : List Act) → session_lines t (outputs_of s (a ++ b)) ≡ session_lines t (outputs_of s a) ++ session_lines t (outputs_of s b)
+lines-append t s a b = ap (session_lines t) (outputs_of-append s a b) ∙ flat_map-append (output_lines t) (outputs_of s a) (outputs_of s b)
+
+-- the acts up to an index, and one more
+pub acts_more : (t : TablesData) (s : State) (acts : List Act) (i : ℕ) (d : Act) → i < length acts
+    → session_lines t (outputs_of s (take (i + 1) acts)) ≡ session_lines t (outputs_of s (take i acts)) ++ output_lines t (output_of s (get_or acts i d))
+acts_more t s acts i d h =
+    ap (λ (a : List Act). session_lines t (outputs_of s a)) (take_more acts i d h)
+    ∙ (lines-append t s (take i acts) (get_or acts i d ∷ [])
+    ∙ ap (λ (ls : List (List ℕ)). session_lines t (outputs_of s (take i acts)) ++ ls) (append-nil (output_lines t (output_of s (get_or acts i d)))))
+
+pub acts_rest : (t : TablesData) (s : State) (acts : List Act) (i : ℕ) (d : Act) → i < length acts
+    → session_lines t (outputs_of s acts)
+    ≡ (session_lines t (outputs_of s (take i acts)) ++ output_lines t (output_of s (get_or acts i d))) ++ session_lines t (outputs_of s (drop (i + 1) acts))
+acts_rest t s acts i d h =
+    ap (λ (a : List Act). session_lines t (outputs_of s a)) (sym (take-append-drop (i + 1) acts))
+    ∙ (lines-append t s (take (i + 1) acts) (drop (i + 1) acts)
+    ∙ ap (λ (ls : List (List ℕ)). ls ++ session_lines t (outputs_of s (drop (i + 1) acts))) (acts_more t s acts i d h))
+
+-- what holds of each act holds of that of an index
+pub act_at : (P : Act → Type 0) (acts : List Act) (i : ℕ) (d : Act) → i < length acts → AllByRecursion P acts → P (get_or acts i d)
+act_at P [] i d h all = absurd (omega arith)
+act_at P (x ∷ acts) zero d h all = all.0
+act_at P (x ∷ acts) (suc i) d h all = act_at P acts i d (omega arith) all.1
+
+-- The lines of a press can be printed
+
+-- each line of the ballot has at most five digits
+abbrev pub IsPrintable : Setting → Type 0
+IsPrintable v = (n : ℕ) (l : BallotLine) → slice_get v.lines n ≡ Some l → l.digits ≤ 5
+
+pub tables_setting : (t : TablesData) (titles : List ℕ) → IsTables t → IsSetting (setting_of t titles)
+tables_setting t titles h n l at = omega (arith, (line_digits t h n l at).0)
+
+pub tables_printable : (t : TablesData) (titles : List ℕ) → IsTables t → IsPrintable (setting_of t titles)
+tables_printable t titles h n l at = (line_digits t h n l at).1
+
+call_acts : (v : Setting) (s : State) (place : ℕ) (choices : List Choice) (o : Option BallotLine) → AllByRecursion IsAct (map act_of (call v s place choices o).out)
+call_acts v s place choices (Some l) = (tt, tt)
+call_acts v s place choices None = (tt, tt)
+
+after_key_acts : (v : Setting) (s : State) (place : ℕ) (choices : List Choice) (f : Field) (l : BallotLine) (k : Key) (r : Shown) → IsSetting v → IsPrintable v → IsKey k
+    → line_at v choices ≡ Some l → IsField l.digits f → AllByRecursion IsAct (map act_of (after_key v s place choices f l k r).out)
+after_key_acts v s place choices f l k shown.Nothing setting printable valid at is = tt
+after_key_acts v s place choices f l k shown.Screen setting printable valid at is =
+    (fits_more l.digits 5 (next_field l.digits f k) (printable (length choices) l at) (next_field-fits l.digits f k (setting (length choices) l at) valid is), tt)
+after_key_acts v s place choices f l k (shown.Voted c) setting printable valid at is = call_acts v s place (choices ++ c ∷ []) (line_at v (choices ++ c ∷ []))
+
+on_line_acts : (v : Setting) (s : State) (place : ℕ) (choices : List Choice) (f : Field) (k : Key) (l : BallotLine) (o : Option BallotLine) → IsSetting v → IsPrintable v → IsKey k
+    → o ≡ Some l → line_at v choices ≡ Some l → IsField l.digits f → AllByRecursion IsAct (map act_of (on_line v s place choices f k o).out)
+on_line_acts v s place choices f k l None setting printable valid e at is = tt
+on_line_acts v s place choices f k l (Some m) setting printable valid e at is =
+    let same : l ≡ m = cc in
+    subst (λ (n : BallotLine). AllByRecursion IsAct (map act_of (after_key v s place choices f n k (next_shown n (earlier_for v choices n) f k)).out)) same
+    (after_key_acts v s place choices f l k (next_shown l (earlier_for v choices l) f k) setting printable valid at is)
+
+typed_acts : (v : Setting) (s : State) (m : Mode) (choices : List Choice) (f : Field) (k : Key) → IsSetting v → IsPrintable v → IsKey k
+    → IsPlaced v (record { state = s; mode = m; choices = choices; field = f }) m → AllByRecursion IsAct (map act_of (typed v s m choices f k).out)
+typed_acts v s mode.Idle choices f k setting printable valid placed = tt
+typed_acts v s (mode.Identified place) choices f k setting printable valid placed = tt
+typed_acts v s (mode.Voting place) choices f k setting printable valid placed =
+    on_line_acts v s place choices f k placed.2.0 (line_at v choices) setting printable valid placed.2.1 placed.2.1 placed.2.2
+
+title_below : (k : ClerkKey) → IsClerkKey k → title_of k < 10 ^ 12
+title_below (clerk.Abre m) h = lit< tt
+title_below (clerk.Titulo t) h = h
+title_below clerk.Libera h = lit< tt
+title_below clerk.Cancela h = lit< tt
+title_below clerk.Suspende h = lit< tt
+title_below (clerk.Encerra m) h = lit< tt
+
+opened_below : (k : ClerkKey) (m : ℕ) → IsClerkKey k → k ≡ clerk.Abre m → m < 10 ^ 14
+opened_below k m h e = let valid : IsClerkKey (clerk.Abre m) = subst IsClerkKey e h in is_moment-below m valid
+
+closed_below : (k : ClerkKey) (m : ℕ) → IsClerkKey k → k ≡ clerk.Encerra m → m < 10 ^ 14
+closed_below k m h e = let valid : IsClerkKey (clerk.Encerra m) = subst IsClerkKey e h in is_moment-below m valid
+
+suspension_acts : (v : Setting) (s : State) (place : ℕ) (choices : List Choice) → IsAct (act_of (suspension v s place choices))
+suspension_acts v s place [] = tt
+suspension_acts v s place (c ∷ choices) = tt
+
+released_acts : (v : Setting) (s : State) (place : ℕ) (o : Option BallotLine) → AllByRecursion IsAct (map act_of (Says line.Released ∷ (call v s place [] o).out))
+released_acts v s place (Some l) = (tt, (tt, tt))
+released_acts v s place None = (tt, (tt, tt))
+
+answered_acts : (v : Setting) (x : Standing) (k : ClerkKey) (a : ClerkAnswer) → IsClerkKey k → IsAnswer v x.state x.choices k a → AllByRecursion IsAct (map act_of (answered v x k a).out)
+answered_acts v x k (answer.Refused n) valid may = (tt, tt)
+answered_acts v x k (answer.Opens m) valid may = (tt, (opened_below k m valid may.1, tt))
+answered_acts v x k (answer.Identifies place) valid may = (title_below k valid, tt)
+answered_acts v x k (answer.Releases place) valid may = released_acts v x.state place (line_at v [])
+answered_acts v x k (answer.Cancels place) valid may = (tt, tt)
+answered_acts v x k (answer.Suspends place) valid may = (suspension_acts v x.state place x.choices, tt)
+answered_acts v x k (answer.Seals m) valid may = (closed_below k m valid may.0, (tt, tt))
+
+pub press_acts : (v : Setting) (x : Standing) (e : Event) → IsSetting v → IsPrintable v → IsEvent e → IsStanding v x → AllByRecursion IsAct (map act_of (press v x e).out)
+press_acts v x (Voter k) setting printable valid h = typed_acts v x.state x.mode x.choices x.field k setting printable valid h.placed
+press_acts v x (Clerk k) setting printable valid h = answered_acts v x k (reply_at v x.state x.mode k) valid (answer_of v x k h.roll h.placed)

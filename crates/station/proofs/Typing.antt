@@ -1,0 +1,42 @@
+-- A key of the voter, where one line of the ballot stands
+use Rattle.std.proofs.Common.{◌≡◌, ℕ, Bool, false, List, [], ◌∷◌, ◌++◌, length, nat_eq, Option, None, Some, refl, sym, ap, ◌∙◌}
+use Rattle.key_script.specs.declared.keys.Key.{Key}
+use Rattle.vote_kinds.specs.declared.choice.Choice.{Choice}
+use Rattle.vote_kinds.specs.declared.choice.Field.{Field}
+use Rattle.vote_kinds.specs.Ballot.{BallotLine}
+use Rattle.voter_term.specs.declared.panel.Shown.{Shown}
+use Rattle.voter_term.specs.declared.panel.Shown.TheVariants as shown
+use Rattle.voter_term.specs.Panel.{next_field, next_shown}
+use Rattle.clerk_term.specs.declared.replies.Mode.TheVariants as mode
+use Rattle.image_codec.specs.State.{State, with_ballot, filled_up}
+use Rattle.station.specs.Setting.{Setting}
+use Rattle.station.specs.Output.{line_at, earlier_for, screen}
+use Rattle.station.specs.Run.{after_suspension}
+use Rattle.station.specs.Press.{Pressed, typed, on_line, after_key, goes_on, voting_at}
+
+typed_is : (v : Setting) (s : State) (place : ℕ) (choices : List Choice) (f : Field) (k : Key) (l : BallotLine) (r : Shown)
+    → line_at v choices ≡ Some l → earlier_for v choices l ≡ None → next_shown l None f k ≡ r
+    → typed v s (mode.Voting place) choices f k ≡ after_key v s place choices f l k r
+typed_is v s place choices f k l r at none shows =
+    ap (on_line v s place choices f k) at
+    ∙ (ap (λ (e : Option Choice). after_key v s place choices f l k (next_shown l e f k)) none ∙ ap (after_key v s place choices f l k) shows)
+
+-- the key that changes the field shows the screen
+pub typed_screen : (v : Setting) (s : State) (place : ℕ) (choices : List Choice) (f : Field) (k : Key) (l : BallotLine)
+    → line_at v choices ≡ Some l → earlier_for v choices l ≡ None → next_shown l None f k ≡ shown.Screen
+    → typed v s (mode.Voting place) choices f k ≡ record { standing = voting_at s place choices (next_field l.digits f k); out = screen l None (next_field l.digits f k) ∷ [] }
+typed_screen v s place choices f k l at none shows =
+    typed_is v s place choices f k l shown.Screen at none shows
+    ∙ ap (λ (e : Option Choice). record { standing = voting_at s place choices (next_field l.digits f k); out = screen l e (next_field l.digits f k) ∷ [] }) none
+
+-- the key that ends the line goes on to the next
+pub typed_voted : (v : Setting) (s : State) (place : ℕ) (choices : List Choice) (f : Field) (k : Key) (l : BallotLine) (c : Choice)
+    → line_at v choices ≡ Some l → earlier_for v choices l ≡ None → next_shown l None f k ≡ shown.Voted c
+    → typed v s (mode.Voting place) choices f k ≡ goes_on v s place (choices ++ c ∷ [])
+typed_voted v s place choices f k l c at none shows = typed_is v s place choices f k l (shown.Voted c) at none shows
+
+-- a voter who is suspended after a choice came
+pub came_suspended : (v : Setting) (s : State) (place : ℕ) (choices : List Choice) → nat_eq (length choices) 0 ≡ false
+    → after_suspension v s place choices ≡ with_ballot v.lines s place (filled_up v.lines choices)
+came_suspended v s place [] some = absurd (cc)
+came_suspended v s place (c ∷ choices) some = refl

@@ -1,0 +1,9 @@
+pub mod Setting
+pub mod Output
+pub mod Run
+pub mod States
+pub mod Press
+pub mod Stands
+pub mod Valid
+pub mod Acts
+pub mod Text

@@ -1,0 +1,61 @@
+-- The lines of the display as bytes (docs/FORMATS.md, "Shown texts"), each with its line feed
+use Rattle.std.specs.Prelude.{ℕ, ◌<◌, ◌^◌, List, [], ◌∷◌, ◌++◌, codes, flat_map}
+use Rattle.std.specs.Fmt.{decimal}
+use Rattle.urna_base.specs.Digits.{padded}
+use Rattle.election_tables.specs.TablesData.{TablesData}
+use Rattle.turnout.specs.declared.phase.Phase.{Phase}
+use Rattle.turnout.specs.declared.phase.Phase.TheVariants as phase
+use Rattle.vote_kinds.specs.Ballot.{IsField}
+use Rattle.voter_term.specs.Screen.{screen_text}
+use Rattle.poll_report.specs.Counts.{count_lines}
+use Rattle.station.specs.Output.{Output, Says, Commits, Reports}
+use Rattle.station.specs.declared.line.Line.{Line}
+use Rattle.station.specs.declared.line.Line.TheVariants as line
+use Rattle.station.specs.declared.line.Title.{Title}
+use Rattle.station.specs.declared.line.Title.TheVariants as title
+
+abbrev pub poll_text : Phase → List ℕ
+poll_text phase.Ready = codes "URNA PRONTA "
+poll_text (phase.Polling opened) = codes "URNA ABERTA "
+poll_text (phase.Sealed opened closed) = codes "URNA LACRADA "
+
+abbrev pub line_text : TablesData → Line → List ℕ
+line_text t (line.Poll p came) = poll_text p ++ decimal came ++ 10 ∷ []
+line_text t (line.Refused n) = codes "RECUSA " ++ decimal n ++ 10 ∷ []
+line_text t (line.Voter number) = codes "ELEITOR " ++ padded 12 number ++ 10 ∷ []
+line_text t line.Released = codes "LIBERADO" ++ 10 ∷ []
+line_text t line.Canceled = codes "CANCELADO" ++ 10 ∷ []
+line_text t line.Suspended = codes "SUSPENSO" ++ 10 ∷ []
+line_text t (line.Ballot number code) = codes "VOTO " ++ decimal number ++ codes " CARGO " ++ decimal code ++ 10 ∷ []
+line_text t (line.Screen panel f chosen) = screen_text t panel f chosen
+line_text t (line.Opened m) = codes "ABERTA " ++ padded 14 m ++ 10 ∷ []
+line_text t line.Ended = codes "FIM" ++ 10 ∷ []
+line_text t (line.Sealed m came) = codes "ENCERRADA " ++ padded 14 m ++ codes " " ++ decimal came ++ 10 ∷ []
+
+abbrev pub title_text : Title → List ℕ
+title_text title.Zeresima = codes "ZERESIMA" ++ 10 ∷ []
+title_text title.Boletim = codes "BOLETIM" ++ 10 ∷ []
+
+-- the lines that an output shows, in order
+abbrev pub output_lines : TablesData → Output → List (List ℕ)
+output_lines t (Says l) = line_text t l ∷ []
+output_lines t (Commits s l) = line_text t l ∷ []
+output_lines t (Reports title s) = title_text title ∷ count_lines t s.bags
+
+-- the lines of a session, in order
+abbrev pub session_lines : TablesData → List Output → List (List ℕ)
+session_lines t out = flat_map (output_lines t) out
+
+-- a line whose numbers have the digits of its format
+abbrev pub IsLine : Line → Type 0
+IsLine (line.Poll p came) = Unit {0}
+IsLine (line.Refused n) = Unit {0}
+IsLine (line.Voter number) = number < 10 ^ 12
+IsLine line.Released = Unit {0}
+IsLine line.Canceled = Unit {0}
+IsLine line.Suspended = Unit {0}
+IsLine (line.Ballot number code) = Unit {0}
+IsLine (line.Screen panel f chosen) = IsField 5 f
+IsLine (line.Opened m) = m < 10 ^ 14
+IsLine line.Ended = Unit {0}
+IsLine (line.Sealed m came) = m < 10 ^ 14

@@ -1,0 +1,22 @@
+//! The station: the clerk's and the voter's terminals over the state of one poll.
+//!
+//! `Station::press` takes one event and `Station::run` a whole script. The layer above uses that they are the run of
+//! `specs/Run.antt` (docs/RULES.md, "The run"), whatever the interleaving of both terminals: what they show is the text of the
+//! run, line by line, and the state is where the run leads. `specs/Stands.antt` says what a station stands for between two
+//! presses. `laws` are the laws of runs.
+//!
+//! The station changes its state in memory and tells what is to be done (`session`); one loop does it on the machine (`perform`).
+#![tactic(auto)]
+
+mod act;
+mod laws;
+mod line;
+mod perform;
+mod session;
+mod station;
+mod visit;
+
+pub use act::Act;
+pub use laws::{event_commits, one_run, run_commits, run_goes_on, stands_for};
+pub use line::{Line, Title};
+pub use station::{StartError, Station};

@@ -1,0 +1,54 @@
+//! The lines of a ballot in a visit.
+ghost use Rattle.std.specs.Prelude.{◌≡◌, ◌<◌, ◌≤◌, ◌-◌, ◌++◌, None, IfSome, length, option_map, replicate, slice_get};
+ghost use Rattle.vote_kinds.specs.declared.choice.Choice.TheVariants.{Null};
+ghost use Rattle.vote_kinds.specs.Ballot.{IsField, ballot_lines, line_of};
+ghost use Rattle.station.specs.Output.{screen_line};
+
+use crate::line::Line;
+use arrayvec::ArrayVec;
+use election_tables::Tables;
+use vote_kinds::{Choice, Field, choice_of, confirmable};
+
+/// The choices of a visit so far, one for each line of the ballot that was confirmed.
+pub type Choices = ArrayVec<Choice, 9>;
+
+/// The panel of a line of the ballot, counted from 0, if the ballot has that line.
+#[tactic(auto, using(crate::proofs::Lines::found_line, crate::proofs::Lines::no_line))]
+pub(crate) fn panel_of_line(tables: &Tables, number: usize) -> Option<u32>
+    ensures line { option_map (line_of tables.now) result ≡ slice_get (ballot_lines tables.now) number }
+    ensures panel { IfSome result (λ panel. (panel < length tables.now.panels) × (panel ≡ number) × (panel < 8)) }
+{
+    if number < tables.panels() as usize {
+        Some(number as u32)
+    } else {
+        None
+    }
+}
+
+/// The screen line of a panel's field.
+pub(crate) fn screen_of(tables: &Tables, panel: u32, field: Field) -> Line
+    requires panel { panel < length tables.now.panels }
+    requires field { IsField (line_of tables.now panel).digits field }
+    ensures { result ≡ screen_line (line_of tables.now panel) None field }
+{
+    let choice = if confirmable(tables, panel, &field) {
+        Some(choice_of(tables, panel, &field))
+    } else {
+        None
+    };
+    Line::Screen {
+        panel,
+        field,
+        choice,
+    }
+}
+
+/// Adds Null until there is a choice for so many lines.
+pub(crate) fn fill_up(choices: &mut Choices, lines: usize)
+    requires { lines ≤ 9 }
+    ensures { choices.new.items ≡ choices.old.items ++ replicate (lines - length choices.old.items) Null }
+{
+    while choices.len() < lines {
+        choices.push(Choice::Null);
+    }
+}

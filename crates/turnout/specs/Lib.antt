@@ -1,0 +1,2 @@
+pub mod Turnout
+pub mod Laws

@@ -1,0 +1,11 @@
+//! What marks are. Each function here does nothing: its contract is the law.
+ghost use Rattle.turnout.specs.Laws.{NobodyCame, MarkedComes, OthersStay, CountsOneMore, AtMostAll};
+
+/// Marks are a set of places: a new mark is that of its place alone, and is counted once.
+pub fn marks()
+    ensures none { NobodyCame }
+    ensures marked { MarkedComes }
+    ensures others { OthersStay }
+    ensures count { CountsOneMore }
+    ensures most { AtMostAll }
+{}

@@ -1,0 +1,90 @@
+ghost use Rattle.std.specs.Prelude.{◌≡◌, ◌<◌, ◌≤◌, true, false, length, replicate, slice_set, IfOk};
+ghost use Rattle.turnout.specs.Turnout.{has_come, number_came};
+
+use std::alloc::Global;
+use std::marker::Model;
+use urna_base::Memory;
+
+/// Who came (docs/RULES.md, "The state of a poll"): a mark for each place of the roll, of which there are at most 600, and
+/// the count of the marks. Contracts see the list of the marks.
+#[derive(Debug, Drop)]
+pub struct Turnout {
+    marks: Vec<bool>,
+    count: u32,
+}
+
+impl Model for Turnout {
+    ghost use Rattle.std.specs.Prelude.{◌≡◌, ◌≤◌, List, Bool, length};
+    ghost use Rattle.turnout.specs.Turnout.{number_came};
+
+    ghost Value = { List Bool };
+
+    ghost view = { λ t. t.marks.items };
+
+    ghost invariant = { λ t. (length t.marks.items ≤ 600) × (t.count ≡ number_came t.marks.items) };
+}
+
+impl Turnout {
+    /// The turnout of a roll of this many voters, of whom nobody came. `Memory` comes only where an allocation failed.
+    pub fn new(alloc: Global, voters: u32) -> Result<Turnout, Memory>
+        requires { voters ≤ 600 }
+        ensures { IfOk result (λ t. t ≡ replicate voters false) }
+    {
+        let marks = vec![in alloc; false; voters as usize]?;
+        Ok(Turnout { marks, count: 0 })
+    }
+
+    /// Whether the voter of a place came. False for a place that the roll does not have.
+    pub fn came(&self, place: u32) -> bool
+        ensures { result ≡ has_come self.now place }
+    {
+        self.marks.get(place as usize).copied().unwrap_or(false)
+    }
+
+    /// Marks that the voter of a place came. The caller owes that the place is one of the roll and has no mark yet.
+    pub fn mark(&mut self, place: u32)
+        requires known { place < length self.old }
+        requires absent { has_come self.old place ≡ false }
+        ensures { self.new ≡ slice_set self.old place true }
+    {
+        self.marks[place as usize] = true;
+        self.count += 1;
+    }
+
+    /// How many came, in constant time.
+    pub fn len(&self) -> u32
+        ensures count { result ≡ number_came self.now }
+        ensures within { result ≤ length self.now }
+        ensures few { result ≤ 600 }
+    {
+        self.count
+    }
+
+    /// How many voters the roll has.
+    pub fn voters(&self) -> u32
+        ensures count { result ≡ length self.now }
+        ensures few { result ≤ 600 }
+    {
+        self.marks.len() as u32
+    }
+}
+
+#[cfg(test)]
+mod tests {
+    use super::*;
+    use std::test::Fail;
+
+    #[test]
+    fn counts_who_came(rt: HostRuntime) -> Result<(), Fail> {
+        let mut turnout = Turnout::new(rt.alloc(), 3)?;
+        assert_eq!(rt; turnout.voters(), 3);
+        for (place, came) in [(2, 1), (0, 2)] {
+            assert!(rt; place < turnout.voters() && !turnout.came(place), "{place}");
+            turnout.mark(place);
+            assert_eq!(rt; turnout.len(), came, "after {place}");
+        }
+        let marks = [0, 1, 2, 3].map(|place| turnout.came(place));
+        assert_eq!(rt; marks.as_slice(), [true, false, true, false].as_slice());
+        Ok(())
+    }
+}

@@ -1,0 +1,18 @@
+-- The numbers of the statuses (docs/FORMATS.md, "Statuses")
+use Rattle.std.specs.Prelude.{ℕ}
+use Rattle.urna_app.specs.declared.status.Status.{Status}
+use Rattle.urna_app.specs.declared.status.Status.TheVariants as status
+
+abbrev pub code_of : Status → ℕ
+code_of status.Done = 0
+code_of status.Memory = 1
+code_of status.Usage = 2
+code_of status.TablesNotToml = 3
+code_of (status.TablesRule k) = 3
+code_of status.RollCount = 3
+code_of (status.RollLine k) = 3
+code_of (status.Line k) = 4
+code_of (status.TooLong d) = 5
+code_of (status.Missing d) = 12
+code_of status.Cabinet = 20
+code_of status.Display = 23

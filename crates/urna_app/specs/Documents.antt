@@ -1,0 +1,56 @@
+-- The documents of a command: what the cabinet's files hold, and what may be wrong with them
+use Rattle.std.specs.Prelude.{◌≡◌, ℕ, ◌≤◌, List, length, Option, Some, false}
+use Rattle.std.specs.Option.{ForSome}
+use Rattle.urna_base.specs.Lines.{lines_of}
+use Rattle.urna_outside.specs.Cabinet.{Files, Holds, HoldsLonger, Lacks}
+use Rattle.election_tables.specs.Roll.{IsRollOf, RollData, HasBadLine, has_count}
+use Rattle.election_tables.specs.Tables.{IsReadAs, IsNoDocument, BreaksFirst, IsNotServed}
+use Rattle.election_tables.specs.TablesData.{TablesData}
+use Rattle.key_script.specs.Script.{events_of, first_bad}
+use Rattle.key_script.specs.declared.keys.Event.{Event}
+use Rattle.urna_app.specs.declared.status.Doc.{Doc}
+use Rattle.urna_app.specs.declared.status.Doc.TheVariants as doc
+use Rattle.urna_app.specs.declared.status.Status.{Status}
+use Rattle.urna_app.specs.declared.status.Status.TheVariants as status
+
+-- the most bytes that a document may have
+abbrev pub limit_of : Doc → ℕ
+limit_of doc.Tables = 4194304
+limit_of doc.Roll = 16384
+limit_of doc.Keys = 16777216
+
+-- These are the bytes of the file of that name, where the cabinet tells its files, and they are no more than the document may have.
+pub record IsTaken (files : Option Files) (d : Doc) (name bytes : List ℕ) : Type 0 where
+  pub held : ForSome files (Holds name bytes)
+  pub short : length bytes ≤ limit_of d
+
+-- what is wrong with the bytes of a document, and the status that says so
+pub data IsBad : Doc → List ℕ → Status → Type 0 where
+  no_document : {bytes : List ℕ} → IsNoDocument bytes → IsBad doc.Tables bytes status.TablesNotToml
+  rule : {bytes : List ℕ} {k : ℕ} → 1 ≤ k → BreaksFirst bytes k → IsBad doc.Tables bytes (status.TablesRule k)
+  unserved : {bytes : List ℕ} → IsNotServed bytes → IsBad doc.Tables bytes (status.TablesRule 0)
+  count : {bytes : List ℕ} → has_count (lines_of bytes) ≡ false → IsBad doc.Roll bytes status.RollCount
+  roll_line : {bytes : List ℕ} {k : ℕ} → HasBadLine bytes k → IsBad doc.Roll bytes (status.RollLine k)
+  line : {bytes : List ℕ} {k : ℕ} → first_bad bytes ≡ Some k → IsBad doc.Keys bytes (status.Line k)
+
+-- what is wrong with a document, and the status that says so
+pub data IsFault (files : Option Files) (name : List ℕ) (d : Doc) : Status → Type 0 where
+  lacks : ForSome files (Lacks name) → IsFault files name d (status.Missing d)
+  longer : ForSome files (HoldsLonger name (limit_of d)) → IsFault files name d (status.TooLong d)
+  bad : {bytes : List ℕ} {s : Status} → IsTaken files d name bytes → IsBad d bytes s → IsFault files name d s
+
+-- the file of that name holds these tables, this roll or these events
+pub record HasTables (files : Option Files) (name : List ℕ) (t : TablesData) : Type 0 where
+  pub bytes : List ℕ
+  pub taken : IsTaken files doc.Tables name bytes
+  pub read : IsReadAs bytes t
+
+pub record HasRoll (files : Option Files) (name : List ℕ) (r : RollData) : Type 0 where
+  pub bytes : List ℕ
+  pub taken : IsTaken files doc.Roll name bytes
+  pub read : IsRollOf bytes r
+
+pub record HasKeys (files : Option Files) (name : List ℕ) (es : List Event) : Type 0 where
+  pub bytes : List ℕ
+  pub taken : IsTaken files doc.Keys name bytes
+  pub read : events_of bytes ≡ Some es

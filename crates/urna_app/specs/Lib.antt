@@ -1,0 +1,5 @@
+pub mod Codes
+pub mod Command
+pub mod Documents
+pub mod Ending
+pub mod Taking

@@ -1,0 +1,102 @@
+//! Taking and reading the files of a command.
+ghost use Rattle.std.specs.Prelude.{◌≢◌, IfOk, IfErr};
+ghost use Rattle.election_tables.specs.TablesData.{IsTables};
+ghost use Rattle.urna_app.specs.Documents.{HasTables, HasRoll, HasKeys, IsFault};
+ghost use Rattle.urna_app.specs.Taking.{HasTaken, status_in};
+ghost use Rattle.urna_app.specs.declared.status.Doc.TheVariants as doc;
+ghost use Rattle.urna_app.specs.declared.status.Status.TheVariants as status;
+
+use crate::status::{Doc, Status};
+use election_tables::{Roll, RollError, Tables, TablesError};
+use key_script::Script;
+use std::alloc::Global;
+use urna_outside::{Cabinet, CabinetError};
+
+const TABLES_LIMIT: u32 = 4_194_304;
+
+const ROLL_LIMIT: u32 = 16_384;
+
+const KEYS_LIMIT: u32 = 16_777_216;
+
+fn not_taken(error: CabinetError, doc: Doc) -> Status {
+    match error {
+        CabinetError::Memory => Status::Memory,
+        CabinetError::Failed => Status::Cabinet,
+        CabinetError::Missing => Status::Missing(doc),
+        CabinetError::TooLong => Status::TooLong(doc),
+    }
+}
+
+fn not_tables(error: TablesError) -> Status {
+    match error {
+        TablesError::Memory => Status::Memory,
+        TablesError::NotToml => Status::TablesNotToml,
+        TablesError::Rule(rule) => Status::TablesRule(rule),
+    }
+}
+
+fn no_roll(error: RollError) -> Status {
+    match error {
+        RollError::Memory => Status::Memory,
+        RollError::Count => Status::RollCount,
+        RollError::Line(line) => Status::RollLine(line),
+    }
+}
+
+pub(crate) fn take_tables<C: Cabinet>(
+    alloc: Global,
+    cabinet: &mut C,
+    name: &str,
+) -> Result<Tables, Status>
+    ensures tables { IfOk result (HasTables (C.told cabinet.old).files name.now) }
+    ensures valid { IfOk result IsTables }
+    ensures fault { IfErr result (λ s. s ≢ Status.Memory → s ≢ Status.Cabinet → IsFault (C.told cabinet.old).files name.now Doc.Tables s) }
+    ensures taken { HasTaken 1 (status_in result) (C.told cabinet.old) (C.told cabinet.new) }
+{
+    let bytes = match cabinet.take(alloc, name, TABLES_LIMIT) {
+        Ok(bytes) => bytes,
+        Err(error) => return Err(not_taken(error, Doc::Tables)),
+    };
+    match Tables::read(alloc, &bytes) {
+        Ok(tables) => Ok(tables),
+        Err(error) => Err(not_tables(error)),
+    }
+}
+
+pub(crate) fn take_roll<C: Cabinet>(
+    alloc: Global,
+    cabinet: &mut C,
+    name: &str,
+) -> Result<Roll, Status>
+    ensures roll { IfOk result (HasRoll (C.told cabinet.old).files name.now) }
+    ensures fault { IfErr result (λ s. s ≢ Status.Memory → s ≢ Status.Cabinet → IsFault (C.told cabinet.old).files name.now Doc.Roll s) }
+    ensures taken { HasTaken 1 (status_in result) (C.told cabinet.old) (C.told cabinet.new) }
+{
+    let bytes = match cabinet.take(alloc, name, ROLL_LIMIT) {
+        Ok(bytes) => bytes,
+        Err(error) => return Err(not_taken(error, Doc::Roll)),
+    };
+    match Roll::read(alloc, &bytes) {
+        Ok(roll) => Ok(roll),
+        Err(error) => Err(no_roll(error)),
+    }
+}
+
+pub(crate) fn take_keys<C: Cabinet>(
+    alloc: Global,
+    cabinet: &mut C,
+    name: &str,
+) -> Result<Script, Status>
+    ensures keys { IfOk result (HasKeys (C.told cabinet.old).files name.now) }
+    ensures fault { IfErr result (λ s. s ≢ Status.Memory → s ≢ Status.Cabinet → IsFault (C.told cabinet.old).files name.now Doc.Keys s) }
+    ensures taken { HasTaken 1 (status_in result) (C.told cabinet.old) (C.told cabinet.new) }
+{
+    let bytes = match cabinet.take(alloc, name, KEYS_LIMIT) {
+        Ok(bytes) => bytes,
+        Err(error) => return Err(not_taken(error, Doc::Keys)),
+    };
+    match Script::read(bytes) {
+        Ok(script) => Ok(script),
+        Err(error) => Err(Status::Line(error.line)),
+    }
+}

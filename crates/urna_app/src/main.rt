@@ -1,0 +1,68 @@
+//! The program `urna`: its words name a command and its files, and its status says how the command ended.
+//!
+//! `urna` is the one call that `main` makes. What it says of the files, of the text that is shown and of each status stands in
+//! `specs/Ending.antt` (docs/RULES.md, "The run"; docs/FORMATS.md, "Statuses").
+#![tactic(auto)]
+
+ghost use Rattle.std.specs.Prelude.{map, string_bytes};
+ghost use Rattle.urna_app.specs.Ending.{Ends};
+
+mod documents;
+mod status;
+#[cfg(test)]
+mod tests;
+mod vota;
+
+use status::Status;
+use std::alloc::Global;
+use std::env::Env;
+use std::process::ExitCode;
+use std::{env, io};
+use urna_outside::{Cabinet, FileMachine, FolderCabinet, Machine};
+use vota::{names_in, vota};
+
+/// The bytes of each flash: two slots of a header and a body of 64 KiB, after a page of their own.
+const DEVICE_SIZE: u32 = 132_608;
+
+/// The status where the program's words can't be had, which no command has.
+const NO_WORDS: u8 = 40;
+
+/// One command: the words after the program's name, over a machine and a cabinet.
+///
+/// `vota TABLES ROLL KEYS OUT` takes the three files, and shows the session of the keys over a poll that is ready. The word OUT is
+/// not used.
+pub fn urna<M: Machine, C: Cabinet>(
+    alloc: Global,
+    words: &[String],
+    machine: &mut M,
+    cabinet: &mut C,
+) -> Status
+    ensures { Ends (map string_bytes words.now) (C.told cabinet.old) (C.told cabinet.new) (M.told machine.old) (M.told machine.new) result }
+{
+    let Some(names) = names_in(words) else {
+        return Status::Usage;
+    };
+    match vota(alloc, names, machine, cabinet) {
+        Ok(()) => Status::Done,
+        Err(status) => status,
+    }
+}
+
+/// The words after the program's name.
+fn words(rt: &HostRuntime) -> io::Result<Vec<String>> {
+    let mut words = Vec::new(rt.alloc());
+    for word in env::args(rt)?.skip(1) {
+        words.push(word)?;
+    }
+    Ok(words)
+}
+
+fn main(rt: HostRuntime) -> ExitCode {
+    let words = match words(&rt) {
+        Ok(words) => words,
+        Err(_) => return ExitCode::from(NO_WORDS),
+    };
+    let mut machine = FileMachine::new(&rt, DEVICE_SIZE);
+    let mut cabinet = FolderCabinet::new(&rt);
+    ExitCode::from(urna(rt.alloc(), &words, &mut machine, &mut cabinet).code())
+}

@@ -1,0 +1,60 @@
+ghost use Rattle.urna_app.specs.Codes.{code_of};
+
+/// A file that a command takes.
+#[derive(Clone, Copy, Debug, PartialEq, Eq)]
+pub enum Doc {
+    Tables,
+    Roll,
+    Keys,
+}
+
+/// What a command answers (docs/FORMATS.md, "Statuses").
+#[derive(Clone, Copy, Debug, PartialEq, Eq)]
+pub enum Status {
+    /// The command did all its steps.
+    Done,
+    /// Want of memory.
+    Memory,
+    /// The words are no command.
+    Usage,
+    /// The tables are no TOML document.
+    TablesNotToml,
+    /// The first rule that the tables break; 0 where they keep every rule and the station doesn't serve their offices.
+    TablesRule(u8),
+    /// The roll hasn't 1 to 600 lines.
+    RollCount,
+    /// The first line of the roll at fault, from 1.
+    RollLine(u32),
+    /// The first line of the keys that isn't of their form, from 1.
+    Line(u32),
+    /// The file is longer than its limit.
+    TooLong(Doc),
+    /// The file isn't there.
+    Missing(Doc),
+    /// The cabinet failed.
+    Cabinet,
+    /// The display failed.
+    Display,
+}
+
+impl Status {
+    /// The number with which the program ends.
+    pub fn code(&self) -> u8
+        ensures { result ≡ code_of self.now }
+    {
+        match self {
+            Status::Done => 0,
+            Status::Memory => 1,
+            Status::Usage => 2,
+            Status::TablesNotToml
+            | Status::TablesRule(_)
+            | Status::RollCount
+            | Status::RollLine(_) => 3,
+            Status::Line(_) => 4,
+            Status::TooLong(_) => 5,
+            Status::Missing(_) => 12,
+            Status::Cabinet => 20,
+            Status::Display => 23,
+        }
+    }
+}

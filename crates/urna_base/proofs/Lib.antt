@@ -1,0 +1,5 @@
+pub mod DecimalLaws
+pub mod DigitLaws
+pub mod LineLaws
+pub mod MomentLaws
+mod Rows

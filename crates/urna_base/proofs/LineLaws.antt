@@ -1,0 +1,85 @@
+-- Laws of the lines of a text.
+use Rattle.std.proofs.Common.{◌≡◌, Bool, true, false, not, cond, ltb, List, [], ◌∷◌, ◌++◌, ℕ, suc, ◌+◌, ◌<◌, ◌≤◌, length, take, drop, refl, Some, None, arith}
+use Rattle.std.specs.Prelude.{◌==◌, ◌≢◌, position}
+use Rattle.std.proofs.lemmas.Option.{cond_some}
+use Rattle.std.proofs.lemmas.Bool.{ltb-true, ltb-false}
+use Rattle.std.specs.List.{list_all, position_or_len}
+use Rattle.std.proofs.lemmas.Bool.Decides.{nat_tests}
+use Rattle.urna_base.specs.Lines.{lines_of, before_first_line}
+use Rattle.urna_base.proofs.DigitLaws.{both_from_and}
+
+-- a byte is no line feed
+abbrev pub is_no_feed : ℕ → Bool
+is_no_feed c = not (c == 10)
+
+pub not_feed : (c : ℕ) → is_no_feed c ≡ true → (c == 10) ≡ false
+not_feed c e = grind (arith, nat_tests)
+
+-- a text that begins with a line and its line feed
+pub lines_of-feed : (line rest : List ℕ) → list_all is_no_feed line ≡ true → lines_of (line ++ 10 ∷ rest) ≡ line ∷ lines_of rest
+unfolding lines_of
+lines_of-feed [] rest e = refl
+lines_of-feed (c ∷ line) rest e =
+    let both = both_from_and (is_no_feed c) (list_all is_no_feed line) e in
+    rw (not_feed c both.0, lines_of-feed line rest both.1) refl
+
+-- a text of one line with no line feed
+pub lines_of-last : (c : ℕ) (line : List ℕ) → list_all is_no_feed (c ∷ line) ≡ true → lines_of (c ∷ line) ≡ (c ∷ line) ∷ []
+unfolding lines_of
+lines_of-last c [] e =
+    let both = both_from_and (is_no_feed c) true e in
+    rw (not_feed c both.0) refl
+lines_of-last c (d ∷ line) e =
+    let both = both_from_and (is_no_feed c) (list_all is_no_feed (d ∷ line)) e in
+    rw (not_feed c both.0, lines_of-last d line both.1) refl
+
+-- where the first line feed stands, or the length
+abbrev feed_place : List ℕ → ℕ
+feed_place text = position_or_len (λ c. c == 10) text
+
+-- a byte in front of a text that is cut at p
+cut_behind : (c p : ℕ) (text : List ℕ) → lines_of text ≡ take p text ∷ lines_of (drop (p + 1) text) → before_first_line c (lines_of text) ≡ take (1 + p) (c ∷ text) ∷ lines_of (drop (1 + p + 1) (c ∷ text))
+cut_behind c p text e =
+    let next : 1 + p ≡ suc p = omega arith in
+    let after : suc p + 1 ≡ suc (p + 1) = omega arith in
+    rw (e, next, after) refl
+
+cut_first : (b : Bool) (c : ℕ) (text : List ℕ) → (c == 10) ≡ b → feed_place (c ∷ text) < length (c ∷ text) → (feed_place text < length text → lines_of text ≡ take (feed_place text) text ∷ lines_of (drop (feed_place text + 1) text)) → lines_of (c ∷ text) ≡ take (feed_place (c ∷ text)) (c ∷ text) ∷ lines_of (drop (feed_place (c ∷ text) + 1) (c ∷ text))
+unfolding lines_of
+cut_first true c text e within others = rw e refl
+cut_first false c text e within others =
+    let within' : 1 + feed_place text < suc (length text) = rw e at within in
+    rw e (cut_behind c (feed_place text) text (others (omega arith)))
+
+-- a text that has a line feed is cut there
+cut_at_feed : (text : List ℕ) → feed_place text < length text → lines_of text ≡ take (feed_place text) text ∷ lines_of (drop (feed_place text + 1) text)
+cut_at_feed [] within = absurd (omega arith)
+cut_at_feed (c ∷ text) within = cut_first (c == 10) c text refl within (cut_at_feed text)
+
+-- no line feed stands in a text that has its place past the end
+no_feeds : (text : List ℕ) → length text ≤ feed_place text → list_all is_no_feed text ≡ true
+no_feeds [] past = refl
+no_feeds (c ∷ text) past = no_first (c == 10) c text refl past (no_feeds text)
+  where
+    no_first : (b : Bool) (c : ℕ) (text : List ℕ) → (c == 10) ≡ b → length (c ∷ text) ≤ feed_place (c ∷ text) → (length text ≤ feed_place text → list_all is_no_feed text ≡ true) → list_all is_no_feed (c ∷ text) ≡ true
+    no_first true c text e past others = let past' : suc (length text) ≤ 0 = rw e at past in absurd (omega arith)
+    no_first false c text e past others =
+        let past' : suc (length text) ≤ 1 + feed_place text = rw e at past in
+        rw e (others (omega arith))
+
+-- a text is cut at its first line feed
+pub lines_of-position : (text : List ℕ) (place : ℕ) → position (λ c. c == 10) text ≡ Some place → lines_of text ≡ take place text ∷ lines_of (drop (place + 1) text)
+lines_of-position text place e =
+    let found = cond_some _ (feed_place text) place e in
+    rw (← found.1) (cut_at_feed text (ltb-true _ _ found.0))
+
+no_value : (b : Bool) (x : ℕ) → cond b (Some x) None ≡ None → b ≡ false
+no_value true x e = absurd (cc)
+no_value false x e = refl
+
+-- and is one line where it has none
+pub lines_of-unplaced : (text : List ℕ) → text ≢ [] → position (λ c. c == 10) text ≡ None → lines_of text ≡ text ∷ []
+lines_of-unplaced [] some e = absurd (some refl)
+lines_of-unplaced (c ∷ text) some e =
+    let never : ltb (feed_place (c ∷ text)) (length (c ∷ text)) ≡ false = no_value _ (feed_place (c ∷ text)) e in
+    lines_of-last c text (no_feeds (c ∷ text) (ltb-false _ _ never))

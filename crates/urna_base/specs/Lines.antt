@@ -1,0 +1,12 @@
+-- The lines of a text.
+use Rattle.std.specs.Prelude.{ℕ, ◌==◌, if◌then◌else◌, List, [], ◌∷◌}
+
+-- a byte in front of the first line
+abbrev pub before_first_line : ℕ → List (List ℕ) → List (List ℕ)
+before_first_line c [] = (c ∷ []) ∷ []
+before_first_line c (line ∷ lines) = (c ∷ line) ∷ lines
+
+-- the pieces between line feeds; a piece after the last line feed is a line if it isn't empty
+unfoldable pub lines_of : List ℕ → List (List ℕ)
+lines_of [] = []
+lines_of (c ∷ rest) = if c == 10 then [] ∷ lines_of rest else before_first_line c (lines_of rest)

@@ -1,0 +1,25 @@
+//! Numbers as digits, dates and moments, big-endian numbers, lines, and the bytes of a shown line: the layer under
+//! every format. A crate above takes a text apart by `split_line`, reads by `digits` and `decimal`, prints by
+//! `put_digits`, `put_decimal` and `LineBuffer`, and cites `specs/Digits.antt` (what digits mean), `specs/Moment.antt`
+//! (dates and moments) and `specs/Lines.antt` (the lines of a text). That printing and reading undo each other is in
+//! `laws`.
+#![tactic(auto)]
+
+mod be;
+pub mod laws;
+mod line;
+mod lines;
+mod memory;
+mod moment;
+mod print;
+mod read;
+#[cfg(test)]
+mod tests;
+
+pub use be::{be32, be64, put_be32, put_be64};
+pub use line::LineBuffer;
+pub use lines::split_line;
+pub use memory::Memory;
+pub use moment::{date_ok, moment_ok};
+pub use print::{decimal_into, put_decimal, put_digits};
+pub use read::{decimal, digits};

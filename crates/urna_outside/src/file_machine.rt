@@ -1,0 +1,64 @@
+ghost use Rattle.std.specs.Prelude.{◌≡◌, ◌<◌, ◌^◌};
+ghost use Rattle.urna_outside.specs.Told.{silent_told};
+
+use crate::counters::Counters;
+use crate::{Dev, Failed, Machine, Port};
+use std::io;
+use std::io::Write;
+use std::rt::Files;
+
+/// The machine of a real run: two flashes that are files of the working folder, and standard output as the
+/// display. It tells nothing but its sizes and its counts of faults. What files and terminal do is trusted.
+#[derive(Drop)]
+pub struct FileMachine<'a, R> {
+    rt: &'a R,
+    size: u32,
+    faults: Counters,
+    ghost bounded: { size < 2 ^ 32 },
+}
+
+impl<'a, R: Files + Print> FileMachine<'a, R> {
+    ghost use Rattle.urna_outside.specs.Counters.{no_faults};
+    ghost use Rattle.urna_outside.specs.FileMachine.{file_told};
+
+    /// A machine over devices of `size` bytes. It does nothing to any file.
+    pub fn new(rt: &'a R, size: u32) -> FileMachine<'a, R>
+        ensures { file_told result ≡
+            silent_told (record { internal = size; external = size }) no_faults }
+    {
+        FileMachine {
+            rt,
+            size,
+            faults: Counters::new(),
+        }
+    }
+}
+
+// All bytes go out before it answers Ok.
+fn write_out<R: Print>(rt: &R, bytes: &[u8]) -> io::Result<()> {
+    let mut out = io::writer(rt);
+    out.write_all(bytes)?;
+    out.flush()
+}
+
+impl<'a, R: Files + Print> Machine for FileMachine<'a, R> {
+    ghost use Rattle.urna_outside.specs.FileMachine.{file_told};
+    ghost use Rattle.urna_outside.specs.MachineLaws.{none_sized, file_bounded};
+
+    ghost told = { λ m. file_told m };
+
+    ghost sized = { λ m. none_sized _ };
+
+    ghost bounded = { λ m dev. file_bounded m dev };
+
+    fn size(&self, _dev: Dev) -> u32 {
+        self.size
+    }
+
+    fn show(&mut self, bytes: &[u8]) -> Result<(), Failed> {
+        match write_out(self.rt, bytes) {
+            Ok(()) => Ok(()),
+            Err(_) => self.faults.fail(Port::Display),
+        }
+    }
+}

@@ -1,0 +1,101 @@
+-- Look-ups in the tables, as the lines of the ballot see them
+use Rattle.std.proofs.Common.{◌≡◌, ℕ, ◌+◌, ◌<◌, ◌≤◌, ◌==◌, nat_le, ◌||◌, zero, suc, Bool, true, false, cond, List, [], ◌∷◌, map, length, slice_get, Option, Some, None, option_map, unwrap_or, nat_eq, find, is_some, Bor, option_copied, refl, sym, ap, subst, ◌∙◌, inl, inr, arith}
+use Rattle.std.specs.List.{list_any, All}
+use Rattle.std.proofs.lemmas.Option.{slice_get_cases}
+use Rattle.election_tables.proofs.Kept.{code_digits-range}
+use Rattle.std.specs.Option.{option_map_or}
+use Rattle.std.proofs.lemmas.Bool.{eqb-true, leb-true}
+use Rattle.std.proofs.lemmas.Bool.Decides.{nat_tests}
+use Rattle.election_tables.specs.declared.office.Office.{Office}
+use Rattle.election_tables.specs.declared.tables.panels.Panel.{Panel}
+use Rattle.election_tables.specs.declared.tables.candidates.NamedCandidate.{NamedCandidate}
+use Rattle.election_tables.specs.TablesData.{TablesData, IsTables, IsPanel, candidates_at, candidate_name, party_name}
+use Rattle.vote_kinds.specs.Ballot.{BallotLine, no_panel, panel_at, line_for, line_of, lines_from, ballot_lines}
+
+office_in : (o : Option Panel) (r : Office) → option_map (λ p. p.office) o ≡ Some r → r ≡ (unwrap_or o no_panel).office
+office_in None r e = absurd (cc)
+office_in (Some p) r e = cc
+
+-- the office that the tables tell is that of the panel
+pub office_known : (t : TablesData) (panel : ℕ) (r : Office) → option_map (λ p. p.office) (slice_get t.panels panel) ≡ Some r → r ≡ (panel_at t panel).office
+office_known t panel r e = office_in (slice_get t.panels panel) r e
+
+candidates_in : (o : Option Panel) → option_map_or (λ p. p.candidates) o [] ≡ (unwrap_or o no_panel).candidates
+candidates_in None = refl
+candidates_in (Some p) = refl
+
+-- the candidates that the tables tell are those of the panel
+pub candidates_known : (t : TablesData) (panel : ℕ) → candidates_at panel t ≡ (panel_at t panel).candidates
+candidates_known t panel = candidates_in (slice_get t.panels panel)
+
+same_test : (m n : ℕ) → nat_eq m n ≡ nat_eq n m
+same_test m n = grind (arith, nat_tests)
+
+first_named : {X : Type 0} (name_of : X → List ℕ) (x : X) (found : Option X) (b rest : Bool) → is_some (option_map name_of found) ≡ rest
+    → is_some (option_map name_of (cond b (Some x) found)) ≡ (b || rest)
+first_named name_of x found true rest e = refl
+first_named name_of x found false rest e = e
+
+-- a number has a name exactly where it is among the numbers
+pub is_named : {X : Type 0} (number_of : X → ℕ) (name_of : X → List ℕ) (n : ℕ) (xs : List X)
+    → is_some (option_map name_of (find (λ x. nat_eq (number_of x) n) xs)) ≡ list_any (nat_eq n) (map number_of xs)
+is_named number_of name_of n [] = refl
+is_named number_of name_of n (x ∷ xs) =
+    first_named name_of x (find (λ y. nat_eq (number_of y) n) xs) (nat_eq (number_of x) n) (list_any (nat_eq n) (map number_of xs)) (is_named number_of name_of n xs)
+    ∙ ap (λ (b : Bool). b || list_any (nat_eq n) (map number_of xs)) (same_test (number_of x) n)
+
+pub candidate_is_named : (t : TablesData) (panel n : ℕ) → is_some (candidate_name n (candidates_at panel t)) ≡ list_any (nat_eq n) (line_of t panel).candidates
+candidate_is_named t panel n =
+    is_named (λ c. c.number) (λ c. c.name) n (candidates_at panel t)
+    ∙ ap (λ (cs : List NamedCandidate). list_any (nat_eq n) (map (λ c. c.number) cs)) (candidates_known t panel)
+
+pub party_is_named : (t : TablesData) (n : ℕ) → is_some (party_name n t.parties) ≡ list_any (nat_eq n) (map (λ q. q.number) t.parties)
+party_is_named t n = is_named (λ q. q.number) (λ q. q.name) n t.parties
+
+-- a look-up finds something exactly where it gives a name
+pub found_some : (found : Option (Bor (List ℕ))) (name : Option (List ℕ)) → option_copied found ≡ name → is_some found ≡ is_some name
+found_some None name e = ap is_some e
+found_some (Some s) name e = ap is_some e
+
+-- The lines of the ballot
+
+from_at : (t : TablesData) (first : ℕ) (panels : List Panel) (n : ℕ) → slice_get (lines_from t first panels) n ≡ option_map (line_for t (first + n)) (slice_get panels n)
+from_at t first [] n = refl
+from_at t first (p ∷ panels) zero = ap (λ (k : ℕ). Some (line_for t k p)) (omega arith)
+from_at t first (p ∷ panels) (suc n) =
+    from_at t (first + 1) panels n ∙ ap (λ (k : ℕ). option_map (line_for t k) (slice_get panels n)) (omega arith)
+
+-- the line of a number is that of the panel of this number
+pub line_get : (t : TablesData) (n : ℕ) → slice_get (ballot_lines t) n ≡ option_map (line_for t n) (slice_get t.panels n)
+unfolding ballot_lines
+line_get t n = from_at t 0 t.panels n ∙ ap (λ (k : ℕ). option_map (line_for t k) (slice_get t.panels n)) (omega arith)
+
+from_length : (t : TablesData) (first : ℕ) (panels : List Panel) → length (lines_from t first panels) ≡ length panels
+from_length t first [] = refl
+from_length t first (p ∷ panels) = ap suc (from_length t (first + 1) panels)
+
+-- there are as many lines as panels
+pub lines_length : (t : TablesData) → length (ballot_lines t) ≡ length t.panels
+unfolding ballot_lines
+lines_length t = from_length t 0 t.panels
+
+-- A field that may be confirmed has at least two digits.
+pub confirmable_count : (p : Bool) (count digits : ℕ) → cond p (nat_le 2 count) (nat_eq count digits) ≡ true → 2 ≤ digits → 2 ≤ count
+confirmable_count true count digits h two = leb-true 2 count h
+confirmable_count false count digits h two = let e : count ≡ digits = eqb-true count digits h in omega arith
+
+line_in_digits : (t : TablesData) (n : ℕ) (panels : List Panel) (l : BallotLine) → All (IsPanel t.parties) panels → (k : ℕ) → option_map (line_for t n) (slice_get panels k) ≡ Some l
+    → (2 ≤ l.digits) × (l.digits ≤ 5)
+line_in_digits t n panels l all k e = elim ((slice_get_cases panels k).1) [
+  | inl found ↦
+      let p = found.0 in
+      let same : line_for t n p ≡ l = let whole : Some (line_for t n p) ≡ Some l = sym (ap (option_map (line_for t n)) found.2) ∙ e in cc in
+      let is : IsPanel t.parties p = subst (IsPanel t.parties) found.3 (all k p found.1) in
+      let range = code_digits-range p.office.code p.office.digits is.office.digits in
+      subst (λ (m : BallotLine). (2 ≤ m.digits) × (m.digits ≤ 5)) same range
+  | inr past ↦ let none : None ≡ Some l = sym (ap (option_map (line_for t n)) past.1) ∙ e in absurd (cc)
+]
+
+-- each line of the ballot has two to five digits
+pub line_digits : (t : TablesData) → IsTables t → (n : ℕ) (l : BallotLine) → slice_get (ballot_lines t) n ≡ Some l → (2 ≤ l.digits) × (l.digits ≤ 5)
+line_digits t is n l e = line_in_digits t n t.panels l is.panels n (sym (line_get t n) ∙ e)

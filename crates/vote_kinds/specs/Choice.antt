@@ -1,0 +1,25 @@
+-- The order of choices: nominal rising, party rising, blank, null
+use Rattle.std.specs.Prelude.{ℕ, Bool, ◌==◌, ◌&&◌, nat_le, nat_lt, if◌then◌else◌}
+use Rattle.vote_kinds.specs.declared.choice.Choice.{Choice}
+use Rattle.vote_kinds.specs.declared.choice.Choice.TheVariants as choice
+
+-- the kind of a choice as a number, as votes are written
+abbrev pub kind_of : Choice → ℕ
+kind_of (choice.Nominal number) = 1
+kind_of (choice.Party number) = 2
+kind_of choice.Blank = 3
+kind_of choice.Null = 4
+
+-- the number that a choice names, 0 where it names none
+abbrev pub number_of : Choice → ℕ
+number_of (choice.Nominal number) = number
+number_of (choice.Party number) = number
+number_of choice.Blank = 0
+number_of choice.Null = 0
+
+-- a stands before b, or is b
+abbrev pub choice_le : Choice → Choice → Bool
+choice_le a b = if kind_of a == kind_of b then nat_le (number_of a) (number_of b) else nat_lt (kind_of a) (kind_of b)
+
+abbrev pub is_same : Choice → Choice → Bool
+is_same a b = kind_of a == kind_of b && number_of a == number_of b

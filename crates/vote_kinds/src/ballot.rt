@@ -1,0 +1,131 @@
+ghost use Rattle.std.specs.Prelude.{◌≡◌, ◌≢◌, ◌^◌, ◌<◌, ◌≤◌, None, length, map, true, nat_eq};
+ghost use Rattle.std.specs.List.{list_any};
+ghost use Rattle.vote_kinds.specs.Ballot.{IsField, choice_of, first_two, is_choice, is_confirmable, is_proportional, line_of, names_candidate, panel_at};
+
+use crate::choice::{Choice, Field};
+use election_tables::{Kind, Office, Tables};
+
+/// Whether CONFIRMA is taken at a field of a panel: at a blank field, in a proportional office from two digits on, and in a
+/// majority office at all of them (docs/RULES.md, "The field").
+///
+/// The caller owes that the panel is one of the tables.
+pub fn confirmable(tables: &Tables, panel: u32, field: &Field) -> bool
+    requires { panel < length tables.now.panels }
+    ensures { result ≡ is_confirmable (line_of tables.now panel) field.now }
+{
+    match *field {
+        Field::Empty => false,
+        Field::Blank => true,
+        Field::Digits { count, .. } => {
+            let office = office_of(tables, panel);
+            if is_proportional(office.kind) {
+                count >= 2
+            } else {
+                count == office.digits
+            }
+        }
+    }
+}
+
+/// The choice that a field of a panel stands for (Lei 9.504/1997 art. 59 paragraph 2; docs/RULES.md, "The choice").
+///
+/// The caller owes that the panel is one of the tables, that the field has no more digits than its office, and that CONFIRMA is
+/// taken at it.
+pub fn choice_of(tables: &Tables, panel: u32, field: &Field) -> Choice
+    requires panel { panel < length tables.now.panels }
+    requires field { IsField (line_of tables.now panel).digits field.now }
+    requires confirmable { is_confirmable (line_of tables.now panel) field.now ≡ true }
+    ensures { result ≡ choice_of (line_of tables.now panel) None field.now }
+{
+    match *field {
+        Field::Empty => Choice::Null,
+        Field::Blank => Choice::Blank,
+        Field::Digits { count, value } => {
+            let office = office_of(tables, panel);
+            choice_of_digits(tables, panel, office, count, value)
+        }
+    }
+}
+
+/// Whether a voter may choose so in a panel: blank and null always, a candidate of the office, and in a proportional office a
+/// party of the tables.
+///
+/// The caller owes that the panel is one of the tables.
+pub fn is_choice(tables: &Tables, panel: u32, choice: Choice) -> bool
+    requires { panel < length tables.now.panels }
+    ensures { result ≡ is_choice (line_of tables.now panel) choice }
+{
+    match choice {
+        Choice::Nominal(number) => has_candidate(tables, panel, number),
+        Choice::Party(number) => {
+            let office = office_of(tables, panel);
+            is_proportional(office.kind) && has_party(tables, number)
+        }
+        Choice::Blank => true,
+        Choice::Null => true,
+    }
+}
+
+fn choice_of_digits(tables: &Tables, panel: u32, office: Office, count: u8, value: u32) -> Choice
+    requires panel { panel < length tables.now.panels }
+    requires office { office ≡ (panel_at tables.now panel).office }
+    requires some { 2 ≤ count }
+    requires few { count ≤ 5 }
+    requires value { value < 10 ^ count }
+    ensures { result ≡ choice_of (line_of tables.now panel) None (Field.Digits count value) }
+{
+    if count == office.digits && has_candidate(tables, panel, value) {
+        return Choice::Nominal(value);
+    }
+    let party = leading_pair(count, value);
+    if is_proportional(office.kind) && has_party(tables, party) {
+        return Choice::Party(party);
+    }
+    Choice::Null
+}
+
+#[tactic(auto, using(crate::proofs::Lookups::office_known))]
+fn office_of(tables: &Tables, panel: u32) -> Office
+    requires { panel < length tables.now.panels }
+    ensures office { result ≡ (panel_at tables.now panel).office }
+    ensures digits { (2 ≤ result.digits) × (result.digits ≤ 5) }
+{
+    tables.office(panel)
+}
+
+fn is_proportional(kind: Kind) -> bool
+    ensures { result ≡ is_proportional kind }
+{
+    match kind {
+        Kind::Proportional => true,
+        Kind::Absolute => false,
+        Kind::Simple => false,
+    }
+}
+
+fn has_candidate(tables: &Tables, panel: u32, number: u32) -> bool
+    ensures { result ≡ list_any (nat_eq number) (line_of tables.now panel).candidates }
+{
+    tables.candidate_name(panel, number).is_some()
+}
+
+fn has_party(tables: &Tables, number: u8) -> bool
+    ensures { result ≡ list_any (nat_eq number) (map (λ q. q.number) tables.now.parties) }
+{
+    tables.party_name(number).is_some()
+}
+
+/// The first two of so many digits.
+fn leading_pair(count: u8, value: u32) -> u8
+    requires some { 2 ≤ count }
+    requires few { count ≤ 5 }
+    requires value { value < 10 ^ count }
+    ensures { result ≡ first_two count value }
+{
+    match count {
+        2 => value as u8,
+        3 => (value / 10) as u8,
+        4 => (value / 100) as u8,
+        _ => (value / 1000) as u8,
+    }
+}

@@ -1,0 +1,12 @@
+//! The fields of the voter's terminal, and the choices that they stand for.
+//!
+//! The layer above uses that a choice is what the law makes of a field: Lei 9.504/1997 arts. 5 and 59 paragraph 2, as
+//! docs/RULES.md tells them. `specs/Ballot.antt` has the lines of a ballot and that rule, `specs/Choice.antt` the order in
+//! which choices stand wherever they are written.
+#![tactic(auto)]
+
+mod ballot;
+mod choice;
+
+pub use ballot::{choice_of, confirmable, is_choice};
+pub use choice::{Choice, Field};

@@ -1,0 +1,75 @@
+-- A bag as a sorted vector: where a binary search puts a new member
+use Rattle.std.proofs.Common.{◌≡◌, ℕ, zero, suc, ◌≤◌, ◌<◌, Bool, true, false, not, List, [], ◌∷◌, length, get_or, inl, inr, refl, sym, ap, subst, arith}
+use Rattle.std.specs.List.{AllByRecursion, insert}
+use Rattle.std.specs.List.Sorted.{IsPartitionedBy, IsPartitionPoint}
+use Rattle.vote_kinds.specs.declared.choice.Choice.{Choice}
+use Rattle.vote_kinds.specs.Choice.{choice_le}
+use Rattle.vote_record.specs.Bag.{IsInOrder, with_choice}
+use Rattle.vote_record.specs.BagData.{BagData, IsStored}
+use Rattle.vote_record.proofs.Bags.{test_cases, le_refl, le_trans, in_order-with_choice, length-with_choice}
+
+all_at : (P : Choice → Type 0) (xs : List Choice) (k : ℕ) (d : Choice) → AllByRecursion P xs → k < length xs → P (get_or xs k d)
+all_at P [] k d all lt = absurd (omega arith)
+all_at P (x ∷ xs) zero d all lt = all.0
+all_at P (x ∷ xs) (suc k) d all lt = all_at P xs k d all.1 (omega arith)
+
+-- of two places the earlier has the choice that stands before
+ordered_at : (bag : List Choice) (i j : ℕ) (d : Choice) → IsInOrder bag → i ≤ j → j < length bag → choice_le (get_or bag i d) (get_or bag j d) ≡ true
+ordered_at [] i j d order le lt = absurd (omega arith)
+ordered_at (x ∷ xs) zero zero d order le lt = le_refl x
+ordered_at (x ∷ xs) zero (suc j) d order le lt = all_at (λ y. choice_le x y ≡ true) xs j d order.0 (omega arith)
+ordered_at (x ∷ xs) (suc i) zero d order le lt = absurd (omega arith)
+ordered_at (x ∷ xs) (suc i) (suc j) d order le lt = ordered_at xs i j d order.1 (omega arith) (omega arith)
+
+not_true : (b : Bool) → not b ≡ true → b ≡ false
+not_true true h = sym h
+not_true false h = refl
+
+not_false : (b : Bool) → not b ≡ false → b ≡ true
+not_false true h = refl
+not_false false h = sym h
+
+-- the members that do not come after a choice stand in front
+pub partitioned : (c : Choice) (bag : List Choice) → IsInOrder bag → IsPartitionedBy (λ y. not (choice_le c y)) bag
+partitioned c bag order i j d le lt h = elim (test_cases (choice_le c (get_or bag i d))) [
+  | inl t ↦ let e = le_trans c (get_or bag i d) (get_or bag j d) t (ordered_at bag i j d order le lt) in let f = not_true (choice_le c (get_or bag j d)) h in absurd (cc)
+  | inr f ↦ ap not f
+]
+
+inserted : (c : Choice) (bag : List Choice) (i : ℕ) → i ≤ length bag
+    → ((k : ℕ) (d : Choice) → k < i → choice_le c (get_or bag k d) ≡ false)
+    → ((k : ℕ) (d : Choice) → i ≤ k → k < length bag → choice_le c (get_or bag k d) ≡ true)
+    → insert bag i c ≡ with_choice c bag
+inserted c [] zero le before after = refl
+inserted c [] (suc i) le before after = absurd (omega arith)
+inserted c (x ∷ xs) zero le before after =
+    let here : choice_le c x ≡ true = after 0 x (omega arith) (omega arith) in
+    rw here refl
+inserted c (x ∷ xs) (suc i) le before after =
+    let here : choice_le c x ≡ false = before 0 x (omega arith) in
+    rw here (ap (λ (t : List Choice). x ∷ t) (inserted c xs i (omega arith) (λ k d lt. before (suc k) d (omega arith)) (λ k d ge lt. after (suc k) d (omega arith) (omega arith))))
+
+-- a new member at the place between them
+pub insert-partition : (c : Choice) (bag : List Choice) (i : ℕ) → i ≤ length bag
+    → IsPartitionPoint (λ y. not (choice_le c y) ≡ true) (λ y. not (choice_le c y) ≡ false) bag i
+    → insert bag i c ≡ with_choice c bag
+insert-partition c bag i le at = inserted c bag i le
+    (λ k d lt. not_true (choice_le c (get_or bag k d)) (at.0 k d (omega arith) lt))
+    (λ k d ge lt. not_false (choice_le c (get_or bag k d)) (at.1 k d ge lt))
+
+-- storage that took one member more
+pub stored_more : (c : Choice) (bag after : List Choice) (room capacity grown : ℕ) (now : BagData)
+    → IsStored bag room capacity → record { members = bag; room = room } ≡ now → length now.members < now.room
+    → after ≡ with_choice c bag → capacity ≤ grown → IsStored after room grown
+stored_more c bag after room capacity grown now s is free e le =
+    let same : bag ≡ now.members = ap (λ (b : BagData). b.members) is in
+    let same_room : room ≡ now.room = ap (λ (b : BagData). b.room) is in
+    let more = length-with_choice c bag in
+    let longer : length after ≡ length (with_choice c bag) = ap length e in
+    let shorter : length bag ≡ length now.members = ap length same in
+    record {
+      in_order = subst IsInOrder (sym e) (in_order-with_choice c bag s.in_order);
+      within = omega arith;
+      reserved = omega (arith, s.reserved);
+      counted = s.counted;
+    }

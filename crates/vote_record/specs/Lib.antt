@@ -1,0 +1,4 @@
+pub mod Bag
+pub mod BagData
+pub mod RdvData
+pub mod Laws

@@ -1,0 +1,129 @@
+ghost use Rattle.std.specs.Prelude.{◌≡◌, ◌<◌, ◌≤◌, [], length, IfOk, Some, slice_get, insert, vec_len, vec_capacity};
+ghost use Rattle.vote_record.specs.Bag.{IsInOrder, count_of, with_choice};
+
+use crate::order::{is_at_or_before, is_same};
+use std::alloc::Global;
+use std::marker::Model;
+use urna_base::Memory;
+use vote_kinds::Choice;
+
+/// A bag of choices, with room for a number of members that is settled when it is made.
+#[derive(Debug, Drop)]
+pub struct Bag {
+    // in the order of choices
+    members: Vec<Choice>,
+    room: u32,
+}
+
+impl Model for Bag {
+    ghost use Rattle.std.specs.Prelude.{vec_capacity};
+    ghost use Rattle.vote_record.specs.BagData.{BagData, IsStored};
+
+    ghost Value = { BagData };
+
+    ghost view = { λ b. record { members = b.members.items; room = b.room } };
+
+    ghost invariant = { λ b. IsStored b.members.items b.room (vec_capacity b.members) };
+}
+
+impl Bag {
+    /// The empty bag. All its memory is taken here.
+    pub fn with_room(alloc: Global, room: u32) -> Result<Bag, Memory>
+        ensures { IfOk result (λ b. b ≡ record { members = []; room = room }) }
+    {
+        let members = Vec::with_capacity(alloc, room as usize)?;
+        Ok(Bag { members, room })
+    }
+
+    /// How many members it has.
+    pub fn len(&self) -> u32
+        ensures count { result ≡ length self.now.members }
+        ensures within { result ≤ self.now.room }
+        ensures in_order { IsInOrder self.now.members }
+    {
+        self.members.len() as u32
+    }
+
+    /// How many members are this choice.
+    pub fn count(&self, choice: Choice) -> u32
+        ensures { result ≡ count_of choice self.now.members }
+    {
+        self.members
+            .iter()
+            .filter(|member| is_same(choice, **member))
+            .count() as u32
+    }
+
+    /// The i-th member in the order of choices.
+    pub fn get(&self, i: u32) -> Choice
+        requires { i < length self.now.members }
+        ensures { slice_get self.now.members i ≡ Some result }
+    {
+        self.members[i as usize]
+    }
+
+    /// One member more. It takes no memory.
+    pub fn add(&mut self, choice: Choice)
+        requires { length self.old.members < self.old.room }
+        ensures { self.new ≡ record self.old { members = with_choice choice self.old.members } }
+    {
+        add_member(&mut self.members, choice);
+    }
+}
+
+// One member more, where memory for it is there.
+fn add_member(members: &mut Vec<Choice>, choice: Choice)
+    requires in_order { IsInOrder members.old.items }
+    requires reserved { vec_len members.old < vec_capacity members.old }
+    ensures added { members.new.items ≡ with_choice choice members.old.items }
+    ensures reserved { vec_capacity members.old ≤ vec_capacity members.new }
+{
+    let place = place_for(members, choice);
+    members.insert(place, choice).unwrap();
+}
+
+// Where a new member goes among members in order: before the first that stands at it or after it.
+fn place_for(members: &[Choice], choice: Choice) -> usize
+    requires { IsInOrder members.now }
+    ensures within { result ≤ length members.now }
+    ensures keeps_order { insert members.now result choice ≡ with_choice choice members.now }
+{
+    members.partition_point(|member| !is_at_or_before(choice, *member))
+}
+
+#[cfg(test)]
+mod tests {
+    use super::*;
+    use std::test::Fail;
+
+    #[test]
+    fn keeps_the_order_of_choices(rt: HostRuntime) -> Result<(), Fail> {
+        let mut bag = Bag::with_room(rt.alloc(), 6)?;
+        let typed = [
+            Choice::Null,
+            Choice::Party(45),
+            Choice::Blank,
+            Choice::Nominal(45001),
+            Choice::Party(13),
+            Choice::Nominal(13001),
+        ];
+        for choice in typed {
+            assert!(rt; bag.len() < 6);
+            bag.add(choice);
+        }
+        let kept = [
+            Choice::Nominal(13001),
+            Choice::Nominal(45001),
+            Choice::Party(13),
+            Choice::Party(45),
+            Choice::Blank,
+            Choice::Null,
+        ];
+        for (i, choice) in (0..6).zip(kept) {
+            assert!(rt; i < bag.len());
+            assert_eq!(rt; bag.get(i), choice, "at {i}");
+            assert_eq!(rt; bag.count(choice), 1, "at {i}");
+        }
+        Ok(())
+    }
+}

@@ -1,0 +1,135 @@
+ghost use Rattle.std.specs.Prelude.{◌≡◌, ◌<◌, ◌≤◌, length, IfOk, Some, slice_get, replicate, []};
+ghost use Rattle.vote_record.specs.Bag.{IsInOrder, count_of, bag_at};
+ghost use Rattle.vote_record.specs.RdvData.{IsVote, empty_record, room_at, with_vote_in};
+
+use crate::bag::Bag;
+use election_tables::Tables;
+use std::alloc::Global;
+use std::marker::Model;
+use urna_base::Memory;
+use vote_kinds::Choice;
+
+// How many votes a voter has in a panel.
+const VOTES_OF_A_VOTER: u32 = 1;
+
+/// The digital vote record of a section (docs/RULES.md, "The state of a poll"): for each panel a bag of choices, with the
+/// memory for all votes that there can be. A bag keeps no order of its own, so the record doesn't tell who voted when.
+/// Contracts see it as `RdvData`.
+#[derive(Debug, Drop)]
+pub struct Rdv {
+    bags: Vec<Bag>,
+    voters: u32,
+    // for each panel how many votes a voter has in it
+    places: Vec<u32>,
+}
+
+impl Model for Rdv {
+    ghost use Rattle.std.specs.Prelude.{map};
+    ghost use Rattle.vote_record.specs.RdvData.{RdvData, AreReserved};
+
+    ghost Value = { RdvData };
+
+    ghost view = { λ r. record { bags = map (λ b. b.members) r.bags.items; voters = r.voters; places = r.places.items } };
+
+    ghost invariant = { λ r. AreReserved r.bags.items r.voters r.places.items };
+}
+
+impl Rdv {
+    /// The record of a section with so many voters, where nobody has voted: a bag for each panel of the tables, in which
+    /// each voter has one vote. All its memory is taken here; `Memory` comes only where an allocation failed.
+    pub fn new(alloc: Global, tables: &Tables, voters: u32) -> Result<Rdv, Memory>
+        requires { voters ≤ 600 }
+        ensures { IfOk result (λ r. r ≡ empty_record tables.now voters) }
+    {
+        let panels = tables.panels() as usize;
+        let places = vec![in alloc; VOTES_OF_A_VOTER; panels]?;
+        let bags = empty_bags(alloc, panels, voters * VOTES_OF_A_VOTER)?;
+        Ok(Rdv {
+            bags,
+            voters,
+            places,
+        })
+    }
+
+    /// One vote more in a panel, wherever its choice stands among the others. It takes no memory. The caller owes that
+    /// the panel is one of the record, that the choice is one of the panel's line in the tables, and that a voter is left
+    /// whose vote is not there.
+    pub fn add(&mut self, tables: &Tables, panel: u32, choice: Choice)
+        requires panel { panel < length self.old.bags }
+        requires choice { IsVote tables.now panel choice }
+        requires room { length (bag_at self.old.bags panel) < room_at self.old panel }
+        ensures { self.new ≡ with_vote_in panel choice self.old }
+    {
+        self.bags[panel as usize].add(choice);
+    }
+
+    /// How many votes of a panel, which is one of the record, are this choice: 0 for a choice that is none of the panel's.
+    pub fn count(&self, panel: u32, choice: Choice) -> u32
+        requires { panel < length self.now.bags }
+        ensures { result ≡ count_of choice (bag_at self.now.bags panel) }
+    {
+        self.bags[panel as usize].count(choice)
+    }
+
+    /// How many votes a panel, which is one of the record, has.
+    pub fn total(&self, panel: u32) -> u32
+        requires { panel < length self.now.bags }
+        ensures total { result ≡ length (bag_at self.now.bags panel) }
+        ensures within { result ≤ room_at self.now panel }
+        ensures in_order { IsInOrder (bag_at self.now.bags panel) }
+    {
+        self.bags[panel as usize].len()
+    }
+
+    /// The i-th vote of a panel in the order of choices. The caller owes that the panel is one of the record and has so
+    /// many votes.
+    pub fn vote(&self, panel: u32, i: u32) -> Choice
+        requires panel { panel < length self.now.bags }
+        requires vote { i < length (bag_at self.now.bags panel) }
+        ensures { slice_get (bag_at self.now.bags panel) i ≡ Some result }
+    {
+        self.bags[panel as usize].get(i)
+    }
+}
+
+// So many empty bags, each with this room.
+fn empty_bags(alloc: Global, count: usize, room: u32) -> Result<Vec<Bag>, Memory>
+    ensures { IfOk result (λ bags. bags.items ≡ replicate count (record { members = []; room = room })) }
+{
+    let mut bags = Vec::with_capacity(alloc, count)?;
+    for _ in 0..count {
+        bags.push(Bag::with_room(alloc, room)?)?;
+    }
+    Ok(bags)
+}
+
+#[cfg(test)]
+mod tests {
+    use super::*;
+    use std::test::Fail;
+
+    const TABLES: &[u8] = br#"
+processo = 7
+data = 20261004
+turno = 1
+cargo = [{codigo = 11, regra = "absoluta", cadeiras = 1}]
+partido = [{numero = 13, nome = "PA"}]
+candidato = [{cargo = 11, numero = 13, nascimento = 19600303, nome = "CARLA"}]
+secao = [{zona = 1, secao = 42, eleitores = 2}]
+"#;
+
+    #[test]
+    fn tells_votes_in_the_order_of_choices(rt: HostRuntime) -> Result<(), Fail> {
+        let tables = Tables::read(rt.alloc(), TABLES)?;
+        assert!(rt; tables.panels() == 1);
+        let mut votes = Rdv::new(rt.alloc(), &tables, 2)?;
+        votes.add(&tables, 0, Choice::Null);
+        votes.add(&tables, 0, Choice::Blank);
+        assert_eq!(rt; votes.total(0), 2);
+        assert_eq!(rt; votes.vote(0, 0), Choice::Blank);
+        assert_eq!(rt; votes.vote(0, 1), Choice::Null);
+        assert_eq!(rt; votes.count(0, Choice::Null), 1);
+        assert_eq!(rt; votes.count(0, Choice::Party(13)), 0);
+        Ok(())
+    }
+}

@@ -1,0 +1,5 @@
+pub mod Words
+pub mod PanelWords
+pub mod ShownLemmas
+mod Rows
+pub mod FieldFits

@@ -1,0 +1,25 @@
+-- The screen of a panel (docs/FORMATS.md, "Shown texts")
+use Rattle.std.specs.Prelude.{ℕ, List, [], ◌∷◌, ◌++◌, codes, Option, Some, None, unwrap_or}
+use Rattle.urna_base.specs.Digits.{padded}
+use Rattle.election_tables.specs.TablesData.{TablesData, candidates_at, candidate_name, party_name}
+use Rattle.vote_kinds.specs.declared.choice.Choice.{Choice}
+use Rattle.vote_kinds.specs.declared.choice.Choice.TheVariants as choice
+use Rattle.vote_kinds.specs.declared.choice.Field.{Field}
+use Rattle.vote_kinds.specs.declared.choice.Field.TheVariants as field
+
+-- the digits stand as typed, leading zeros too
+abbrev pub field_text : Field → List ℕ
+field_text field.Empty = codes "VAZIA"
+field_text field.Blank = codes "BRANCO"
+field_text (field.Digits count value) = padded count value
+
+-- what the field stands for, where it may be confirmed
+abbrev pub choice_text : TablesData → ℕ → Option Choice → List ℕ
+choice_text t panel None = []
+choice_text t panel (Some (choice.Nominal number)) = codes " CANDIDATO " ++ unwrap_or (candidate_name number (candidates_at panel t)) []
+choice_text t panel (Some (choice.Party number)) = codes " LEGENDA " ++ unwrap_or (party_name number t.parties) []
+choice_text t panel (Some choice.Blank) = []
+choice_text t panel (Some choice.Null) = codes " NULO"
+
+abbrev pub screen_text : TablesData → ℕ → Field → Option Choice → List ℕ
+screen_text t panel f chosen = codes "TELA " ++ field_text f ++ choice_text t panel chosen ++ 10 ∷ []
