@@ -1,5 +1,5 @@
 -- What a voter chose, line by line, is a ballot
-use Rattle.std.proofs.Common.{◌≡◌, ◌<◌, ◌≤◌, ◌+◌, ◌-◌, ℕ, suc, Bool, true, false, cond, not, ◌&&◌, List, [], ◌∷◌, ◌++◌, Option, Some, None, length, replicate, slice_get, nat_eq, refl, sym, ap, subst, ◌∙◌, arith}
+use Rattle.std.proofs.Common.{◌≡◌, ◌≤◌, ◌+◌, ◌-◌, ℕ, suc, Bool, true, false, cond, not, ◌&&◌, List, [], ◌∷◌, ◌++◌, Option, Some, None, length, replicate, slice_get, nat_eq, refl, sym, ap, subst, arith}
 use Rattle.std.specs.List.{list_any}
 use Rattle.key_script.specs.declared.keys.Event.{Event}
 use Rattle.key_script.specs.Event.{keys_of}
@@ -15,7 +15,7 @@ use Rattle.voter_term.specs.Panel.{next_field, next_shown}
 use Rattle.voter_term.specs.declared.panel.Shown.TheVariants as shown
 use Rattle.image_codec.specs.State.{State, AreFirst, IsBallot, filled_up}
 use Rattle.station.specs.Setting.{Setting}
-use Rattle.station.specs.Output.{Output, line_at, earlier_for}
+use Rattle.station.specs.Output.{Output, earlier_for}
 use Rattle.station.specs.Run.{Votes, start, voted, IsOpen, open_at}
 
 both : (a b : Bool) → a ≡ true → b ≡ true → (a && b) ≡ true

@@ -1,3 +1,4 @@
+mod Rows
 pub mod Single
 pub mod Unique
 pub mod Stands

@@ -1,12 +1,12 @@
 -- The lines of the ballot, by their numbers
-use Rattle.std.proofs.Common.{◌≡◌, ℕ, zero, suc, ◌+◌, ◌-◌, ◌<◌, ◌≤◌, ◌==◌, Bool, true, false, cond, List, [], ◌∷◌, length, slice_get, Option, Some, None, option_map, unwrap_or, nat_eq, refl, sym, ap, subst, ◌∙◌, arith}
+use Rattle.std.proofs.Common.{◌≡◌, ℕ, zero, suc, ◌-◌, ◌<◌, ◌≤◌, false, List, [], ◌∷◌, length, slice_get, Option, Some, None, option_map, unwrap_or, nat_eq, refl, sym, ap, ◌∙◌, arith}
 use Rattle.std.proofs.lemmas.Bool.Decides.{nat_tests}
 use Rattle.election_tables.specs.TablesData.{TablesData}
 use Rattle.election_tables.specs.declared.tables.panels.Panel.{Panel}
 use Rattle.vote_kinds.specs.declared.choice.Choice.{Choice}
-use Rattle.vote_kinds.specs.Ballot.{BallotLine, no_panel, panel_at, line_for, line_of, ballot_lines}
+use Rattle.vote_kinds.specs.Ballot.{BallotLine, no_panel, line_for, line_of, ballot_lines}
 use Rattle.vote_kinds.proofs.Lookups.{line_get}
-use Rattle.station.specs.Setting.{Setting, setting_of}
+use Rattle.station.specs.Setting.{setting_of}
 use Rattle.station.specs.Output.{line_at, earlier_of, earlier_for}
 
 known : (panels : List Panel) (n : ℕ) → n < length panels → slice_get panels n ≡ Some (unwrap_or (slice_get panels n) no_panel)

@@ -1,8 +1,8 @@
 -- The lines of acts, some after others
-use Rattle.std.proofs.Common.{◌≡◌, ◌≤◌, ◌<◌, ◌^◌, ◌+◌, ℕ, zero, suc, true, List, [], ◌∷◌, ◌++◌, map, length, take, drop, get_or, slice_get, lit<, Option, Some, None, IsTrue, refl, sym, ap, subst, ◌∙◌, append_assoc, arith}
+use Rattle.std.proofs.Common.{◌≡◌, ◌≤◌, ◌<◌, ◌^◌, ◌+◌, ℕ, zero, suc, List, [], ◌∷◌, ◌++◌, map, length, take, drop, get_or, slice_get, lit<, Option, Some, None, refl, sym, ap, subst, ◌∙◌, arith}
 use Rattle.std.proofs.lemmas.List.{take_more, take-append-drop, append-nil}
 use Rattle.std.proofs.lemmas.Grind.{flat_map-append}
-use Rattle.std.specs.List.{AllByRecursion, flat_map}
+use Rattle.std.specs.List.{AllByRecursion}
 use Rattle.urna_base.proofs.MomentLaws.{is_moment-below}
 use Rattle.key_script.specs.declared.keys.Key.{Key}
 use Rattle.key_script.specs.declared.keys.Event.{Event}
@@ -28,7 +28,7 @@ use Rattle.station.specs.Setting.{Setting, IsSetting, setting_of, reply_at}
 use Rattle.station.specs.Output.{Output, Says, line_at, earlier_for}
 use Rattle.station.specs.Run.{suspension}
 use Rattle.station.specs.declared.line.Line.TheVariants as line
-use Rattle.station.specs.Press.{Standing, press, typed, on_line, after_key, goes_on, call, answered, title_of}
+use Rattle.station.specs.Press.{Standing, press, typed, on_line, after_key, call, answered, title_of}
 use Rattle.station.specs.Acts.{IsAct, act_of, output_of, outputs_of}
 use Rattle.station.specs.Text.{output_lines, session_lines}
 use Rattle.station.specs.Valid.{IsStanding, IsPlaced, IsAnswer}

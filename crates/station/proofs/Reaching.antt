@@ -1,5 +1,5 @@
 -- Events one by one, from a station that is idle
-use Rattle.std.proofs.Common.{◌≡◌, ◌⊎◌, inl, inr, ◌≤◌, ◌+◌, ℕ, List, [], ◌∷◌, ◌++◌, length, Some, refl, sym, ap, subst, ◌∙◌, append_assoc, arith}
+use Rattle.std.proofs.Common.{◌≡◌, ◌⊎◌, inl, inr, ℕ, List, [], ◌∷◌, ◌++◌, refl, sym, ap, subst, ◌∙◌, append_assoc}
 use Rattle.std.proofs.lemmas.List.{append-nil}
 use Rattle.std.proofs.lemmas.Grind.{flat_map-append}
 use Rattle.key_script.specs.declared.keys.Event.{Event}
@@ -14,7 +14,7 @@ use Rattle.station.specs.Setting.{Setting, IsSetting}
 use Rattle.station.specs.Output.{Output}
 use Rattle.station.specs.Run.{IsRun, ends}
 use Rattle.station.specs.Press.{Standing, press, after, outputs, idle_at}
-use Rattle.station.specs.Stands.{StandsFor, StandsOn, IsReached, idle}
+use Rattle.station.specs.Stands.{StandsFor, IsReached, idle}
 use Rattle.station.specs.Text.{output_lines, session_lines}
 use Rattle.station.specs.Valid.{IsStanding, IsPlaced}
 use Rattle.station.proofs.Stands.{Goes, stands, done, goes, run_moved, events_by_run}

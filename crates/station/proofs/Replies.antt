@@ -1,5 +1,5 @@
 -- What the reply table says of the state
-use Rattle.std.proofs.Common.{◌≡◌, ◌<◌, ◌≤◌, ◌+◌, ℕ, Bool, true, false, cond, List, [], ◌∷◌, Option, Some, None, length, nat_eq, nat_lt, ltb, refl, sym, ap, subst, arith}
+use Rattle.std.proofs.Common.{◌≡◌, ◌<◌, ℕ, Bool, true, false, cond, List, Option, Some, None, length, nat_eq, nat_lt, refl, sym, subst}
 use Rattle.std.proofs.lemmas.Bool.{ltb-false}
 use Rattle.std.proofs.lemmas.List.Quantifiers.{position-Some}
 use Rattle.key_script.specs.declared.keys.ClerkKey.{ClerkKey}
@@ -12,7 +12,7 @@ use Rattle.clerk_term.specs.Reply.{answer_to, polling_answer, title_answer, plac
 use Rattle.clerk_term.specs.declared.replies.Mode.{Mode}
 use Rattle.clerk_term.specs.declared.replies.Mode.TheVariants as mode
 use Rattle.clerk_term.specs.declared.replies.ClerkAnswer.TheVariants as answer
-use Rattle.image_codec.specs.State.{State, IsPolling, MayVote}
+use Rattle.image_codec.specs.State.{State, IsPolling}
 use Rattle.station.specs.Setting.{Setting, reply_at}
 use Rattle.station.specs.Press.{Standing}
 use Rattle.station.specs.Valid.{IsPlaced, IsAnswer}

@@ -6,13 +6,12 @@ use Rattle.key_script.specs.declared.keys.Key.{Key}
 use Rattle.key_script.specs.declared.keys.Key.TheVariants as key
 use Rattle.vote_kinds.specs.declared.choice.Choice.{Choice}
 use Rattle.vote_kinds.specs.Ballot.{BallotLine}
-use Rattle.turnout.specs.Turnout.{number_came}
-use Rattle.image_codec.specs.State.{State, opened_at, sealed_at, with_ballot, filled_up, MayVote, IsBallot}
+use Rattle.image_codec.specs.State.{State, with_ballot, filled_up, MayVote}
 use Rattle.station.specs.Setting.{Setting, IsSetting, reply_at}
-use Rattle.station.specs.Output.{Output, Says, Commits, Reports, commits_of, refusal, line_at, earlier_for, echo, screen}
+use Rattle.station.specs.Output.{Output, Says, Commits, Reports, commits_of, refusal, earlier_for, echo, screen}
 use Rattle.station.specs.Run.{wait_outputs, line_outputs, Votes, start, voted, IsOpen, open_at, IsRun, ends, ignores, refuses, opens, seals, waits, cancels, visits, cut_off, Visit, whole, suspended, after_suspension, suspension}
 use Rattle.station.specs.Press.{Standing, press, idle_at, after, outputs}
-use Rattle.station.specs.Stands.{StandsFor, idle}
+use Rattle.station.specs.Stands.{idle}
 use Rattle.station.specs.States.{opening, voter, seal, IsHistory, same, then}
 use Rattle.std.proofs.Math.ListN.{length-set}
 use Rattle.key_script.specs.declared.keys.ClerkKey.{ClerkKey}

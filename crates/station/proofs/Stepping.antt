@@ -1,19 +1,15 @@
 -- What stands at a station after one event
-use Rattle.std.proofs.Common.{◌≡◌, ◌≤◌, ◌<◌, ◌^◌, ◌+◌, ℕ, zero, suc, Bool, true, false, cond, List, [], ◌∷◌, ◌++◌, map, Option, Some, None, length, IsTrue, refl, sym, ap, subst, ◌∙◌, arith}
-use Rattle.std.specs.List.{AllByRecursion}
+use Rattle.std.proofs.Common.{◌≡◌, ℕ, zero, suc, true, List, [], ◌∷◌, ◌++◌, Option, Some, None, length, refl, ap, subst, ◌∙◌}
 use Rattle.std.proofs.Math.ListN.{length-set}
-use Rattle.urna_base.specs.Moment.{is_moment}
 use Rattle.key_script.specs.declared.keys.Key.{Key}
-use Rattle.key_script.specs.declared.keys.Key.TheVariants as key
 use Rattle.key_script.specs.declared.keys.Event.{Event}
 use Rattle.key_script.specs.declared.keys.Event.TheVariants.{Clerk, Voter}
 use Rattle.key_script.specs.declared.keys.ClerkKey.{ClerkKey}
-use Rattle.key_script.specs.declared.keys.ClerkKey.TheVariants as clerk
-use Rattle.key_script.specs.Event.{IsKey, IsClerkKey, IsEvent}
+use Rattle.key_script.specs.Event.{IsKey, IsEvent}
 use Rattle.vote_kinds.specs.declared.choice.Choice.{Choice}
 use Rattle.vote_kinds.specs.declared.choice.Field.{Field}
 use Rattle.vote_kinds.specs.declared.choice.Field.TheVariants as field
-use Rattle.vote_kinds.specs.Ballot.{BallotLine, IsField, is_choice, is_confirmable, choice_of}
+use Rattle.vote_kinds.specs.Ballot.{BallotLine, IsField}
 use Rattle.vote_record.specs.Bag.{with_vote}
 use Rattle.voter_term.specs.declared.panel.Shown.{Shown}
 use Rattle.voter_term.specs.declared.panel.Shown.TheVariants as shown
@@ -27,7 +23,7 @@ use Rattle.image_codec.specs.State.{State, with_ballot, with_votes, opened_at, s
 use Rattle.station.specs.Setting.{Setting, IsSetting, reply_at}
 use Rattle.station.specs.Output.{line_at, earlier_for}
 use Rattle.station.specs.Run.{after_suspension}
-use Rattle.station.specs.Press.{Standing, Pressed, press, typed, on_line, after_key, goes_on, call, answered, idle_at, identified_at, voting_at}
+use Rattle.station.specs.Press.{Standing, press, typed, on_line, after_key, call, answered, idle_at, identified_at, voting_at}
 use Rattle.station.specs.Valid.{IsStanding, IsPlaced, IsAnswer}
 use Rattle.station.proofs.Choosing.{first_more, voted_is}
 use Rattle.station.proofs.Replies.{answer_of}

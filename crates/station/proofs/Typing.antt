@@ -1,5 +1,5 @@
 -- A key of the voter, where one line of the ballot stands
-use Rattle.std.proofs.Common.{◌≡◌, ℕ, Bool, false, List, [], ◌∷◌, ◌++◌, length, nat_eq, Option, None, Some, refl, sym, ap, ◌∙◌}
+use Rattle.std.proofs.Common.{◌≡◌, ℕ, false, List, [], ◌∷◌, ◌++◌, length, nat_eq, Option, None, Some, refl, ap, ◌∙◌}
 use Rattle.key_script.specs.declared.keys.Key.{Key}
 use Rattle.vote_kinds.specs.declared.choice.Choice.{Choice}
 use Rattle.vote_kinds.specs.declared.choice.Field.{Field}
@@ -12,7 +12,7 @@ use Rattle.image_codec.specs.State.{State, with_ballot, filled_up}
 use Rattle.station.specs.Setting.{Setting}
 use Rattle.station.specs.Output.{line_at, earlier_for, screen}
 use Rattle.station.specs.Run.{after_suspension}
-use Rattle.station.specs.Press.{Pressed, typed, on_line, after_key, goes_on, voting_at}
+use Rattle.station.specs.Press.{typed, on_line, after_key, goes_on, voting_at}
 
 typed_is : (v : Setting) (s : State) (place : ℕ) (choices : List Choice) (f : Field) (k : Key) (l : BallotLine) (r : Shown)
     → line_at v choices ≡ Some l → earlier_for v choices l ≡ None → next_shown l None f k ≡ r

@@ -14,7 +14,7 @@ use Rattle.turnout.specs.Turnout.{number_came}
 use Rattle.image_codec.specs.State.{State, with_ballot, opened_at, sealed_at}
 use Rattle.station.specs.Setting.{Setting, IsSetting, reply_at}
 use Rattle.station.specs.Output.{Output, Says, Commits, Reports, refusal, line_at, earlier_for, echo, call_of}
-use Rattle.station.specs.Run.{IsWaiting, IsVisiting, wait_outputs, line_outputs, Votes, start, voted, IsOpen, open_at, IsRun, ends, ignores, refuses, opens, seals, waits, cancels, visits, cut_off, Visit, whole, suspended, after_suspension, suspension}
+use Rattle.station.specs.Run.{IsWaiting, IsVisiting, wait_outputs, line_outputs, Votes, start, voted, IsOpen, open_at, IsRun, ends, ignores, refuses, opens, seals, waits, cancels, visits, cut_off, Visit, whole, suspended, suspension}
 use Rattle.station.specs.Press.{Standing, Pressed, press, goes_on, call, idle_at, identified_at, voting_at, after, outputs, answered}
 use Rattle.station.proofs.Single.{polls, Polls, refused_waiting, refused_visiting, press_refused, press_key, press_confirm}
 use Rattle.key_script.specs.declared.keys.Event.{Event}

@@ -2,7 +2,7 @@
 use Rattle.std.specs.Prelude.{◌≡◌, ℕ, List, [], ◌∷◌, ◌++◌, Some}
 use Rattle.std.specs.List.{AllByRecursion}
 use Rattle.key_script.specs.declared.keys.Event.{Event}
-use Rattle.key_script.specs.declared.keys.Event.TheVariants.{Clerk, Voter}
+use Rattle.key_script.specs.declared.keys.Event.TheVariants.{Clerk}
 use Rattle.key_script.specs.declared.keys.ClerkKey.TheVariants as clerk
 use Rattle.key_script.specs.Event.{keys_of}
 use Rattle.vote_kinds.specs.declared.choice.Choice.{Choice}

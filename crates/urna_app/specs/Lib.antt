@@ -2,4 +2,5 @@ pub mod Codes
 pub mod Command
 pub mod Documents
 pub mod Ending
+pub mod Errors
 pub mod Taking

@@ -1,10 +1,9 @@
 //! Taking and reading the files of a command.
-ghost use Rattle.std.specs.Prelude.{◌≢◌, IfOk, IfErr};
+ghost use Rattle.std.specs.Prelude.{◌≡◌, ◌≢◌, IfOk, IfErr};
 ghost use Rattle.election_tables.specs.TablesData.{IsTables};
 ghost use Rattle.urna_app.specs.Documents.{HasTables, HasRoll, HasKeys, IsFault};
+ghost use Rattle.urna_app.specs.Errors.{take_status, tables_status, roll_status};
 ghost use Rattle.urna_app.specs.Taking.{HasTaken, status_in};
-ghost use Rattle.urna_app.specs.declared.status.Doc.TheVariants as doc;
-ghost use Rattle.urna_app.specs.declared.status.Status.TheVariants as status;
 
 use crate::status::{Doc, Status};
 use election_tables::{Roll, RollError, Tables, TablesError};
@@ -18,7 +17,9 @@ const ROLL_LIMIT: u32 = 16_384;
 
 const KEYS_LIMIT: u32 = 16_777_216;
 
-fn not_taken(error: CabinetError, doc: Doc) -> Status {
+fn not_taken(error: CabinetError, doc: Doc) -> Status
+    ensures { result ≡ take_status doc error }
+{
     match error {
         CabinetError::Memory => Status::Memory,
         CabinetError::Failed => Status::Cabinet,
@@ -27,7 +28,9 @@ fn not_taken(error: CabinetError, doc: Doc) -> Status {
     }
 }
 
-fn not_tables(error: TablesError) -> Status {
+fn not_tables(error: TablesError) -> Status
+    ensures { result ≡ tables_status error }
+{
     match error {
         TablesError::Memory => Status::Memory,
         TablesError::NotToml => Status::TablesNotToml,
@@ -35,7 +38,9 @@ fn not_tables(error: TablesError) -> Status {
     }
 }
 
-fn no_roll(error: RollError) -> Status {
+fn no_roll(error: RollError) -> Status
+    ensures { result ≡ roll_status error }
+{
     match error {
         RollError::Memory => Status::Memory,
         RollError::Count => Status::RollCount,

@@ -1,3 +1,4 @@
+ghost use Rattle.std.specs.Prelude.{◌≡◌};
 ghost use Rattle.urna_app.specs.Codes.{code_of};
 
 /// A file that a command takes.

@@ -61,10 +61,10 @@ fn hold<M: Machine>(
         Err(StartError::Memory) => return Err(Status::Memory),
         Err(StartError::Port(_)) => return Err(Status::Display),
     };
-    match station.run(tables, roll, machine, script) {
-        Ok(_) => Ok(()),
-        Err(_) => Err(Status::Display),
-    }
+    let Ok(_end) = station.run(tables, roll, machine, script) else {
+        return Err(Status::Display);
+    };
+    Ok(())
 }
 
 /// The session of the files of these names: each is taken and read, and then the keys are pressed.
@@ -75,7 +75,7 @@ pub(crate) fn vota<M: Machine, C: Cabinet>(
     cabinet: &mut C,
 ) -> Result<(), Status>
     ensures { (words : List (List ℕ)) (out : List ℕ)
-        → vota_of words ≡ Some (record { tables = names.tables.now; roll = names.roll.now; keys = names.keys.now; out = out })
+        → vota_of words ≡ Some (record { tables = names.entry.tables.now; roll = names.entry.roll.now; keys = names.entry.keys.now; out = out })
         → Ends words (C.told cabinet.old) (C.told cabinet.new) (M.told machine.old) (M.told machine.new) (status_in result) }
 {
     let tables = take_tables(alloc, cabinet, names.tables)?;

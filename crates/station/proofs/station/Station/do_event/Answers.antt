@@ -1,10 +1,9 @@
-use Rattle.std.proofs.Common.{◌≡◌, List, map, length, sym, ap, subst, ◌∙◌}
+use Rattle.std.proofs.Common.{◌≡◌, List, length, sym, ap, subst, ◌∙◌}
 use Rattle.std.specs.List.{AllByRecursion}
 use Rattle.urna_outside.specs.ShownLines.{Shows}
-use Rattle.station.specs.declared.act.Act.{Act}
 use Rattle.station.specs.Setting.{setting_of}
 use Rattle.station.specs.Output.{Output}
-use Rattle.station.specs.Acts.{IsAct, act_of, outputs_of}
+use Rattle.station.specs.Acts.{IsAct, outputs_of}
 use Rattle.station.specs.Press.{press, Standing}
 use Rattle.station.specs.Text.{session_lines}
 use Rattle.station.specs.Valid.{IsStanding}

@@ -1,7 +1,6 @@
-use Rattle.std.proofs.Common.{List, ℕ, take, drop, get_or, ◌+◌}
+use Rattle.std.proofs.Common.{take, drop, get_or, ◌+◌}
 use Rattle.urna_outside.proofs.ShowingLines.{cut_within, shown_to, shows_err}
 use Rattle.turnout.specs.declared.phase.Phase.TheVariants as phase
-use Rattle.station.specs.declared.act.Act.{Act}
 use Rattle.station.specs.declared.act.Act.TheVariants.{Say}
 use Rattle.station.specs.declared.line.Line.TheVariants as line
 use Rattle.station.specs.Acts.{output_of, outputs_of}

@@ -1,4 +1,4 @@
-use Rattle.std.proofs.Common.{◌≡◌, ◌++◌, ◌∷◌, [], List, sym, subst}
+use Rattle.std.proofs.Common.{◌++◌, ◌∷◌, [], List, sym, subst}
 use Rattle.urna_outside.specs.ShownLines.{IsCutOff, HasShown}
 use Rattle.key_script.specs.declared.keys.Event.{Event}
 use Rattle.image_codec.specs.State.{State}

@@ -1,17 +1,11 @@
-use Rattle.std.proofs.Common.{◌≡◌, ◌⊎◌, inl, inr, ◌++◌, ◌∷◌, [], List, sym, ap, subst, ◌∙◌, refl}
+use Rattle.std.proofs.Common.{◌≡◌, inl, inr, ◌++◌, ◌∷◌, [], List, sym, ap, subst, ◌∙◌, refl}
 use Rattle.std.proofs.lemmas.List.{append-nil}
 use Rattle.urna_outside.specs.ShownLines.{IsCutOff, HasShown}
 use Rattle.urna_outside.proofs.ShowingLines.{cut_within, shown_to, shown_nothing}
 use Rattle.key_script.specs.declared.keys.Event.{Event}
-use Rattle.std.specs.Prelude.{All}
-use Rattle.key_script.specs.Event.{IsEvent}
 use Rattle.key_script.proofs.EventLaws.{yielded_more, event_valid}
-use Rattle.image_codec.specs.State.{State}
 use Rattle.station.specs.Setting.{setting_of}
-use Rattle.station.specs.Output.{Output}
 use Rattle.station.specs.Press.{Standing, press, after, outputs, idle_at}
-use Rattle.station.specs.Run.{IsRun}
-use Rattle.station.specs.Stands.{IsReached}
 use Rattle.station.specs.Text.{session_lines}
 use Rattle.station.proofs.Performing.{tables_setting}
 use Rattle.station.proofs.Reaching.{after_one, is_idle, lines_one, lines_rest, reached_end, reached_from}

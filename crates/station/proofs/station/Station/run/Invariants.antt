@@ -1,4 +1,4 @@
-use Rattle.std.proofs.Common.{◌≡◌, ◌⊎◌, ◌++◌, List, [], ℕ}
+use Rattle.std.proofs.Common.{◌≡◌, ◌⊎◌, ◌++◌, List, []}
 use Rattle.urna_outside.specs.ShownLines.{HasShown}
 use Rattle.urna_outside.specs.Told.{Told}
 use Rattle.election_tables.specs.TablesData.{TablesData}

@@ -3,7 +3,7 @@ use Rattle.vote_kinds.specs.declared.choice.Choice.{Choice}
 use Rattle.vote_kinds.specs.declared.choice.Choice.TheVariants.{Null}
 use Rattle.vote_kinds.specs.Ballot.{ballot_lines}
 use Rattle.vote_kinds.proofs.Lookups.{lines_length}
-use Rattle.image_codec.specs.State.{State, IsBallot, filled_up, with_ballot}
+use Rattle.image_codec.specs.State.{IsBallot, filled_up, with_ballot}
 use Rattle.station.specs.Setting.{setting_of}
 use Rattle.station.specs.Press.{Standing, idle_at}
 use Rattle.station.proofs.Choosing.{first_filled}

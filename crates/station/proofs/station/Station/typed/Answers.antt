@@ -2,17 +2,14 @@ use Rattle.std.proofs.Common.{◌≡◌, ◌∷◌, [], ◌++◌, List, length, 
 use Rattle.vote_kinds.specs.declared.choice.Choice.{Choice}
 use Rattle.vote_kinds.specs.declared.choice.Field.{Field}
 use Rattle.vote_kinds.specs.Ballot.{ballot_lines, line_of}
-use Rattle.voter_term.specs.declared.panel.Shown.TheVariants as shown
-use Rattle.voter_term.specs.Panel.{next_shown}
 use Rattle.clerk_term.specs.declared.replies.Mode.{Mode}
 use Rattle.clerk_term.specs.declared.replies.Mode.TheVariants.{Voting}
 use Rattle.image_codec.specs.State.{AreFirst}
 use Rattle.station.specs.Setting.{setting_of}
-use Rattle.station.specs.Output.{line_at, earlier_for, screen_line}
+use Rattle.station.specs.Output.{line_at, screen_line}
 use Rattle.station.specs.Acts.{act_of}
 use Rattle.station.specs.Press.{Standing, Pressed, typed, goes_on}
 use Rattle.station.specs.Valid.{IsPlaced}
-use Rattle.station.specs.declared.act.Act.{Act}
 use Rattle.station.specs.declared.act.Act.TheVariants.{Say}
 use Rattle.station.specs.declared.line.Line.{Line}
 use Rattle.station.proofs.Choosing.{first_more, voted_is}

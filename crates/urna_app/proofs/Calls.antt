@@ -1,0 +1,64 @@
+-- Calls of a cabinet, some after others
+use Rattle.std.proofs.Common.{◌≡◌, ◌+◌, ◌≤◌, ℕ, zero, suc, Option, refl, ap, subst, ◌∙◌, arith}
+use Rattle.std.specs.Option.{option_map}
+use Rattle.urna_outside.specs.Told.{one_more}
+use Rattle.urna_outside.specs.Cabinet.{CabinetTold, Tally, CountsFault, CountsMissing, CountsTooLong}
+use Rattle.urna_outside.specs.declared.cabinet.CabinetError.{CabinetError}
+use Rattle.urna_outside.specs.declared.cabinet.CabinetError.TheVariants as take
+use Rattle.election_tables.specs.declared.tables.TablesError.{TablesError}
+use Rattle.election_tables.specs.declared.tables.TablesError.TheVariants as tables
+use Rattle.election_tables.specs.declared.roll.RollError.{RollError}
+use Rattle.election_tables.specs.declared.roll.RollError.TheVariants as roll
+use Rattle.urna_app.specs.Errors.{take_status, tables_status, roll_status}
+use Rattle.urna_app.specs.Taking.{HasTaken, CountsFor, calls_after}
+use Rattle.urna_app.specs.declared.status.Doc.{Doc}
+use Rattle.urna_app.specs.declared.status.Status.{Status}
+use Rattle.urna_app.specs.declared.status.Status.TheVariants as status
+
+calls_more : (m n : ℕ) (calls : Option ℕ) → calls_after n (calls_after m calls) ≡ calls_after (m + n) calls
+calls_more zero n calls = let none : n ≡ 0 + n = omega arith in ap (λ (k : ℕ). calls_after k calls) none
+calls_more (suc m) n calls =
+    let one : suc (m + n) ≡ suc m + n = omega arith in
+    calls_more m n (option_map one_more calls) ∙ ap (λ (k : ℕ). calls_after k calls) one
+
+-- one call
+pub one_call : (s : Status) (old new : CabinetTold) → new.files ≡ old.files → CountsFor s old.tally new.tally → new.calls ≡ option_map one_more old.calls → HasTaken 1 s old new
+one_call s old new files counts calls = record { files = files; counts = counts; made = 1; few = omega arith; calls = calls }
+
+-- calls without a fault, and then more calls
+pub taken_more : (a b : ℕ) (s : Status) (x y z : CabinetTold) → HasTaken a status.Done x y → HasTaken b s y z → HasTaken (a + b) s x z
+taken_more a b s x y z first second =
+    record {
+      files = second.files ∙ first.files;
+      counts = subst (λ (t : Tally). CountsFor s t z.tally) first.counts second.counts;
+      made = first.made + second.made;
+      few = omega (arith, first.few, second.few);
+      calls = second.calls ∙ (ap (calls_after second.made) first.calls ∙ calls_more first.made second.made x.calls);
+    }
+
+-- fewer calls are within more
+pub taken_within : (a b : ℕ) (s : Status) (x y : CabinetTold) → a ≤ b → HasTaken a s x y → HasTaken b s x y
+taken_within a b s x y le h = record { files = h.files; counts = h.counts; made = h.made; few = omega (arith, h.few, le); calls = h.calls }
+
+-- no call
+pub taken_none : (s : Status) (x : CabinetTold) → CountsFor s x.tally x.tally → HasTaken 3 s x x
+taken_none s x counts = record { files = refl; counts = counts; made = 0; few = omega arith; calls = refl }
+
+-- what a call that took nothing did to the counts
+pub counts_not_taken : (d : Doc) (e : CabinetError) (old new : Tally) → (e ≡ take.Memory → new ≡ old) → (e ≡ take.Failed → CountsFault old new)
+    → (e ≡ take.Missing → CountsMissing old new) → (e ≡ take.TooLong → CountsTooLong old new) → CountsFor (take_status d e) old new
+counts_not_taken d take.Memory old new memory failed missing long = memory refl
+counts_not_taken d take.Failed old new memory failed missing long = failed refl
+counts_not_taken d take.Missing old new memory failed missing long = missing refl
+counts_not_taken d take.TooLong old new memory failed missing long = long refl
+
+-- reading does nothing to the counts
+pub counts_tables : (e : TablesError) (old new : Tally) → new ≡ old → CountsFor (tables_status e) old new
+counts_tables tables.Memory old new same = same
+counts_tables tables.NotToml old new same = same
+counts_tables (tables.Rule k) old new same = same
+
+pub counts_roll : (e : RollError) (old new : Tally) → new ≡ old → CountsFor (roll_status e) old new
+counts_roll roll.Memory old new same = same
+counts_roll roll.Count old new same = same
+counts_roll (roll.Line k) old new same = same

@@ -1,0 +1,4 @@
+mod Calls
+mod Endings
+mod Faults
+mod FiveWords
