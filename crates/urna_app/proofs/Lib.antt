@@ -2,3 +2,4 @@ mod Calls
 mod Endings
 mod Faults
 mod FiveWords
+mod Once

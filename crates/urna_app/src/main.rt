@@ -8,6 +8,7 @@ ghost use Rattle.std.specs.Prelude.{map, string_bytes};
 ghost use Rattle.urna_app.specs.Ending.{Ends};
 
 mod documents;
+mod laws;
 mod status;
 #[cfg(test)]
 mod tests;

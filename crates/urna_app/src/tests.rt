@@ -19,6 +19,28 @@ candidato = [
 secao = [{zona = 1, secao = 42, eleitores = 1}]
 "#;
 
+/// A section that also votes for the council.
+const TWO_OFFICES: &[u8] = br#"
+processo = 7
+data = 20261004
+turno = 1
+cargo = [
+  {codigo = 13, regra = "proporcional", cadeiras = 5},
+  {codigo = 11, regra = "absoluta", cadeiras = 1},
+]
+partido = [
+  {numero = 13, nome = "PA"},
+  {numero = 45, nome = "PB"},
+]
+candidato = [
+  {cargo = 13, numero = 13001, nascimento = 19700101, nome = "ANA"},
+  {cargo = 13, numero = 45001, nascimento = 19650520, nome = "BRUNO"},
+  {cargo = 11, numero = 13, nascimento = 19600303, nome = "CARLA"},
+  {cargo = 11, numero = 45, nascimento = 19751212, nome = "DAVI"},
+]
+secao = [{zona = 1, secao = 42, eleitores = 3}]
+"#;
+
 const ROLL: &[u8] = b"010000000001\n";
 
 const VISIT: &[u8] = b"M ABRE 20261004080000
@@ -124,6 +146,24 @@ fn each_status_and_what_is_shown(rt: HostRuntime) -> Result<(), Fail> {
             },
             Status::Line(1),
             4,
+            b"".as_slice(),
+        ),
+        (
+            Given {
+                tables: Some(TWO_OFFICES),
+                ..ROW
+            },
+            Status::TablesRule(0),
+            3,
+            b"".as_slice(),
+        ),
+        (
+            Given {
+                tables: Some(b"processo"),
+                ..ROW
+            },
+            Status::TablesNotToml,
+            3,
             b"".as_slice(),
         ),
         (

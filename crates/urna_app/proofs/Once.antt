@@ -1,0 +1,209 @@
+-- What is wrong with words and files is determined by them
+use Rattle.std.proofs.Common.{◌≡◌, ◌≤◌, ◌<◌, ℕ, List, length, Option, Some, None, true, false, refl, sym, ap, subst, ◌∙◌, arith, IsSomeAnd}
+use Rattle.std.specs.Option.{ForSome}
+use Rattle.std.specs.Prelude.{IsSome, MatchOption}
+use Rattle.toml.specs.Data.{Members}
+use Rattle.urna_base.specs.Lines.{lines_of}
+use Rattle.urna_outside.specs.Cabinet.{Files, file_at, Holds, HoldsLonger, Lacks}
+use Rattle.election_tables.specs.Entries.{document_of}
+use Rattle.election_tables.specs.Roll.{IsRollOf, RollData, HasBadLine, has_count}
+use Rattle.election_tables.specs.Rules.{broken_rule}
+use Rattle.election_tables.specs.Tables.{IsDocument, IsReadAs, IsNoDocument, BreaksFirst, IsNotServed}
+use Rattle.election_tables.specs.TablesData.{TablesData}
+use Rattle.key_script.specs.Script.{events_of, first_bad}
+use Rattle.key_script.proofs.ScriptLaws.{events_or_bad}
+use Rattle.key_script.specs.declared.keys.Event.{Event}
+use Rattle.urna_app.specs.Command.{Vota, vota_of}
+use Rattle.urna_app.specs.Documents.{IsTaken, IsBad, IsFault, HasTables, HasRoll, HasKeys, limit_of, lacks, longer, bad, no_document, rule, unserved, count, roll_line, line}
+use Rattle.urna_app.specs.Ending.{IsGiven, IsRefused, usage, tables, roll, keys}
+use Rattle.urna_app.specs.declared.status.Doc.{Doc}
+use Rattle.urna_app.specs.declared.status.Doc.TheVariants as doc
+use Rattle.urna_app.specs.declared.status.Status.{Status}
+use Rattle.urna_app.specs.declared.status.Status.TheVariants as status
+
+-- The documents of the same bytes
+
+no_members : (bytes : List ℕ) (ms : Members) → IsNoDocument bytes → IsDocument bytes ms → ⊥
+no_members bytes ms none h = let parsed = h.1 in let not_parsed = none h.0 in absurd (cc)
+
+same_members : (bytes : List ℕ) (ms ns : Members) → IsDocument bytes ms → IsDocument bytes ns → ms ≡ ns
+same_members bytes ms ns h k = let p = h.1 in let q = k.1 in cc
+
+same_rule : (bytes : List ℕ) (k n : ℕ) → BreaksFirst bytes k → BreaksFirst bytes n → k ≡ n
+same_rule bytes k n h i =
+    let same = same_members bytes h.members i.members h.parsed i.parsed in
+    let p = h.broken in
+    let q : broken_rule h.members ≡ Some n = subst (λ (ms : Members). broken_rule ms ≡ Some n) (sym same) i.broken in
+    cc
+
+broken_not_kept : (bytes : List ℕ) (k : ℕ) (ms : Members) → BreaksFirst bytes k → IsDocument bytes ms → broken_rule ms ≡ None → ⊥
+broken_not_kept bytes k ms h parsed kept =
+    let same = same_members bytes h.members ms h.parsed parsed in
+    let p = h.broken in
+    let q : broken_rule h.members ≡ None = subst (λ (ns : Members). broken_rule ns ≡ None) (sym same) kept in
+    absurd (cc)
+
+-- What is wrong with a document
+
+bad_tables : (bytes : List ℕ) (s t : Status) → IsBad doc.Tables bytes s → IsBad doc.Tables bytes t → s ≡ t
+bad_tables bytes s t (no_document h) (no_document i) = refl
+bad_tables bytes s t (no_document h) (rule one i) = absurd (no_members bytes i.members h i.parsed)
+bad_tables bytes s t (no_document h) (unserved i) = absurd (no_members bytes i.members h i.parsed)
+bad_tables bytes s t (rule one h) (no_document i) = absurd (no_members bytes h.members i h.parsed)
+bad_tables bytes s t (rule {k} one h) (rule {k = n} other i) = ap status.TablesRule (same_rule bytes k n h i)
+bad_tables bytes s t (rule {k} one h) (unserved i) = absurd (broken_not_kept bytes k i.members h i.parsed i.kept)
+bad_tables bytes s t (unserved h) (no_document i) = absurd (no_members bytes h.members i h.parsed)
+bad_tables bytes s t (unserved h) (rule {k} one i) = absurd (broken_not_kept bytes k h.members i h.parsed h.kept)
+bad_tables bytes s t (unserved h) (unserved i) = refl
+
+bad_roll : (bytes : List ℕ) (s t : Status) → IsBad doc.Roll bytes s → IsBad doc.Roll bytes t → s ≡ t
+bad_roll bytes s t (count h) (count i) = refl
+bad_roll bytes s t (count h) (roll_line i) = let p = i.count in absurd (cc)
+bad_roll bytes s t (roll_line h) (count i) = let p = h.count in absurd (cc)
+bad_roll bytes s t (roll_line {k} h) (roll_line {k = n} i) =
+    let p = h.bad in
+    let q = i.bad in
+    let same : k ≡ n = cc in
+    ap status.RollLine same
+
+bad_keys : (bytes : List ℕ) (s t : Status) → IsBad doc.Keys bytes s → IsBad doc.Keys bytes t → s ≡ t
+bad_keys bytes s t (line {k} h) (line {k = n} i) = let same : k ≡ n = cc in ap status.Line same
+
+bad_once : (d : Doc) (bytes : List ℕ) (s t : Status) → IsBad d bytes s → IsBad d bytes t → s ≡ t
+bad_once doc.Tables bytes s t h i = bad_tables bytes s t h i
+bad_once doc.Roll bytes s t h i = bad_roll bytes s t h i
+bad_once doc.Keys bytes s t h i = bad_keys bytes s t h i
+
+-- A file of a name
+
+lacks_not_held : (files : Files) (name bytes : List ℕ) → ForSome (Some files) (Lacks name) → ForSome (Some files) (Holds name bytes) → ⊥
+lacks_not_held files name bytes none held = let p = none files refl in let q = held files refl in absurd (cc)
+
+long_is_long : (found : Option (List ℕ)) (limit : ℕ) → IsSomeAnd found (λ (bytes : List ℕ). limit < length bytes) → found ≡ None → ⊥
+long_is_long None limit h e = absurd h
+long_is_long (Some bytes) limit h e = absurd (cc)
+
+long_not_short : (found : Option (List ℕ)) (limit : ℕ) (bytes : List ℕ) → IsSomeAnd found (λ (read : List ℕ). limit < length read) → found ≡ Some bytes → length bytes ≤ limit → ⊥
+long_not_short None limit bytes h e short = absurd h
+long_not_short (Some read) limit bytes h e short =
+    let same : read ≡ bytes = cc in
+    let small : length read ≤ limit = subst (λ (b : List ℕ). length b ≤ limit) (sym same) short in
+    absurd (omega (arith, h, small))
+
+lacks_not_longer : (files : Files) (name : List ℕ) (limit : ℕ) → ForSome (Some files) (Lacks name) → ForSome (Some files) (HoldsLonger name limit) → ⊥
+lacks_not_longer files name limit none long = long_is_long (file_at name files) limit (long files refl) (none files refl)
+
+lacks_not_taken : (files : Files) (d : Doc) (name bytes : List ℕ) → ForSome (Some files) (Lacks name) → IsTaken (Some files) d name bytes → ⊥
+lacks_not_taken files d name bytes none taken = lacks_not_held files name bytes none taken.held
+
+longer_not_taken : (files : Files) (d : Doc) (name bytes : List ℕ) → ForSome (Some files) (HoldsLonger name (limit_of d)) → IsTaken (Some files) d name bytes → ⊥
+longer_not_taken files d name bytes long taken = long_not_short (file_at name files) (limit_of d) bytes (long files refl) (taken.held files refl) taken.short
+
+same_bytes : (files : Files) (d : Doc) (name a b : List ℕ) → IsTaken (Some files) d name a → IsTaken (Some files) d name b → a ≡ b
+same_bytes files d name a b h i = let p = h.held files refl in let q = i.held files refl in cc
+
+fault_once : (files : Files) (name : List ℕ) (d : Doc) (s t : Status) → IsFault (Some files) name d s → IsFault (Some files) name d t → s ≡ t
+fault_once files name d s t (lacks h) (lacks i) = refl
+fault_once files name d s t (lacks h) (longer i) = absurd (lacks_not_longer files name (limit_of d) h i)
+fault_once files name d s t (lacks h) (bad {bytes} taken i) = absurd (lacks_not_taken files d name bytes h taken)
+fault_once files name d s t (longer h) (lacks i) = absurd (lacks_not_longer files name (limit_of d) i h)
+fault_once files name d s t (longer h) (longer i) = refl
+fault_once files name d s t (longer h) (bad {bytes} taken i) = absurd (longer_not_taken files d name bytes h taken)
+fault_once files name d s t (bad {bytes} taken h) (lacks i) = absurd (lacks_not_taken files d name bytes i taken)
+fault_once files name d s t (bad {bytes} taken h) (longer i) = absurd (longer_not_taken files d name bytes i taken)
+fault_once files name d s t (bad {bytes} taken h) (bad {bytes = other} again i) =
+    bad_once d bytes s t h (subst (λ (b : List ℕ). IsBad d b t) (sym (same_bytes files d name bytes other taken again)) i)
+
+-- A document that is at fault holds nothing
+
+bad_not_tables : (bytes : List ℕ) (s : Status) (t : TablesData) → IsBad doc.Tables bytes s → IsReadAs bytes t → ⊥
+bad_not_tables bytes s t (no_document h) read = no_members bytes read.members h read.parsed
+bad_not_tables bytes s t (rule {k} one h) read = broken_not_kept bytes k read.members h read.parsed read.kept
+bad_not_tables bytes s t (unserved h) read =
+    let same = same_members bytes h.members read.members h.parsed read.parsed in
+    let p = h.unserved in
+    let q = read.served in
+    absurd (cc)
+
+bad_not_roll : (bytes : List ℕ) (s : Status) (r : RollData) → IsBad doc.Roll bytes s → IsRollOf bytes r → ⊥
+bad_not_roll bytes s r (count h) read = let p = read.count in absurd (cc)
+bad_not_roll bytes s r (roll_line h) read = let p = h.bad in let q = read.lines in absurd (cc)
+
+tables_not_fault : (files : Files) (name : List ℕ) (s : Status) (t : TablesData) → IsFault (Some files) name doc.Tables s → HasTables (Some files) name t → ⊥
+tables_not_fault files name s t (lacks h) has = lacks_not_taken files doc.Tables name has.bytes h has.taken
+tables_not_fault files name s t (longer h) has = longer_not_taken files doc.Tables name has.bytes h has.taken
+tables_not_fault files name s t (bad {bytes} taken h) has =
+    bad_not_tables has.bytes s t (subst (λ (b : List ℕ). IsBad doc.Tables b s) (same_bytes files doc.Tables name bytes has.bytes taken has.taken) h) has.read
+
+roll_not_fault : (files : Files) (name : List ℕ) (s : Status) (r : RollData) → IsFault (Some files) name doc.Roll s → HasRoll (Some files) name r → ⊥
+roll_not_fault files name s r (lacks h) has = lacks_not_taken files doc.Roll name has.bytes h has.taken
+roll_not_fault files name s r (longer h) has = longer_not_taken files doc.Roll name has.bytes h has.taken
+roll_not_fault files name s r (bad {bytes} taken h) has =
+    bad_not_roll has.bytes s r (subst (λ (b : List ℕ). IsBad doc.Roll b s) (same_bytes files doc.Roll name bytes has.bytes taken has.taken) h) has.read
+
+-- The words and the files
+
+same_names : (words : List (List ℕ)) (a b : Vota) → vota_of words ≡ Some a → vota_of words ≡ Some b → a ≡ b
+same_names words a b h i = cc
+
+not_usage : (words : List (List ℕ)) (a : Vota) → vota_of words ≡ None → vota_of words ≡ Some a → ⊥
+not_usage words a h i = absurd (cc)
+
+no_usage : (files : Files) (words : List (List ℕ)) (s : Status) → IsRefused (Some files) words s → vota_of words ≡ None → s ≡ status.Usage
+no_usage files words s (usage none) e = refl
+no_usage files words s (tables found h) e = absurd (cc)
+no_usage files words s (roll found has h) e = absurd (cc)
+no_usage files words s (keys found has read h) e = absurd (cc)
+
+-- the refusals of words with these names
+data RefusedAt (files : Files) (a : Vota) : Status → Type 0 where
+  at_tables : {s : Status} → IsFault (Some files) a.tables doc.Tables s → RefusedAt files a s
+  at_roll : {t : TablesData} {s : Status} → HasTables (Some files) a.tables t → IsFault (Some files) a.roll doc.Roll s → RefusedAt files a s
+  at_keys : {t : TablesData} {r : RollData} {s : Status} → HasTables (Some files) a.tables t → HasRoll (Some files) a.roll r
+      → IsFault (Some files) a.keys doc.Keys s → RefusedAt files a s
+
+refused_at : (files : Files) (words : List (List ℕ)) (a : Vota) (s : Status) → vota_of words ≡ Some a → IsRefused (Some files) words s → RefusedAt files a s
+refused_at files words a s at (usage none) = absurd (cc)
+refused_at files words a s at (tables {names} found h) = subst (λ (n : Vota). RefusedAt files n s) (same_names words names a found at) (at_tables h)
+refused_at files words a s at (roll {names} found has h) = subst (λ (n : Vota). RefusedAt files n s) (same_names words names a found at) (at_roll has h)
+refused_at files words a s at (keys {names} found has read h) = subst (λ (n : Vota). RefusedAt files n s) (same_names words names a found at) (at_keys has read h)
+
+once_at : (files : Files) (a : Vota) (s u : Status) → RefusedAt files a s → RefusedAt files a u → s ≡ u
+once_at files a s u (at_tables h) (at_tables i) = fault_once files a.tables doc.Tables s u h i
+once_at files a s u (at_tables h) (at_roll {t} has i) = absurd (tables_not_fault files a.tables s t h has)
+once_at files a s u (at_tables h) (at_keys {t} has read i) = absurd (tables_not_fault files a.tables s t h has)
+once_at files a s u (at_roll {t} has h) (at_tables i) = absurd (tables_not_fault files a.tables u t i has)
+once_at files a s u (at_roll has h) (at_roll also i) = fault_once files a.roll doc.Roll s u h i
+once_at files a s u (at_roll has h) (at_keys {r} also read i) = absurd (roll_not_fault files a.roll s r h read)
+once_at files a s u (at_keys {t} has read h) (at_tables i) = absurd (tables_not_fault files a.tables u t i has)
+once_at files a s u (at_keys {r} has read h) (at_roll also i) = absurd (roll_not_fault files a.roll u r i read)
+once_at files a s u (at_keys has read h) (at_keys also seen i) = fault_once files a.keys doc.Keys s u h i
+
+once_from : (files : Files) (words : List (List ℕ)) (s u : Status) (found : Option Vota) → vota_of words ≡ found → IsRefused (Some files) words s → IsRefused (Some files) words u → s ≡ u
+once_from files words s u None e h i = no_usage files words s h e ∙ sym (no_usage files words u i e)
+once_from files words s u (Some a) e h i = once_at files a s u (refused_at files words a s e h) (refused_at files words a u e i)
+
+pub refused_once : (files : Files) (words : List (List ℕ)) (s u : Status) → IsRefused (Some files) words s → IsRefused (Some files) words u → s ≡ u
+refused_once files words s u h i = once_from files words s u (vota_of words) refl h i
+
+keys_not_fault : (files : Files) (name : List ℕ) (s : Status) (es : List Event) → IsFault (Some files) name doc.Keys s → HasKeys (Some files) name es → ⊥
+keys_not_fault files name s es (lacks h) has = lacks_not_taken files doc.Keys name has.bytes h has.taken
+keys_not_fault files name s es (longer h) has = longer_not_taken files doc.Keys name has.bytes h has.taken
+keys_not_fault files name s es (bad {bytes} taken (line {k} h)) has =
+    let same = same_bytes files doc.Keys name bytes has.bytes taken has.taken in
+    let none : events_of has.bytes ≡ None =
+    subst (λ (o : Option ℕ). MatchOption o (IsSome (events_of has.bytes)) (λ _. events_of has.bytes ≡ None))
+    (subst (λ (b : List ℕ). first_bad b ≡ Some k) same h) (events_or_bad has.bytes) in
+    let some = has.read in
+    absurd (cc)
+
+not_given_at : (files : Files) (a : Vota) (s : Status) (t : TablesData) (r : RollData) (es : List Event) → RefusedAt files a s
+    → HasTables (Some files) a.tables t → HasRoll (Some files) a.roll r → HasKeys (Some files) a.keys es → ⊥
+not_given_at files a s t r es (at_tables h) first second third = tables_not_fault files a.tables s t h first
+not_given_at files a s t r es (at_roll has h) first second third = roll_not_fault files a.roll s r h second
+not_given_at files a s t r es (at_keys has read h) first second third = keys_not_fault files a.keys s es h third
+
+pub refused_or_given : (files : Files) (words : List (List ℕ)) (s : Status) (t : TablesData) (r : RollData) (es : List Event) → IsRefused (Some files) words s
+    → IsGiven (Some files) words t r es → ⊥
+refused_or_given files words s t r es h given =
+    not_given_at files given.names s t r es (refused_at files words given.names s given.vota h) given.tables given.roll given.keys
