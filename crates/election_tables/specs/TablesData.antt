@@ -97,7 +97,7 @@ pub record IsSection (s : Section) : Type 0 where
   pub number : (1 ≤ s.number) × (s.number ≤ 9999)
   pub voters : (1 ≤ s.voters) × (s.voters ≤ 600)
 
--- the tables have what the rules of the document ask for
+-- What is so of all tables, by the rules of their document: the ranges, the orders and the parties of candidates.
 pub record IsTables (t : TablesData) : Type 0 where
   pub process : (1 ≤ t.process) × (t.process ≤ 99999)
   pub date : IsTrue (is_date t.date)

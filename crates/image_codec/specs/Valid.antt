@@ -32,7 +32,8 @@ IsStarted (phase.Sealed opened closed) n = Unit {0}
 abbrev pub AreFull : ℕ → List (List Choice) → Type 0
 AreFull n bags = AllByRecursion (λ bag. length bag ≡ n) bags
 
--- A state that can be: its moments are moments, a ready state is empty, and each panel has a bag of the votes of those who came.
+-- What is so of each state of a poll: its moments are moments, in a ready state nobody came, and each bag is in the order of
+-- choices and has as many votes as voters came.
 pub record IsValid (s : State) : Type 0 where
   pub moments : HasMoments s.phase
   pub started : IsStarted s.phase (number_came s.came)

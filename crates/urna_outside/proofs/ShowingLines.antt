@@ -1,7 +1,7 @@
 -- Lines that are shown, some after others
-use Rattle.std.proofs.Common.{◌≡◌, ℕ, List, [], ◌∷◌, ◌++◌, map, Result, Err, Ok, OnOk, OnErr, IsErr, true, false, inl, inr, refl, sym, ap, subst, ◌∙◌, append_assoc}
+use Rattle.std.proofs.Common.{◌≡◌, ℕ, List, [], ◌∷◌, ◌++◌, Result, Err, Ok, OnOk, OnErr, IsErr, inl, inr, refl, sym, ap, subst, ◌∙◌}
 use Rattle.std.specs.List.{concat}
-use Rattle.urna_outside.specs.Flash.{Op, Show, shown_by}
+use Rattle.urna_outside.specs.Flash.{Op, Show}
 use Rattle.urna_outside.specs.Told.{Told, Does, Runs, Counts, IsCalled, IsTornShow}
 use Rattle.urna_outside.specs.Shows.{ShowsText, ShowsFront}
 use Rattle.urna_outside.specs.ShownLines.{shows, IsCutShort, HasShown, IsCutOff, Shows, FaultsAt}

@@ -89,11 +89,11 @@ IsCalled result old new = new.calls ≡ option_map (calls_after (is_ok result)) 
 abbrev pub failures_of : Calls → ℕ × Option ℕ
 failures_of calls = (calls.failed, calls.last_failed)
 
--- some calls were made or none, and each ended well
+-- As far as calls are told, none failed: how many failed and which failed last is as before.
 abbrev pub WithoutFault : Told → Told → Type 0
 WithoutFault old new = option_map failures_of new.calls ≡ option_map failures_of old.calls
 
--- Calls that ended well were made or none, then one that failed, and none after it.
+-- As far as calls are told, the last of them failed, and none before it did.
 pub record StopsAtFault (old new : Told) : Type 0 where
   pub before : Option Calls
   pub without_fault : option_map failures_of before ≡ option_map failures_of old.calls

@@ -27,4 +27,4 @@ pub use folder_cabinet::FolderCabinet;
 pub use machine::Machine;
 pub use recorder::Recorder;
 pub use shelf::Shelf;
-pub use show::show_line;
+pub use show::{lines_show_their_text, show_line};

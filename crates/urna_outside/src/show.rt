@@ -1,5 +1,8 @@
-ghost use Rattle.std.specs.Prelude.{[], ◌∷◌};
-ghost use Rattle.urna_outside.specs.ShownLines.{Shows};
+ghost use Rattle.std.specs.Prelude.{ℕ, List, [], ◌∷◌};
+ghost use Rattle.std.specs.List.{concat};
+ghost use Rattle.urna_outside.specs.Flash.{Op};
+ghost use Rattle.urna_outside.specs.ShownLines.{IsCutShort, Shows, shows};
+ghost use Rattle.urna_outside.specs.Shows.{ShowsFront, ShowsText};
 
 use crate::{Failed, Machine};
 
@@ -10,3 +13,9 @@ pub fn show_line<M: Machine>(machine: &mut M, line: &[u8]) -> Result<(), Failed>
 {
     machine.show(line)
 }
+
+/// Law of shown lines: together they show their text, and where they are cut short, a front of it.
+pub fn lines_show_their_text()
+    ensures whole { (lines : List (List ℕ)) → ShowsText (concat lines) (shows lines) }
+    ensures cut { (lines : List (List ℕ)) (ops : List Op) → IsCutShort lines ops → ShowsFront (concat lines) ops }
+{}
