@@ -41,7 +41,7 @@ pub taken_within : (a b : ℕ) (s : Status) (x y : CabinetTold) → a ≤ b → 
 taken_within a b s x y le h = record { files = h.files; counts = h.counts; made = h.made; few = omega (arith, h.few, le); calls = h.calls }
 
 -- no call
-pub taken_none : (s : Status) (x : CabinetTold) → CountsFor s x.tally x.tally → HasTaken 3 s x x
+pub taken_none : (s : Status) (x : CabinetTold) → CountsFor s x.tally x.tally → HasTaken 0 s x x
 taken_none s x counts = record { files = refl; counts = counts; made = 0; few = omega arith; calls = refl }
 
 -- what a call that took nothing did to the counts

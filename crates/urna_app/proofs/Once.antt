@@ -1,14 +1,12 @@
 -- What is wrong with words and files is determined by them
-use Rattle.std.proofs.Common.{◌≡◌, ◌≤◌, ◌<◌, ℕ, List, length, Option, Some, None, true, false, refl, sym, ap, subst, ◌∙◌, arith, IsSomeAnd}
+use Rattle.std.proofs.Common.{◌≡◌, ◌≤◌, ◌<◌, ℕ, List, length, Option, Some, None, refl, sym, ap, subst, ◌∙◌, arith, IsSomeAnd}
 use Rattle.std.specs.Option.{ForSome}
 use Rattle.std.specs.Prelude.{IsSome, MatchOption}
 use Rattle.toml.specs.Data.{Members}
-use Rattle.urna_base.specs.Lines.{lines_of}
 use Rattle.urna_outside.specs.Cabinet.{Files, file_at, Holds, HoldsLonger, Lacks}
-use Rattle.election_tables.specs.Entries.{document_of}
-use Rattle.election_tables.specs.Roll.{IsRollOf, RollData, HasBadLine, has_count}
+use Rattle.election_tables.specs.Roll.{IsRollOf, RollData}
 use Rattle.election_tables.specs.Rules.{broken_rule}
-use Rattle.election_tables.specs.Tables.{IsDocument, IsReadAs, IsNoDocument, BreaksFirst, IsNotServed}
+use Rattle.election_tables.specs.Tables.{IsDocument, IsReadAs, IsNoDocument, BreaksFirst}
 use Rattle.election_tables.specs.TablesData.{TablesData}
 use Rattle.key_script.specs.Script.{events_of, first_bad}
 use Rattle.key_script.proofs.ScriptLaws.{events_or_bad}

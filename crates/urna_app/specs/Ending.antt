@@ -48,10 +48,13 @@ pub record IsSession (t : TablesData) (r : RollData) (es : List Event) (lines : 
 
 -- How vota ends, by what the cabinet and the machine told before and after.
 pub data Ends (words : List (List ℕ)) (c d : CabinetTold) (m n : Told) : Status → Type 0 where
-  -- The words or a document are at fault, memory was wanted, or the cabinet failed: nothing is shown.
-  refused : {s : Status} → IsRefused c.files words s → HasTaken 3 s c d → HasShown [] m n → Ends words c d m n s
-  no_memory : HasTaken 3 status.Memory c d → HasShown [] m n → Ends words c d m n status.Memory
-  no_cabinet : HasTaken 3 status.Cabinet c d → HasShown [] m n → Ends words c d m n status.Cabinet
+  -- The words are no command: no call is made.
+  no_command : vota_of words ≡ None → HasTaken 0 status.Usage c d → HasShown [] m n → Ends words c d m n status.Usage
+  -- A document is at fault, memory was wanted, or the cabinet failed: nothing is shown.
+  refused : {names : Vota} {s : Status} → vota_of words ≡ Some names → IsRefused c.files words s → HasTaken 3 s c d → HasShown [] m n
+      → Ends words c d m n s
+  no_memory : {names : Vota} → vota_of words ≡ Some names → HasTaken 3 status.Memory c d → HasShown [] m n → Ends words c d m n status.Memory
+  no_cabinet : {names : Vota} → vota_of words ≡ Some names → HasTaken 3 status.Cabinet c d → HasShown [] m n → Ends words c d m n status.Cabinet
   -- The display failed in the lines of the session.
   no_display : {t : TablesData} {r : RollData} {es : List Event} {lines : List (List ℕ)} → IsGiven c.files words t r es → IsSession t r es lines
       → HasTaken 3 status.Display c d → IsCutOff lines m n → Ends words c d m n status.Display

@@ -22,7 +22,7 @@ use std::{env, io};
 use urna_outside::{Cabinet, FileMachine, FolderCabinet, Machine};
 use vota::{names_in, vota};
 
-/// The bytes of each flash: two slots of a header and a body of 64 KiB, after a page of their own.
+/// The bytes of each flash: a header of 512, and two slots of a gate with its padding, 512, and a body of 65,536.
 const DEVICE_SIZE: u32 = 132_608;
 
 /// The status where the program's words can't be had, which no command has.

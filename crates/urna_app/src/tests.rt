@@ -111,7 +111,7 @@ fn run(rt: &HostRuntime, given: Given) -> Result<(Status, Recorder), Fail> {
     for word in given.words {
         words.push(String::from_str(alloc, word)?)?;
     }
-    let mut shelf = Shelf::new(alloc, 8_192, given.failing_takes)?;
+    let mut shelf = Shelf::new(alloc, 32_768, given.failing_takes)?;
     place(&mut shelf, "t", given.tables)?;
     place(&mut shelf, "r", given.roll)?;
     place(&mut shelf, "k", given.keys)?;
@@ -127,7 +127,7 @@ const NO_FORM: &[u8] = b"E 1X
 ";
 
 #[test]
-fn each_status_and_what_is_shown(rt: HostRuntime) -> Result<(), Fail> {
+fn statuses_and_what_is_shown(rt: HostRuntime) -> Result<(), Fail> {
     let rows = [
         (ROW, Status::Done, 0, VISIT_SHOWN),
         (
@@ -170,6 +170,24 @@ fn each_status_and_what_is_shown(rt: HostRuntime) -> Result<(), Fail> {
             Given { roll: None, ..ROW },
             Status::Missing(Doc::Roll),
             12,
+            b"".as_slice(),
+        ),
+        (
+            Given {
+                roll: Some(&[b'0'; 16_385]),
+                ..ROW
+            },
+            Status::TooLong(Doc::Roll),
+            5,
+            b"".as_slice(),
+        ),
+        (
+            Given {
+                roll: Some(b"010000000001\n010000000001\n"),
+                ..ROW
+            },
+            Status::RollLine(2),
+            3,
             b"".as_slice(),
         ),
         (

@@ -17,7 +17,7 @@ returns-in_err-tables g c words out found =
     let m = g.M.Machine.told c.args.machine.now in
     let s = c.in_err-tables.field-0.0 in
     subst (Ends words x y m m) (sym (passed_on c.from_residual.result s c.from_residual.ensures.1 (λ e h. h)))
-    (fault_ends words x y m s (λ memory failed. tables found (c.in_err-tables.ensures.fault memory failed))
+    (fault_ends words x y m s (record { tables = c.args.names.tables.now; roll = c.args.names.roll.now; keys = c.args.names.keys.now; out = out }) found (λ memory failed. tables found (c.in_err-tables.ensures.fault memory failed))
     (taken_within 1 3 s x y (omega arith) c.in_err-tables.ensures.taken) (shown_nothing m))
 
 pub returns-in_err-roll : goal.returns-in_err-roll
@@ -30,7 +30,7 @@ returns-in_err-roll g c words out found =
     let first : HasTaken 1 status.Done x y = c.in_ok-tables.ensures.taken in
     let second : HasTaken 1 s y z = c.in_err-roll.ensures.taken in
     subst (Ends words x z m m) (sym (passed_on c.from_residual-in_err-roll.result s c.from_residual-in_err-roll.ensures.1 (λ e h. h)))
-    (fault_ends words x z m s
+    (fault_ends words x z m s (record { tables = c.args.names.tables.now; roll = c.args.names.roll.now; keys = c.args.names.keys.now; out = out }) found
     (λ memory failed. roll found c.in_ok-tables.ensures.tables
     (subst (λ (fs : Option Files). IsFault fs c.args.names.roll.now doc.Roll s) first.files (c.in_err-roll.ensures.fault memory failed)))
     (taken_within 2 3 s x z (omega arith) (taken_more 1 1 s x y z first second)) (shown_nothing m))
@@ -47,7 +47,7 @@ returns-in_err-script g c words out found =
     let second : HasTaken 1 status.Done y z = c.in_ok-roll.ensures.taken in
     let third : HasTaken 1 s z w = c.in_err-script.ensures.taken in
     subst (Ends words x w m m) (sym (passed_on c.from_residual-in_err-script.result s c.from_residual-in_err-script.ensures.1 (λ e h. h)))
-    (fault_ends words x w m s
+    (fault_ends words x w m s (record { tables = c.args.names.tables.now; roll = c.args.names.roll.now; keys = c.args.names.keys.now; out = out }) found
     (λ memory failed. keys found c.in_ok-tables.ensures.tables
     (subst (λ (fs : Option Files). HasRoll fs c.args.names.roll.now c.in_ok-roll.roll) first.files c.in_ok-roll.ensures.roll)
     (subst (λ (fs : Option Files). IsFault fs c.args.names.keys.now doc.Keys s) (second.files ∙ first.files) (c.in_err-script.ensures.fault memory failed)))
