@@ -31,6 +31,10 @@ pub record TablesData : Type 0 where
 abbrev pub candidates_at : ℕ → TablesData → List NamedCandidate
 candidates_at panel t = option_map_or (λ p. p.candidates) (slice_get t.panels panel) []
 
+-- how many votes each voter has in a panel
+abbrev pub places_at : TablesData → ℕ → ℕ
+places_at t panel = 1
+
 -- what `candidate` tells of a candidate
 abbrev pub without_name : NamedCandidate → Candidate
 without_name c = record { number = c.number; birth = c.birth }

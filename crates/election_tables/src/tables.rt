@@ -6,7 +6,7 @@ ghost use Rattle.election_tables.specs.Fields.{is_name};
 ghost use Rattle.election_tables.specs.Rules.{broken_rule, first_broken, is_served, typed_rules};
 ghost use Rattle.election_tables.specs.Tables.{AreTablesOf, BreaksFirst, IsNoDocument, IsNotServed, IsReadAs, IsServed};
 ghost use Rattle.election_tables.specs.Verdict.{IsAnswerFor};
-ghost use Rattle.election_tables.specs.TablesData.{TablesData, IsOffice, IsTables, candidate_name, candidates_at, party_name, section_with, without_name};
+ghost use Rattle.election_tables.specs.TablesData.{TablesData, IsOffice, IsTables, candidate_name, candidates_at, party_name, places_at, section_with, without_name};
 
 mod candidates;
 mod panels;
@@ -182,6 +182,14 @@ impl Tables {
         ensures digits { (2 ≤ result.digits) × (result.digits ≤ 5) }
     {
         self.panels[panel as usize].office
+    }
+
+    /// How many votes each voter has in a panel.
+    pub fn places(&self, panel: u32) -> u32
+        requires { panel < length self.now.panels }
+        ensures { result ≡ places_at self.now panel }
+    {
+        1
     }
 
     /// How many parties there are.
