@@ -1,10 +1,11 @@
 -- The first broken rule of a list in two parts.
-use Rattle.std.proofs.Common.{◌≡◌, ℕ, zero, suc, ◌+◌, ◌<◌, ◌≤◌, slice_get, Bool, true, false, List, [], ◌∷◌, ◌++◌, length, Option, Some, None, refl, arith, ap, sym, ◌∙◌}
+use Rattle.std.proofs.Common.{◌≡◌, ℕ, suc, ◌+◌, ◌-◌, ◌<◌, ◌≤◌, slice_get, Bool, true, false, List, [], ◌∷◌, ◌++◌, length, Option, Some, None, refl, arith, ap, sym, ◌∙◌, inl, inr}
 use Rattle.std.specs.List.{AllByRecursion}
-use Rattle.election_tables.specs.Rules.{first_broken, shape_rules, typed_rules, rules, broken_rule, is_served}
+use Rattle.std.proofs.lemmas.Bool.{cases_lt}
+use Rattle.election_tables.specs.Rules.{first_broken, shape_rules, typed_rules, rules, broken_rule}
 use Rattle.election_tables.specs.Entries.{document_of}
 use Rattle.election_tables.specs.DocumentData.{DocumentData}
-use Rattle.election_tables.specs.Verdict.{fault_of, or_unserved}
+use Rattle.election_tables.specs.Laws.{IsFirstBroken, RuleHolds}
 use Rattle.toml.specs.Data.{Members}
 
 pub broken_front : (n : ℕ) (xs ys : List Bool) (k : ℕ) → first_broken n xs ≡ Some k → first_broken n (xs ++ ys) ≡ Some k
@@ -27,86 +28,107 @@ pub broken_by_shape : (ms : Members) (k : ℕ) → first_broken 1 (shape_rules m
 unfolding broken_rule rules
 broken_by_shape ms k e = broken_front 1 (shape_rules ms) (typed_rules (document_of ms)) k e
 
-pub broken_by_entries : (ms : Members) (d : DocumentData) → first_broken 1 (shape_rules ms) ≡ None → d ≡ document_of ms → broken_rule ms ≡ first_broken 4 (typed_rules d)
+pub broken_by_entries : (ms : Members) (d : DocumentData) (r : Option ℕ) → first_broken 1 (shape_rules ms) ≡ None → d ≡ document_of ms
+    → first_broken 4 (typed_rules d) ≡ r → broken_rule ms ≡ r
 unfolding broken_rule rules shape_rules
-broken_by_entries ms d e same = rw same (broken_back 1 (shape_rules ms) (typed_rules (document_of ms)) 4 e refl)
+broken_by_entries ms d r e same first =
+    broken_back 1 (shape_rules ms) (typed_rules (document_of ms)) 4 e refl ∙ ap (λ x. first_broken 4 (typed_rules x)) (sym same) ∙ first
 
--- the number is that of the first test that fails
-pub first_broken_at : (n i m : ℕ) (rs : List Bool) → m ≡ n + i → slice_get rs i ≡ Some false → ((j : ℕ) → j < i → slice_get rs j ≡ Some true) → first_broken n rs ≡ Some m
-first_broken_at n i m [] e here before = cc
-first_broken_at n zero m (true ∷ rs) e here before = cc
-first_broken_at n zero m (false ∷ rs) e here before = let same : n ≡ m = omega arith in ap Some same
-first_broken_at n (suc i) m (true ∷ rs) e here before = first_broken_at (n + 1) i m rs (omega arith) here (λ j h. before (suc j) (omega arith))
-first_broken_at n (suc i) m (false ∷ rs) e here before = let first = before 0 (omega arith) in cc
+-- ---- the first of some tests that fails
 
--- the number of a broken rule is at least that of the first
-pub broken_at_least : (n : ℕ) (rs : List Bool) (k : ℕ) → first_broken n rs ≡ Some k → n ≤ k
-broken_at_least n [] k e = cc
-broken_at_least n (true ∷ rs) k e = omega (arith, broken_at_least (n + 1) rs k e)
-broken_at_least n (false ∷ rs) k e = let same : n ≡ k = cc in omega arith
+-- it is one of them, it fails, and each before it holds
+record FailsFirst (n k : ℕ) (rs : List Bool) : Type 0 where
+  low : n ≤ k
+  high : k < n + length rs
+  fails : slice_get rs (k - n) ≡ Some false
+  before : (j : ℕ) → n ≤ j → j < k → slice_get rs (j - n) ≡ Some true
 
--- ---- the answer that a document gets
+one_more : (r : Bool) (rs : List Bool) (n j : ℕ) → n + 1 ≤ j → slice_get (r ∷ rs) (j - n) ≡ slice_get rs (j - (n + 1))
+one_more r rs n j h = ap (slice_get (r ∷ rs)) (let same : j - n ≡ suc (j - (n + 1)) = omega arith in same)
 
-pub fault_by_shape : (ms : Members) (k : ℕ) → first_broken 1 (shape_rules ms) ≡ Some k → fault_of ms ≡ Some k
-unfolding fault_of
-fault_by_shape ms k e = ap (λ b. or_unserved b (is_served (document_of ms))) (broken_by_shape ms k e)
+at_front : (r : Bool) (rs : List Bool) (n j : ℕ) → j ≡ n → slice_get (r ∷ rs) (j - n) ≡ Some r
+at_front r rs n j h = ap (slice_get (r ∷ rs)) (let same : j - n ≡ 0 = omega arith in same)
 
-pub fault_by_entries : (ms : Members) (d : DocumentData) (k : ℕ) → first_broken 1 (shape_rules ms) ≡ None → d ≡ document_of ms
-    → first_broken 4 (typed_rules d) ≡ Some k → fault_of ms ≡ Some k
-unfolding fault_of
-fault_by_entries ms d k none same e = ap (λ b. or_unserved b (is_served (document_of ms))) (broken_by_entries ms d none same ∙ e)
+fails_first : (n k : ℕ) (rs : List Bool) → first_broken n rs ≡ Some k → FailsFirst n k rs
+fails_first n k [] e = cc
+fails_first n k (true ∷ rs) e =
+    let rest = fails_first (n + 1) k rs e in
+    let low = rest.low in
+    let high = rest.high in
+    record {
+      low = omega arith;
+      high = omega arith;
+      fails = one_more true rs n k low ∙ rest.fails;
+      before = (λ j h below. elim (cases_lt n j) [
+        | inl above ↦ one_more true rs n j (omega arith) ∙ rest.before j (omega arith) below
+        | inr first ↦ at_front true rs n j (omega arith)
+      ]);
+    }
+fails_first n k (false ∷ rs) e =
+    let same : k ≡ n = cc in
+    record { low = omega arith; high = omega arith; fails = at_front false rs n k same; before = (λ j h below. absurd (omega arith)) }
 
-pub fault_unserved : (ms : Members) (d : DocumentData) → first_broken 1 (shape_rules ms) ≡ None → d ≡ document_of ms
-    → first_broken 4 (typed_rules d) ≡ None → is_served d ≡ false → fault_of ms ≡ Some 0
-unfolding fault_of
-fault_unserved ms d none same kept unserved =
-    ap (λ b. or_unserved b (is_served (document_of ms))) (broken_by_entries ms d none same ∙ kept)
-    ∙ ap (or_unserved None) (ap is_served (sym same) ∙ unserved)
+first_fails : (n k : ℕ) (rs : List Bool) → FailsFirst n k rs → first_broken n rs ≡ Some k
+first_fails n k [] f = absurd (let low = f.low in let high = f.high in omega arith)
+first_fails n k (true ∷ rs) f =
+    let low = f.low in
+    let high = f.high in
+    elim (cases_lt n k) [
+      | inl above ↦ first_fails (n + 1) k rs (record {
+        low = omega arith;
+        high = omega arith;
+        fails = sym (one_more true rs n k (omega arith)) ∙ f.fails;
+        before = (λ j h below. sym (one_more true rs n j h) ∙ f.before j (omega arith) below);
+      })
+      | inr first ↦ absurd (let here : Some true ≡ Some false = sym (at_front true rs n k (omega arith)) ∙ f.fails in cc)
+    ]
+first_fails n k (false ∷ rs) f =
+    let low = f.low in
+    elim (cases_lt n k) [
+      | inl above ↦ absurd (let here : Some false ≡ Some true = sym (at_front false rs n n refl) ∙ f.before n (omega arith) above in cc)
+      | inr first ↦ ap Some (omega arith)
+    ]
 
-pub no_fault : (ms : Members) (d : DocumentData) → first_broken 1 (shape_rules ms) ≡ None → d ≡ document_of ms
-    → first_broken 4 (typed_rules d) ≡ None → is_served d ≡ true → fault_of ms ≡ None
-unfolding fault_of
-no_fault ms d none same kept served =
-    ap (λ b. or_unserved b (is_served (document_of ms))) (broken_by_entries ms d none same ∙ kept)
-    ∙ ap (or_unserved None) (ap is_served (sym same) ∙ served)
+none_fails : (n j : ℕ) (rs : List Bool) → first_broken n rs ≡ None → n ≤ j → j < n + length rs → slice_get rs (j - n) ≡ Some true
+none_fails n j [] e h below = absurd (omega arith)
+none_fails n j (true ∷ rs) e h below = elim (cases_lt n j) [
+  | inl above ↦ one_more true rs n j (omega arith) ∙ none_fails (n + 1) j rs e (omega arith) (omega arith)
+  | inr first ↦ at_front true rs n j (omega arith)
+]
+none_fails n j (false ∷ rs) e h below = cc
 
--- ---- and what it says
+all_pass : (n : ℕ) (rs : List Bool) → ((j : ℕ) → n ≤ j → j < n + length rs → slice_get rs (j - n) ≡ Some true) → first_broken n rs ≡ None
+all_pass n [] all = refl
+all_pass n (true ∷ rs) all = all_pass (n + 1) rs (λ j h below. sym (one_more true rs n j h) ∙ all j (omega arith) (omega arith))
+all_pass n (false ∷ rs) all = absurd (let here : Some false ≡ Some true = sym (at_front false rs n n refl) ∙ all n (omega arith) (omega arith) in cc)
 
-at_broken : (b : Option ℕ) (served : Bool) (k : ℕ) → 1 ≤ k → or_unserved b served ≡ Some k → b ≡ Some k
-at_broken None true k h e = cc
-at_broken None false k h e = let zero : 0 ≡ k = cc in absurd (omega arith)
-at_broken (Some j) served k h e = e
+-- ---- the fourteen rules
 
-pub broken_from_fault : (ms : Members) (k : ℕ) → 1 ≤ k → fault_of ms ≡ Some k → broken_rule ms ≡ Some k
-unfolding fault_of
-broken_from_fault ms k h e = at_broken (broken_rule ms) (is_served (document_of ms)) k h e
+fourteen : (ms : Members) → length (rules ms) ≡ 14
+unfolding rules shape_rules typed_rules
+fourteen ms = refl
 
-at_zero : (b : Option ℕ) (served : Bool) → ((k : ℕ) → b ≡ Some k → 1 ≤ k) → or_unserved b served ≡ Some 0 → (b ≡ None) × (served ≡ false)
-at_zero None true least e = absurd (cc)
-at_zero None false least e = (refl, refl)
-at_zero (Some j) served least e = absurd (omega (arith, least 0 e))
+pub broken_is_first : (ms : Members) (k : ℕ) → broken_rule ms ≡ Some k → IsFirstBroken k ms
+unfolding broken_rule
+broken_is_first ms k e =
+    let f = fails_first 1 k (rules ms) e in
+    let low = f.low in
+    let high = f.high in
+    let size = fourteen ms in
+    record { number = (low, omega arith); fails = f.fails; before = f.before }
 
-pub unserved_from_fault : (ms : Members) → fault_of ms ≡ Some 0 → (broken_rule ms ≡ None) × (is_served (document_of ms) ≡ false)
-unfolding fault_of broken_rule
-unserved_from_fault ms e = at_zero (broken_rule ms) (is_served (document_of ms)) (λ k h. broken_at_least 1 (rules ms) k h) e
+pub first_is_broken : (ms : Members) (k : ℕ) → IsFirstBroken k ms → broken_rule ms ≡ Some k
+unfolding broken_rule
+first_is_broken ms k f =
+    let low = f.number.0 in
+    let high = f.number.1 in
+    let size = fourteen ms in
+    first_fails 1 k (rules ms) (record { low = low; high = omega arith; fails = f.fails; before = f.before })
 
-at_none : (b : Option ℕ) (served : Bool) → or_unserved b served ≡ None → (b ≡ None) × (served ≡ true)
-at_none None true e = (refl, refl)
-at_none None false e = absurd (cc)
-at_none (Some j) served e = absurd (cc)
+pub kept_is_all : (ms : Members) → broken_rule ms ≡ None → (k : ℕ) → 1 ≤ k → k ≤ 14 → RuleHolds k ms
+unfolding broken_rule
+kept_is_all ms e k low high = let size = fourteen ms in none_fails 1 k (rules ms) e low (omega arith)
 
-pub served_from_no_fault : (ms : Members) → fault_of ms ≡ None → (broken_rule ms ≡ None) × (is_served (document_of ms) ≡ true)
-unfolding fault_of
-served_from_no_fault ms e = at_none (broken_rule ms) (is_served (document_of ms)) e
-
-pub fault_from_broken : (ms : Members) (k : ℕ) → broken_rule ms ≡ Some k → fault_of ms ≡ Some k
-unfolding fault_of
-fault_from_broken ms k e = ap (λ b. or_unserved b (is_served (document_of ms))) e
-
-pub fault_from_unserved : (ms : Members) → broken_rule ms ≡ None → is_served (document_of ms) ≡ false → fault_of ms ≡ Some 0
-unfolding fault_of
-fault_from_unserved ms e unserved = ap (λ b. or_unserved b (is_served (document_of ms))) e ∙ ap (or_unserved None) unserved
-
-pub no_fault_from_served : (ms : Members) → broken_rule ms ≡ None → is_served (document_of ms) ≡ true → fault_of ms ≡ None
-unfolding fault_of
-no_fault_from_served ms e served = ap (λ b. or_unserved b (is_served (document_of ms))) e ∙ ap (or_unserved None) served
+pub all_is_kept : (ms : Members) → ((k : ℕ) → 1 ≤ k → k ≤ 14 → RuleHolds k ms) → broken_rule ms ≡ None
+unfolding broken_rule
+all_is_kept ms all = let size = fourteen ms in all_pass 1 (rules ms) (λ j low below. all j low (omega arith))

@@ -5,7 +5,7 @@ use Rattle.toml.proofs.OnLiterals.{toml_on_literals}
 use Rattle.urna_base.specs.Moment.{is_date}
 use Rattle.election_tables.specs.Shape.{is_key}
 use Rattle.election_tables.specs.Entries.{document_of}
-use Rattle.election_tables.specs.Rules.{broken_rule, rules, shape_rules, typed_rules, is_served}
+use Rattle.election_tables.specs.Rules.{broken_rule, rules, shape_rules, typed_rules}
 
 -- the first rule that the document breaks, where the bytes are one
 abbrev fault : List ℕ → Option (Option ℕ)
@@ -178,15 +178,6 @@ two_seats = refl
 pub first_of_two : fault (head ++ two_offices ++ codes "partido = [\n  {numero = 45, nome = \"PA\"},\n  {numero = 100, nome = \"PB\"},\n]\n" ++ candidates_of_two ++ three_voters) ≡ Some (Some 7)
 unfolding toml_on_literals is_key is_date broken_rule rules shape_rules typed_rules
 first_of_two = refl
-
--- the station serves one office of the mayor, and no two offices
-pub one_is_served : option_map (λ ms. is_served (document_of ms)) (parse_document (head ++ one_office ++ parties ++ candidates_of_one ++ one_voter)) ≡ Some true
-unfolding toml_on_literals is_key
-one_is_served = refl
-
-pub two_are_not : option_map (λ ms. is_served (document_of ms)) (parse_document (head ++ two_offices ++ parties ++ candidates_of_two ++ three_voters)) ≡ Some false
-unfolding toml_on_literals is_key
-two_are_not = refl
 
 -- no TOML
 pub no_toml : fault (codes "processo 7\n") ≡ None

@@ -1,14 +1,28 @@
 -- Laws of the definitions.
-use Rattle.std.specs.Prelude.{◌≡◌, ℕ, ◌+◌, ◌<◌, List, Some, Bool, true, false, slice_get}
-use Rattle.election_tables.specs.Rules.{first_broken}
+use Rattle.std.specs.Prelude.{◌≡◌, ◌↔◌, ℕ, ◌-◌, ◌<◌, ◌≤◌, List, Some, None, true, false, slice_get}
+use Rattle.toml.specs.Data.{Members}
+use Rattle.election_tables.specs.Rules.{rules, broken_rule}
 use Rattle.election_tables.specs.Tables.{IsReadAs}
 use Rattle.election_tables.specs.TablesData.{TablesData}
 use Rattle.election_tables.specs.Roll.{IsRollOf, RollData}
 
--- where a rule doesn't hold and each before it does, its number is that of the first broken rule
+-- rule k holds of the document
+abbrev pub RuleHolds : ℕ → Members → Type 0
+RuleHolds k ms = slice_get (rules ms) (k - 1) ≡ Some true
+
+-- rule k is one of the fourteen, it doesn't hold, and each before it does
+pub record IsFirstBroken (k : ℕ) (ms : Members) : Type 0 where
+  pub number : (1 ≤ k) × (k ≤ 14)
+  pub fails : slice_get (rules ms) (k - 1) ≡ Some false
+  pub before : (j : ℕ) → 1 ≤ j → j < k → RuleHolds j ms
+
+-- the number of the broken rule is that of the first
 abbrev pub BrokenIsFirst : Type 0
-BrokenIsFirst = (n i : ℕ) (holds : List Bool) → slice_get holds i ≡ Some false → ((j : ℕ) → j < i → slice_get holds j ≡ Some true)
-    → first_broken n holds ≡ Some (n + i)
+BrokenIsFirst = (ms : Members) (k : ℕ) → (broken_rule ms ≡ Some k) ↔ IsFirstBroken k ms
+
+-- no rule is broken where all fourteen hold
+abbrev pub KeptIsAll : Type 0
+KeptIsAll = (ms : Members) → (broken_rule ms ≡ None) ↔ ((k : ℕ) → 1 ≤ k → k ≤ 14 → RuleHolds k ms)
 
 -- bytes are read as one set of tables at most
 abbrev pub TablesAreDetermined : Type 0

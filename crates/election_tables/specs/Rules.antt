@@ -137,9 +137,3 @@ first_broken n (false ∷ rs) = Some n
 -- the number of the first rule of a document that doesn't hold
 unfoldable pub broken_rule : Members → Option ℕ
 broken_rule ms = first_broken 1 (rules ms)
-
--- ---- what the station serves
-
--- one office: the president's, the governor's or the mayor's
-abbrev pub is_served : DocumentData → Bool
-is_served d = length d.offices == 1 && list_all (λ o. int_eq o.code (pos 1) || (int_eq o.code (pos 3) || int_eq o.code (pos 11))) d.offices

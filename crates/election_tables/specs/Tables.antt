@@ -1,5 +1,5 @@
 -- What is read from the bytes of a document: its tables, or the first rule that it breaks.
-use Rattle.std.specs.Prelude.{◌≡◌, ℕ, pos, List, map, Some, None, IsUtf8, IsPermutation, true, false}
+use Rattle.std.specs.Prelude.{◌≡◌, ℕ, pos, List, map, Some, None, IsUtf8, IsPermutation}
 use Rattle.std.specs.List.{All, filter}
 use Rattle.std.specs.Ordering.{int_eq}
 use Rattle.toml.specs.Data.{Members}
@@ -17,7 +17,7 @@ use Rattle.election_tables.specs.declared.tables.panels.Panel.{Panel}
 use Rattle.election_tables.specs.DocumentData.{DocumentData}
 use Rattle.election_tables.specs.Entries.{document_of}
 use Rattle.election_tables.specs.Offices.{code_digits}
-use Rattle.election_tables.specs.Rules.{broken_rule, is_served}
+use Rattle.election_tables.specs.Rules.{broken_rule}
 use Rattle.election_tables.specs.TablesData.{TablesData, CandidatesRise, PartiesRise, SectionsRise}
 
 -- ---- the entries of the document that the tables' parts stand for
@@ -74,25 +74,16 @@ pub record BreaksFirst (bytes : List ℕ) (rule : ℕ) : Type 0 where
   pub parsed : IsDocument bytes members
   pub broken : broken_rule members ≡ Some rule
 
--- the bytes are a document that keeps every rule, but the station doesn't serve its offices
-pub record IsNotServed (bytes : List ℕ) : Type 0 where
+-- the bytes are a document that keeps all fourteen rules
+pub record KeepsRules (bytes : List ℕ) : Type 0 where
   pub members : Members
   pub parsed : IsDocument bytes members
   pub kept : broken_rule members ≡ None
-  pub unserved : is_served (document_of members) ≡ false
 
--- the bytes are a document that keeps every rule and is served
-pub record IsServed (bytes : List ℕ) : Type 0 where
-  pub members : Members
-  pub parsed : IsDocument bytes members
-  pub kept : broken_rule members ≡ None
-  pub served : is_served (document_of members) ≡ true
-
--- the bytes are a document that keeps every rule and is served, and these are its tables, with the SHA-256 of the bytes
+-- the bytes are a document that keeps all fourteen rules, and these are its tables, with the SHA-256 of the bytes
 pub record IsReadAs (bytes : List ℕ) (t : TablesData) : Type 0 where
   pub members : Members
   pub parsed : IsDocument bytes members
   pub kept : broken_rule members ≡ None
-  pub served : is_served (document_of members) ≡ true
   pub tables : AreTablesOf (document_of members) t
   pub digest : t.digest ≡ sha256 bytes

@@ -1,13 +1,14 @@
 //! What the definitions settle. Each function here does nothing: its contract is the law.
-ghost use Rattle.election_tables.specs.Laws.{BrokenIsFirst, RollIsDetermined, TablesAreDetermined};
+ghost use Rattle.election_tables.specs.Laws.{BrokenIsFirst, KeptIsAll, RollIsDetermined, TablesAreDetermined};
 
-/// The rule that an answer names is the first that doesn't hold.
+/// The rule that an answer names is the first of the fourteen that doesn't hold, and a document keeps the rules where all
+/// fourteen hold.
 pub fn broken_rule_is_first()
-    ensures { BrokenIsFirst }
+    ensures first { BrokenIsFirst }
+    ensures kept { KeptIsAll }
 {}
 
-/// A document has one reading: the order of its entries doesn't show in the tables, and neither does anything else that
-/// the document leaves open.
+/// A document has one reading: nothing in the tables or in the roll is left open by the bytes.
 pub fn reading_is_determined()
     ensures tables { TablesAreDetermined }
     ensures roll { RollIsDetermined }

@@ -1,8 +1,6 @@
 //! Rules 4 to 14, over the typed lists of a document (docs/FORMATS.md, "Election tables").
-ghost use Rattle.std.specs.Prelude.{◌≡◌, ◌==◌, ◌||◌, IfOk, pos};
-ghost use Rattle.std.specs.List.{list_all};
-ghost use Rattle.std.specs.Ordering.{int_eq};
-ghost use Rattle.election_tables.specs.Rules.{first_broken, typed_rules, is_served};
+ghost use Rattle.std.specs.Prelude.{◌≡◌, IfOk};
+ghost use Rattle.election_tables.specs.Rules.{first_broken, typed_rules};
 
 mod candidates;
 mod distinct;
@@ -10,7 +8,7 @@ mod fields;
 mod offices;
 mod ranges;
 
-use crate::document::{Document, OfficeEntry};
+use crate::document::Document;
 use std::alloc::{AllocError, Global};
 
 impl Document {
@@ -55,20 +53,4 @@ impl Document {
         }
         Ok(None)
     }
-
-    /// Whether the station serves the offices of the document: one office, the president's, the governor's or the
-    /// mayor's.
-    pub(crate) fn is_served(&self) -> bool
-        ensures { result ≡ is_served self.now }
-    {
-        self.offices.len() == 1 && have_served_codes(&self.offices)
-    }
-}
-
-fn have_served_codes(offices: &[OfficeEntry]) -> bool
-    ensures { result ≡ list_all (λ o. int_eq o.code (pos 1) || (int_eq o.code (pos 3) || int_eq o.code (pos 11))) offices.now }
-{
-    offices
-        .iter()
-        .all(|o| o.code == 1 || (o.code == 3 || o.code == 11))
 }

@@ -3,8 +3,8 @@ ghost use Rattle.std.specs.Prelude.{◌≡◌, ◌≢◌, ◌<◌, ◌≤◌, �
 ghost use Rattle.toml.specs.View.{table_view};
 ghost use Rattle.election_tables.specs.Entries.{document_of};
 ghost use Rattle.election_tables.specs.Fields.{is_name};
-ghost use Rattle.election_tables.specs.Rules.{broken_rule, first_broken, is_served, typed_rules};
-ghost use Rattle.election_tables.specs.Tables.{AreTablesOf, BreaksFirst, IsNoDocument, IsNotServed, IsReadAs, IsServed};
+ghost use Rattle.election_tables.specs.Rules.{broken_rule, first_broken, typed_rules};
+ghost use Rattle.election_tables.specs.Tables.{AreTablesOf, BreaksFirst, IsNoDocument, IsReadAs, KeepsRules};
 ghost use Rattle.election_tables.specs.Verdict.{IsAnswerFor};
 ghost use Rattle.election_tables.specs.TablesData.{TablesData, IsOffice, IsTables, candidate_name, candidates_at, party_name, places_at, section_with, without_name};
 
@@ -83,8 +83,7 @@ pub enum TablesError {
     /// The bytes are no TOML document.
     #[error("the tables are no TOML document")]
     NotToml,
-    /// The first rule of docs/FORMATS.md, "Election tables", that the document breaks; 0 where it keeps every rule, but
-    /// the station doesn't serve its offices.
+    /// The first rule of docs/FORMATS.md, "Election tables", that the document breaks, 1 to 14.
     #[error("the tables break rule {0}")]
     Rule(u8),
 }
@@ -108,7 +107,7 @@ impl Tables {
     }
 
     /// The tables in a TOML document, and the digest of its bytes.
-    #[tactic(auto, using(crate::proofs::Breaks::fault_by_shape, crate::proofs::Breaks::fault_by_entries, crate::proofs::Breaks::fault_unserved, crate::proofs::Breaks::no_fault))]
+    #[tactic(auto, using(crate::proofs::Breaks::broken_by_shape, crate::proofs::Breaks::broken_by_entries))]
     fn from_table(alloc: Global, table: &Table, digest: [u8; 32]) -> Result<Tables, TablesError>
         ensures { IsAnswerFor (table_view table.now) digest result }
     {
@@ -124,9 +123,6 @@ impl Tables {
             Ok(Some(k)) => return Err(TablesError::Rule(k)),
             Err(_) => return Err(TablesError::Memory),
         }
-        if !document.is_served() {
-            return Err(TablesError::Rule(0));
-        }
         match Tables::of(alloc, &document, digest) {
             Ok(tables) => Ok(tables),
             Err(_) => Err(TablesError::Memory),
@@ -138,20 +134,19 @@ impl Tables {
     /// 0.7 MB.
     ///
     /// Errors: `NotToml` where the bytes are no TOML document, `Rule(k)` where rule k is the first that doesn't hold,
-    /// `Rule(0)` where all hold and the station doesn't serve the offices, `Memory` where memory ran out.
+    /// `Memory` where memory ran out.
     pub fn read(alloc: Global, bytes: &[u8]) -> Result<Tables, TablesError>
         ensures ok { IfOk result (IsReadAs bytes.now) }
         ensures tables { IfOk result IsTables }
 
         ensures not_toml { result ≡ Err TablesError.NotToml → IsNoDocument bytes.now }
-        ensures rule { (k : ℕ) → 1 ≤ k → result ≡ Err (TablesError.Rule k) → BreaksFirst bytes.now k }
-        ensures unserved { result ≡ Err (TablesError.Rule 0) → IsNotServed bytes.now }
+        ensures rule { (k : ℕ) → result ≡ Err (TablesError.Rule k) → BreaksFirst bytes.now k }
+        ensures rule_number { (k : ℕ) → result ≡ Err (TablesError.Rule k) → (1 ≤ k) × (k ≤ 14) }
 
         // and exactly there, unless memory ran out
         ensures not_toml_there { result ≢ Err TablesError.Memory → IsNoDocument bytes.now → result ≡ Err TablesError.NotToml }
         ensures rule_there { result ≢ Err TablesError.Memory → (k : ℕ) → BreaksFirst bytes.now k → result ≡ Err (TablesError.Rule k) }
-        ensures unserved_there { result ≢ Err TablesError.Memory → IsNotServed bytes.now → result ≡ Err (TablesError.Rule 0) }
-        ensures ok_there { result ≢ Err TablesError.Memory → IsServed bytes.now → IsOk result }
+        ensures ok_there { result ≢ Err TablesError.Memory → KeepsRules bytes.now → IsOk result }
     {
         match toml::table_from_slice(alloc, bytes) {
             Ok(table) => Tables::from_table(alloc, &table, Sha256::digest(bytes)),
@@ -272,6 +267,7 @@ impl Tables {
     /// The section of a zone and number; `None` exactly where the tables have no such section.
     pub fn find_section(&self, zone: u32, number: u32) -> Option<Section>
         ensures section { result ≡ section_with zone number self.now.sections }
+        ensures tables { IsTables self.now }
         ensures voters { IfSome result (λ s. (1 ≤ s.voters) × (s.voters ≤ 600)) }
     {
         self.sections.with(zone, number)

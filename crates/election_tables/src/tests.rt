@@ -4,104 +4,385 @@ use crate::{
     code_proportional,
 };
 use sha2::{Digest, Sha256};
+use std::alloc::{AllocError, Global};
+use std::process::Abort;
 use std::test::Fail;
 
-const ONE_OFFICE: &[u8] = b"processo = 7
-data = 20261004
-turno = 1
-cargo = [{codigo = 11, regra = \"absoluta\", cadeiras = 1}]
-partido = [
-  {numero = 45, nome = \"PB\"},
-  {numero = 13, nome = \"PA\"},
-]
-candidato = [
-  {cargo = 11, numero = 45, nascimento = 19751212, nome = \"DAVI\"},
-  {cargo = 11, numero = 13, nascimento = 19600303, nome = \"CARLA\"},
-]
-secao = [{zona = 1, secao = 42, eleitores = 1}, {zona = 1, secao = 7, eleitores = 600}]
-";
+mod documents;
 
-const TWO_OFFICES: &[u8] = b"processo = 7
-data = 20261004
-turno = 1
-cargo = [
-  {codigo = 13, regra = \"proporcional\", cadeiras = 5},
-  {codigo = 11, regra = \"absoluta\", cadeiras = 1},
-]
-partido = [
-  {numero = 13, nome = \"PA\"},
-  {numero = 45, nome = \"PB\"},
-]
-candidato = [
-  {cargo = 13, numero = 13001, nascimento = 19700101, nome = \"ANA\"},
-  {cargo = 11, numero = 45, nascimento = 19751212, nome = \"DAVI\"},
-]
-secao = [{zona = 1, secao = 42, eleitores = 3}]
-";
+use documents::{
+    CANDIDATES, EMPTY, EVERY_OFFICE, EVERY_PANEL, HEAD, HEADERS, MANY, NO_TEXT, OFFICES, PARTIES,
+    SECTIONS, TABLE,
+};
+
+fn good_document(alloc: Global) -> Result<String, AllocError> {
+    format!(in alloc;
+        "{HEAD}cargo = {OFFICES}\npartido = {PARTIES}\ncandidato = {CANDIDATES}\nsecao = {SECTIONS}\n"
+    )
+}
 
 #[test]
-fn tables_of_one_office_answer(rt: HostRuntime) -> Result<(), Fail> {
-    let tables = Tables::read(rt.alloc(), ONE_OFFICE)?;
+fn tables_answer(rt: HostRuntime) -> Result<(), Fail> {
+    let text = good_document(rt.alloc())?;
+    let tables = Tables::read(rt.alloc(), text.as_str().as_bytes())?;
     assert_eq!(rt;
         (tables.process(), tables.date(), tables.turn()),
         (7, 20261004, 1)
     );
-    assert_eq!(rt; tables.panels(), 1);
-    let office = tables.office(0);
-    assert!(rt;
-        office
-            == Office {
-                code: 11,
-                digits: 2,
-                kind: Kind::Absolute,
-                seats: 1
-            }
-    );
     assert_eq!(rt; tables.party_count(), 2);
     assert_eq!(rt; (tables.party(0), tables.party(1)), (13, 45));
     assert!(rt; tables.party_name(45) == Some("PB") && tables.party_name(46) == None);
+    assert_eq!(rt; tables.section_count(), 2);
+    assert!(rt;
+        tables.section(0)
+            == Section {
+                zone: 1,
+                number: 42,
+                voters: 600
+            }
+    );
+    assert!(rt;
+        tables.section(1)
+            == Section {
+                zone: 2,
+                number: 1,
+                voters: 3
+            }
+    );
+    assert!(rt;
+        tables.find_section(2, 1)
+            == Some(Section {
+                zone: 2,
+                number: 1,
+                voters: 3
+            })
+    );
+    assert!(rt; tables.find_section(1, 2) == None && tables.find_section(42, 1) == None);
+    assert!(rt; tables.digest() == Sha256::digest(text.as_str().as_bytes()));
+    Ok(())
+}
+
+#[test]
+fn panels_answer(rt: HostRuntime) -> Result<(), Fail> {
+    let text = good_document(rt.alloc())?;
+    let tables = Tables::read(rt.alloc(), text.as_str().as_bytes())?;
+    assert_eq!(rt; tables.panels(), 3);
+    assert!(rt;
+        tables.office(0)
+            == Office {
+                code: 13,
+                digits: 5,
+                kind: Kind::Proportional,
+                seats: 5
+            }
+    );
+    assert!(rt;
+        tables.office(2)
+            == Office {
+                code: 5,
+                digits: 3,
+                kind: Kind::Simple,
+                seats: 1
+            }
+    );
     assert_eq!(rt; tables.candidate_count(0), 2);
     assert!(rt;
         tables.candidate(0, 0)
+            == Candidate {
+                number: 13001,
+                birth: 19700101
+            }
+    );
+    assert!(rt;
+        tables.candidate(0, 1)
+            == Candidate {
+                number: 45001,
+                birth: 19650520
+            }
+    );
+    assert_eq!(rt; tables.candidate_count(1), 2);
+    assert!(rt;
+        tables.candidate(1, 0)
             == Candidate {
                 number: 13,
                 birth: 19600303
             }
     );
     assert!(rt;
-        tables.candidate_name(0, 45) == Some("DAVI") && tables.candidate_name(0, 46) == None
-    );
-    assert!(rt; tables.candidate_name(1, 45) == None);
-    assert_eq!(rt; tables.section_count(), 2);
-    assert!(rt;
-        tables.section(0)
-            == Section {
-                zone: 1,
-                number: 7,
-                voters: 600
+        tables.candidate(1, 1)
+            == Candidate {
+                number: 45,
+                birth: 19751212
             }
     );
     assert!(rt;
-        tables.find_section(1, 42)
-            == Some(Section {
-                zone: 1,
-                number: 42,
-                voters: 1
-            })
+        tables.candidate_name(0, 13001) == Some("ANA") && tables.candidate_name(0, 45) == None
     );
-    assert!(rt; tables.find_section(42, 1) == None);
-    assert!(rt; tables.digest() == Sha256::digest(ONE_OFFICE));
+    assert!(rt;
+        tables.candidate_name(1, 45) == Some("DAVI") && tables.candidate_name(1, 46) == None
+    );
+    assert!(rt;
+        tables.candidate_name(2, 451) == Some("EVA") && tables.candidate_name(2, 45) == None
+    );
+    assert!(rt; tables.candidate_name(3, 45) == None);
+    Ok(())
+}
+
+/// What a cell of the table stands for.
+fn text_of(alloc: Global, cell: &str) -> Result<String, AllocError> {
+    match cell {
+        "@nada" => Ok(String::new(alloc)),
+        "@cargo" => String::from_str(alloc, OFFICES),
+        "@partido" => String::from_str(alloc, PARTIES),
+        "@candidato" => String::from_str(alloc, CANDIDATES),
+        "@secao" => String::from_str(alloc, SECTIONS),
+        _ => {
+            let lines = cell.replace(alloc, "¶", "\n")?;
+            lines.as_str().replace(alloc, "␍", "\r")
+        }
+    }
+}
+
+/// A text with one change, which must find its place.
+fn with_change(
+    rt: &impl Abort,
+    alloc: Global,
+    text: &str,
+    change: &str,
+) -> Result<String, AllocError> {
+    let Some((old, new)) = change.split_once(" => ") else {
+        panic!(rt; "no change: {change}");
+    };
+    let old = text_of(alloc, old)?;
+    let new = text_of(alloc, new)?;
+    assert!(rt; text.contains(old.as_str()), "no place: {change}");
+    text.replace(alloc, old.as_str(), new.as_str())
+}
+
+/// The good document with some changes.
+fn changed(rt: &impl Abort, alloc: Global, changes: &str) -> Result<String, AllocError> {
+    let mut text = good_document(alloc)?;
+    for change in changes.split(" | ") {
+        text = with_change(rt, alloc, text.as_str(), change)?;
+    }
+    Ok(text)
+}
+
+/// Whether two panels have one office and the same candidates.
+fn is_same_panel(a: &Tables, b: &Tables, panel: u32) -> bool {
+    if a.panels() <= panel || b.panels() <= panel {
+        return false;
+    }
+    if a.office(panel) != b.office(panel) || a.candidate_count(panel) != b.candidate_count(panel) {
+        return false;
+    }
+    for i in 0..a.candidate_count(panel) {
+        let candidate = a.candidate(panel, i);
+        if candidate != b.candidate(panel, i) {
+            return false;
+        }
+        if a.candidate_name(panel, candidate.number) != b.candidate_name(panel, candidate.number) {
+            return false;
+        }
+    }
+    true
+}
+
+/// Whether two tables answer alike, but for their digests.
+fn is_same(a: &Tables, b: &Tables) -> bool {
+    let heads = (a.process(), a.date(), a.turn()) == (b.process(), b.date(), b.turn());
+    if !heads
+        || a.panels() != b.panels()
+        || a.party_count() != b.party_count()
+        || a.section_count() != b.section_count()
+    {
+        return false;
+    }
+    for panel in 0..a.panels() {
+        if !is_same_panel(a, b, panel) {
+            return false;
+        }
+    }
+    for i in 0..a.party_count() {
+        let number = a.party(i);
+        if number != b.party(i) || a.party_name(number) != b.party_name(number) {
+            return false;
+        }
+    }
+    for i in 0..a.section_count() {
+        if a.section(i) != b.section(i) {
+            return false;
+        }
+    }
+    true
+}
+
+/// Whether a document has the answer that a row wants.
+fn is_answered(alloc: Global, want: &str, good: &Tables, text: &str) -> bool {
+    match Tables::read(alloc, text.as_bytes()) {
+        Ok(tables) => want == "ok" || want == "same" && is_same(good, &tables),
+        Err(TablesError::Rule(rule)) => want.parse::<u8>() == Ok(rule),
+        Err(TablesError::NotToml) => want == "no",
+        Err(TablesError::Memory) => false,
+    }
+}
+
+#[test]
+fn each_document_has_its_answer(rt: HostRuntime) -> Result<(), Fail> {
+    let text = good_document(rt.alloc())?;
+    let good = Tables::read(rt.alloc(), text.as_str().as_bytes())?;
+    assert_eq!(rt;
+        TABLE.lines().filter(|row| row.contains(" | ")).count(),
+        147
+    );
+    for row in TABLE.lines() {
+        if let Some((want, changes)) = row.split_once(" | ") {
+            let text = changed(&rt, rt.alloc(), changes)?;
+            assert!(rt;
+                is_answered(rt.alloc(), want, &good, text.as_str()),
+                "{row}"
+            );
+        }
+    }
+    assert!(rt;
+        is_answered(rt.alloc(), "same", &good, HEADERS),
+        "the headers"
+    );
     Ok(())
 }
 
 #[test]
-fn each_fault_has_its_answer(rt: HostRuntime) {
-    assert!(rt; Tables::read(rt.alloc(), b"processo 7\n").err() == Some(TablesError::NotToml));
-    assert!(rt; Tables::read(rt.alloc(), b"processo = 7\n").err() == Some(TablesError::Rule(1)));
-    assert!(rt; Tables::read(rt.alloc(), TWO_OFFICES).err() == Some(TablesError::Rule(0)));
-    assert!(rt; Roll::read(rt.alloc(), b"").err() == Some(RollError::Count));
-    let equal = b"010000000001\n010000000001\n010000000003\n";
-    assert!(rt; Roll::read(rt.alloc(), equal).err() == Some(RollError::Line(2)));
+fn bytes_without_keys_have_their_answer(rt: HostRuntime) {
+    for bytes in NO_TEXT {
+        assert!(rt;
+            Tables::read(rt.alloc(), *bytes).err() == Some(TablesError::NotToml),
+            "{bytes:?}"
+        );
+    }
+    for bytes in EMPTY {
+        assert!(rt;
+            Tables::read(rt.alloc(), *bytes).err() == Some(TablesError::Rule(1)),
+            "{bytes:?}"
+        );
+    }
+}
+
+/// An array with an entry so many times.
+fn array_of(alloc: Global, entry: &str, count: usize) -> Result<String, AllocError> {
+    let mut text = String::from_str(alloc, "[")?;
+    for _ in 0..count {
+        text.push_str(entry)?;
+        text.push_str(",\n")?;
+    }
+    text.push_str("]")?;
+    Ok(text)
+}
+
+#[test]
+fn lists_have_their_most_entries(rt: HostRuntime) -> Result<(), Fail> {
+    let good = good_document(rt.alloc())?;
+    for (array, entry, count, rule) in MANY {
+        let many = array_of(rt.alloc(), *entry, *count)?;
+        let text = good.as_str().replace(rt.alloc(), *array, many.as_str())?;
+        let answer = Tables::read(rt.alloc(), text.as_str().as_bytes()).err();
+        assert!(rt;
+            answer == Some(TablesError::Rule(*rule)),
+            "{answer:?} at {count} times {entry}"
+        );
+    }
+    Ok(())
+}
+
+#[test]
+fn every_office_has_its_panel(rt: HostRuntime) -> Result<(), Fail> {
+    let tables = Tables::read(rt.alloc(), EVERY_OFFICE.as_bytes())?;
+    assert_eq!(rt; tables.panels(), 8);
+    let mut panel = 0;
+    for (code, digits, kind, seats, number, birth, name) in EVERY_PANEL {
+        assert!(rt; panel < tables.panels());
+        let office = Office {
+            code: *code,
+            digits: *digits,
+            kind: *kind,
+            seats: *seats,
+        };
+        assert!(rt;
+            tables.office(panel) == office,
+            "the office of panel {panel}"
+        );
+        assert_eq!(rt; tables.candidate_count(panel), 1);
+        let candidate = Candidate {
+            number: *number,
+            birth: *birth,
+        };
+        assert!(rt;
+            tables.candidate(panel, 0) == candidate,
+            "the candidate of panel {panel}"
+        );
+        assert!(rt;
+            tables.candidate_name(panel, *number) == Some(*name),
+            "the name in panel {panel}"
+        );
+        panel += 1;
+    }
+    Ok(())
+}
+
+/// A document with 4,096 candidates and 2,000 sections, all falling.
+fn falling(alloc: Global) -> Result<String, AllocError> {
+    let mut text = format!(in alloc;
+        "{HEAD}cargo = [{{codigo = 13, regra = \"proporcional\", cadeiras = 200}}]\n"
+    )?;
+    for party in 10..15 {
+        text.push_str(format!(in alloc;
+            "[[partido]]\nnumero = {party}\nnome = \"{party}\"\n"
+        )?.as_str())?;
+    }
+    for k in 0..4096u32 {
+        let number = 14095 - k;
+        text.push_str(format!(in alloc;
+            "[[candidato]]\ncargo = 13\nnumero = {number}\nnascimento = 19600303\nnome = \"{number}\"\n"
+        )?.as_str())?;
+    }
+    for k in 0..2000u32 {
+        let zone = 2000 - k;
+        text.push_str(format!(in alloc;
+            "[[secao]]\nzona = {zone}\nsecao = 7\neleitores = 600\n"
+        )?.as_str())?;
+    }
+    Ok(text)
+}
+
+#[test]
+fn long_lists_rise(rt: HostRuntime) -> Result<(), Fail> {
+    let text = falling(rt.alloc())?;
+    let tables = Tables::read(rt.alloc(), text.as_str().as_bytes())?;
+    assert_eq!(rt; tables.panels(), 1);
+    assert_eq!(rt;
+        (tables.candidate_count(0), tables.section_count()),
+        (4096, 2000)
+    );
+    for i in 0..4096u32 {
+        let number = 10000 + i;
+        let name = format!(in rt.alloc(); "{number}")?;
+        assert_eq!(rt; tables.candidate(0, i).number, number);
+        assert!(rt;
+            tables.candidate_name(0, number) == Some(name.as_str()),
+            "the name of {number}"
+        );
+    }
+    for i in 0..2000u32 {
+        let section = Section {
+            zone: 1 + i,
+            number: 7,
+            voters: 600,
+        };
+        assert!(rt;
+            tables.section(i) == section && tables.find_section(1 + i, 7) == Some(section),
+            "section {i}"
+        );
+    }
+    Ok(())
 }
 
 #[test]
@@ -113,6 +394,9 @@ fn a_roll_answers(rt: HostRuntime) -> Result<(), Fail> {
     assert_eq!(rt; roll.place(10000000002), Some(1));
     assert_eq!(rt; roll.place(10000000004), None);
     assert!(rt; roll.digest() == Sha256::digest(text));
+    assert!(rt; Roll::read(rt.alloc(), b"").err() == Some(RollError::Count));
+    let equal = b"010000000001\n010000000001\n010000000003\n";
+    assert!(rt; Roll::read(rt.alloc(), equal).err() == Some(RollError::Line(2)));
     Ok(())
 }
 

@@ -121,23 +121,23 @@ is_choice-panel t m n p (choice.Party number) = refl
 is_choice-panel t m n p choice.Blank = refl
 is_choice-panel t m n p choice.Null = refl
 
-abbrev AreOf : BallotLine → List Choice → Type 0
+abbrev pub AreOf : BallotLine → List Choice → Type 0
 AreOf line bag = AllByRecursion (λ c. is_choice line c ≡ true) bag
 
-of-panel : (t : TablesData) (m n : ℕ) (p : Panel) (bag : List Choice) → AreOf (line_for t m p) bag → AreOf (line_for t n p) bag
+pub of-panel : (t : TablesData) (m n : ℕ) (p : Panel) (bag : List Choice) → AreOf (line_for t m p) bag → AreOf (line_for t n p) bag
 of-panel t m n p [] all = tt
 of-panel t m n p (c ∷ bag) all = (is_choice-panel t n m p c ∙ all.0, of-panel t m n p bag all.1)
 
 bag_at-after : (b : List Choice) (bags : List (List Choice)) (panel : ℕ) → bag_at (b ∷ bags) (panel + 1) ≡ bag_at bags panel
 bag_at-after b bags panel = ap (λ (n : ℕ). bag_at (b ∷ bags) n) (add-one panel)
 
-choices_below : (t : TablesData) (first : ℕ) (panels : List Panel) (b : List Choice) (bags : List (List Choice))
+pub choices_below : (t : TablesData) (first : ℕ) (panels : List Panel) (b : List Choice) (bags : List (List Choice))
     → HasChoices (lines_from t (first + 1) panels) (b ∷ bags) → HasChoices (lines_from t first panels) bags
 choices_below t first [] b bags has = tt
 choices_below t first (p ∷ panels) b bags has =
     (of-panel t (first + 1) first p (bag_at bags first) (subst (AreOf (line_for t (first + 1) p)) (bag_at-after b bags first) has.0), choices_below t (first + 1) panels b bags has.1)
 
-choices_after : (t : TablesData) (first : ℕ) (panels : List Panel) (b : List Choice) (bags : List (List Choice))
+pub choices_after : (t : TablesData) (first : ℕ) (panels : List Panel) (b : List Choice) (bags : List (List Choice))
     → HasChoices (lines_from t first panels) bags → HasChoices (lines_from t (first + 1) panels) (b ∷ bags)
 choices_after t first [] b bags has = tt
 choices_after t first (p ∷ panels) b bags has =

@@ -49,7 +49,7 @@ ready_valid t voters came r e f =
 
 -- A ballot
 
-full_at : (n : ℕ) (bags : List (List Choice)) (panel : ℕ) → AreFull n bags → panel < length bags → length (bag_at bags panel) ≡ n
+pub full_at : (n : ℕ) (bags : List (List Choice)) (panel : ℕ) → AreFull n bags → panel < length bags → length (bag_at bags panel) ≡ n
 full_at n [] panel full lt = absurd (omega arith)
 full_at n (b ∷ bags) zero full lt = full.0
 full_at n (b ∷ bags) (suc panel) full lt = full_at n bags panel full.1 (omega arith)

@@ -1,5 +1,7 @@
-//! What is so of the steps of a poll. Each function here does nothing: its contract is the law.
+//! What is so of the steps of a poll and of its encodings. Each function here does nothing: its contract is the law.
 ghost use Rattle.image_codec.specs.Laws.{ComeInEitherOrder, OpeningRises, BallotRises, SealingRises, ReadyIsValid, OpeningKeeps, BallotKeeps, SealingKeeps};
+ghost use Rattle.image_codec.specs.CodecLaws.{IsDecodedExactly, IsOneState, HasRoomInBody, IsBodyLong, IsInAnyOrder};
+ghost use Rattle.image_codec.specs.CodecLaws.{ReadyIsOfTables, OpeningStaysOfTables, BallotStaysOfTables, SealingStaysOfTables};
 
 /// The choices of two voters may come in either order, and each step leads to a greater rank.
 pub fn ballots()
@@ -15,4 +17,26 @@ pub fn states()
     ensures opening { OpeningKeeps }
     ensures ballot { BallotKeeps }
     ensures sealing { SealingKeeps }
+{}
+
+/// Whatever steps a poll of some tables takes, its state is one that has an encoding.
+pub fn polls()
+    ensures ready { ReadyIsOfTables }
+    ensures opening { OpeningStaysOfTables }
+    ensures ballot { BallotStaysOfTables }
+    ensures sealing { SealingStaysOfTables }
+{}
+
+/// Bytes are decoded as a state exactly where they are its encoding, so no two states have one encoding. What is written
+/// of a state has at most 24,130 bytes, and a body 65,536.
+pub fn codec()
+    ensures decoded { IsDecodedExactly }
+    ensures one { IsOneState }
+    ensures room { HasRoomInBody }
+    ensures body { IsBodyLong }
+{}
+
+/// In whatever order the voters came, the encoding is the same.
+pub fn order()
+    ensures { IsInAnyOrder }
 {}

@@ -1,9 +1,12 @@
-ghost use Rattle.std.specs.Prelude.{◌≡◌, ◌≤◌, true, length, IfOk};
+ghost use Rattle.std.specs.Prelude.{◌≡◌, ◌≤◌, true, false, length, IfOk, IfSome, IsNone};
 ghost use Rattle.urna_base.specs.Moment.{is_moment};
 ghost use Rattle.vote_kinds.specs.Ballot.{ballot_lines};
-ghost use Rattle.image_codec.specs.State.{opened_at, with_ballot, with_votes, sealed_at, rank_of, MayVote, IsBallot};
+ghost use Rattle.image_codec.specs.Encoding.{IsEncoding, IsNoEncoding};
+ghost use Rattle.image_codec.specs.State.{opened_at, with_ballot, with_votes, sealed_at, rank_in, rank_of, MayVote, IsBallot};
 ghost use Rattle.image_codec.specs.Valid.{ready_state, IsValid, IsOfVoters, HasRoom, MayClose};
 
+use crate::filling::{fill_turnout, fill_votes};
+use crate::reading::{BAGS, checked};
 use election_tables::Tables;
 use std::alloc::Global;
 use std::marker::Model;
@@ -78,11 +81,7 @@ impl State {
     pub fn rank(&self) -> u32
         ensures { result ≡ rank_of self.now }
     {
-        match self.phase {
-            Phase::Ready => 0,
-            Phase::Polling { .. } => 1 + self.turnout.len(),
-            Phase::Sealed { .. } => self.turnout.len() + 2,
-        }
+        rank_with(self.phase, self.turnout.len())
     }
 
     /// Opens the poll. The caller owes that the state is ready, and that the opening moment is one.
@@ -106,6 +105,29 @@ impl State {
         add_choices(&mut self.votes, tables, choices);
     }
 
+    /// Takes on the state whose encoding some bytes are, of a poll of these tables and as many voters as this state has
+    /// places; answers false and changes nothing exactly where no state has that encoding. Bytes of any length may be
+    /// given. It takes no memory.
+    ///
+    /// The caller owes that this state is ready, and has a bag for each panel of the tables.
+    pub fn load(&mut self, tables: &Tables, bytes: &[u8]) -> bool
+        requires ready { self.old.phase ≡ Phase.Ready }
+        requires panels { length self.old.bags ≡ length tables.now.panels }
+        ensures loaded { result ≡ true → IsEncoding tables.now (length self.old.came) self.new bytes.now }
+        ensures unchanged { result ≡ false → self.new ≡ self.old }
+        ensures none { result ≡ false → IsNoEncoding tables.now (length self.old.came) bytes.now }
+    {
+        match checked(tables, self.turnout.voters(), bytes) {
+            Some(head) => {
+                fill_turnout(&mut self.turnout, &bytes[22..97]);
+                fill_votes(&mut self.votes, tables, head.came, bytes.split_at(BAGS).1);
+                self.phase = head.phase;
+                true
+            }
+            None => false,
+        }
+    }
+
     /// Seals the poll. The caller owes that the poll is open, and that the closing moment is one and not below the opening.
     pub fn seal(&mut self, closed: u64)
         requires closing { MayClose self.old.phase closed }
@@ -115,6 +137,39 @@ impl State {
         if let Phase::Polling { opened } = self.phase {
             self.phase = Phase::Sealed { opened, closed };
         }
+    }
+}
+
+/// The state whose encoding some bytes are, of a poll of these tables and so many voters, of whom there are at most 600;
+/// `Ok(None)` exactly where no state has that encoding. Bytes of any length may be given. `Memory` comes only where an
+/// allocation failed.
+pub fn decode(
+    alloc: Global,
+    tables: &Tables,
+    voters: u32,
+    bytes: &[u8],
+) -> Result<Option<State>, Memory>
+    requires { voters ≤ 600 }
+    ensures found { IfOk result (λ found. IfSome found (λ s. IsEncoding tables.now voters s bytes.now)) }
+    ensures none { IfOk result (λ found. IsNone found → IsNoEncoding tables.now voters bytes.now) }
+{
+    let mut state = State::ready(alloc, tables, voters)?;
+    if state.load(tables, bytes) {
+        Ok(Some(state))
+    } else {
+        Ok(None)
+    }
+}
+
+/// The rank of a state in this phase with so many who came.
+pub(crate) fn rank_with(phase: Phase, came: u32) -> u32
+    requires { came ≤ 600 }
+    ensures { result ≡ rank_in phase came }
+{
+    match phase {
+        Phase::Ready => 0,
+        Phase::Polling { .. } => 1 + came,
+        Phase::Sealed { .. } => came + 2,
     }
 }
 

@@ -11,3 +11,7 @@ pub mod Stepping
 pub mod Typing
 pub mod Performing
 pub mod Reaching
+pub mod Leading
+pub mod Steps
+pub mod Doing
+pub mod Starting

@@ -35,31 +35,6 @@ use Rattle.station.specs.Valid.{IsStanding, IsPlaced, IsAnswer}
 use Rattle.station.specs.declared.act.Act.{Act}
 use Rattle.station.proofs.Replies.{answer_of}
 
--- Acts in order
-
-outputs_of-append : (s : State) (a b : List Act) → outputs_of s (a ++ b) ≡ outputs_of s a ++ outputs_of s b
-outputs_of-append s [] b = refl
-outputs_of-append s (x ∷ a) b = ap (λ (o : List Output). output_of s x ∷ o) (outputs_of-append s a b)
-
-lines-append : (t : TablesData) (s : State) (a b : List Act) → session_lines t (outputs_of s (a ++ b)) ≡ session_lines t (outputs_of s a) ++ session_lines t (outputs_of s b)
-lines-append t s a b = ap (session_lines t) (outputs_of-append s a b) ∙ flat_map-append (output_lines t) (outputs_of s a) (outputs_of s b)
-
--- the acts up to an index, and one more
-pub acts_more : (t : TablesData) (s : State) (acts : List Act) (i : ℕ) (d : Act) → i < length acts
-    → session_lines t (outputs_of s (take (i + 1) acts)) ≡ session_lines t (outputs_of s (take i acts)) ++ output_lines t (output_of s (get_or acts i d))
-acts_more t s acts i d h =
-    ap (λ (a : List Act). session_lines t (outputs_of s a)) (take_more acts i d h)
-    ∙ (lines-append t s (take i acts) (get_or acts i d ∷ [])
-    ∙ ap (λ (ls : List (List ℕ)). session_lines t (outputs_of s (take i acts)) ++ ls) (append-nil (output_lines t (output_of s (get_or acts i d)))))
-
-pub acts_rest : (t : TablesData) (s : State) (acts : List Act) (i : ℕ) (d : Act) → i < length acts
-    → session_lines t (outputs_of s acts)
-    ≡ (session_lines t (outputs_of s (take i acts)) ++ output_lines t (output_of s (get_or acts i d))) ++ session_lines t (outputs_of s (drop (i + 1) acts))
-acts_rest t s acts i d h =
-    ap (λ (a : List Act). session_lines t (outputs_of s a)) (sym (take-append-drop (i + 1) acts))
-    ∙ (lines-append t s (take (i + 1) acts) (drop (i + 1) acts)
-    ∙ ap (λ (ls : List (List ℕ)). ls ++ session_lines t (outputs_of s (drop (i + 1) acts))) (acts_more t s acts i d h))
-
 -- what holds of each act holds of that of an index
 pub act_at : (P : Act → Type 0) (acts : List Act) (i : ℕ) (d : Act) → i < length acts → AllByRecursion P acts → P (get_or acts i d)
 act_at P [] i d h all = absurd (omega arith)

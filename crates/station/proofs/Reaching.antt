@@ -1,5 +1,5 @@
 -- Events one by one, from a station that is idle
-use Rattle.std.proofs.Common.{◌≡◌, ◌⊎◌, inl, inr, ℕ, List, [], ◌∷◌, ◌++◌, refl, sym, ap, subst, ◌∙◌, append_assoc}
+use Rattle.std.proofs.Common.{◌≡◌, ℕ, List, [], ◌∷◌, ◌++◌, refl, sym, ap, subst, ◌∙◌, append_assoc}
 use Rattle.std.proofs.lemmas.List.{append-nil}
 use Rattle.std.proofs.lemmas.Grind.{flat_map-append}
 use Rattle.key_script.specs.declared.keys.Event.{Event}
@@ -11,12 +11,16 @@ use Rattle.clerk_term.specs.declared.replies.Mode.{Mode}
 use Rattle.clerk_term.specs.declared.replies.Mode.TheVariants as mode
 use Rattle.image_codec.specs.State.{State}
 use Rattle.station.specs.Setting.{Setting, IsSetting}
-use Rattle.station.specs.Output.{Output}
+use Rattle.state_store.specs.Steps.{Step, state_after}
+use Rattle.station.specs.Acts.{last_state}
+use Rattle.station.specs.Output.{Output, Says, Commits, Reports}
 use Rattle.station.specs.Run.{IsRun, ends}
 use Rattle.station.specs.Press.{Standing, press, after, outputs, idle_at}
 use Rattle.station.specs.Stands.{StandsFor, IsReached, idle}
-use Rattle.station.specs.Text.{output_lines, session_lines}
+use Rattle.station.specs.Text.{output_steps, session_steps}
 use Rattle.station.specs.Valid.{IsStanding, IsPlaced}
+use Rattle.station.proofs.Doing.{state_after_outputs}
+use Rattle.station.proofs.Faithful.{press_faithful}
 use Rattle.station.proofs.Stands.{Goes, stands, done, goes, run_moved, events_by_run}
 use Rattle.station.proofs.RunLaws.{outputs-append}
 
@@ -89,20 +93,12 @@ reached v s es valid =
 run_of_events : (v : Setting) (s : State) (es : List Event) → IsSetting v → IsRun v s es (after v (idle_at s) es).state (outputs v (idle_at s) es)
 run_of_events v s es valid = events_by_run v valid es s (idle_at s) [] [] idle
 
--- so it is without any event, whatever the setting
-pub reached_from : (v : Setting) (s : State) (es : List Event) → (es ≡ []) ⊎ IsSetting v
-    → IsRun v s es (after v (idle_at s) es).state (outputs v (idle_at s) es) × IsReached v s es (outputs v (idle_at s) es) (after v (idle_at s) es)
-reached_from v s es (inr valid) = (run_of_events v s es valid, reached v s es valid)
-reached_from v s es (inl none) =
-    subst (λ (f : List Event). IsRun v s f (after v (idle_at s) f).state (outputs v (idle_at s) f) × IsReached v s f (outputs v (idle_at s) f) (after v (idle_at s) f)) (sym none)
-    (ends, record { state = s; before = []; since = []; put_before = []; put_since = []; events = refl; texts = refl; run = ends; stands = idle })
-
--- so at the end of a script
-pub reached_end : (v : Setting) (s : State) (es script : List Event) (x : Standing) → es ≡ script → x ≡ after v (idle_at s) es → (es ≡ []) ⊎ IsSetting v
-    → IsRun v s script x.state (outputs v (idle_at s) es) × IsReached v s script (outputs v (idle_at s) es) x
-reached_end v s es script x all at valid =
-    subst (λ (f : List Event). IsRun v s f x.state (outputs v (idle_at s) es) × IsReached v s f (outputs v (idle_at s) es) x) all
-    (subst (λ (y : Standing). IsRun v s es y.state (outputs v (idle_at s) es) × IsReached v s es (outputs v (idle_at s) es) y) (sym at) (reached_from v s es valid))
+-- what a script comes to, where its events are done
+pub reached_end : (v : Setting) (s : State) (script : List Event) (x : Standing) → IsSetting v → x ≡ after v (idle_at s) script
+    → IsRun v s script x.state (outputs v (idle_at s) script) × IsReached v s script (outputs v (idle_at s) script) x
+reached_end v s script x valid at =
+    subst (λ (y : Standing). IsRun v s script y.state (outputs v (idle_at s) script) × IsReached v s script (outputs v (idle_at s) script) y) (sym at)
+    (run_of_events v s script valid, reached v s script valid)
 
 -- One event more
 
@@ -110,26 +106,43 @@ pub after_one : (v : Setting) (x : Standing) (es : List Event) (e : Event) → a
 after_one v x [] e = refl
 after_one v x (d ∷ es) e = after_one v (press v x d).standing es e
 
-lines_of_more : (t : TablesData) (v : Setting) (x : Standing) (es more : List Event)
-    → session_lines t (outputs v x (es ++ more)) ≡ session_lines t (outputs v x es) ++ session_lines t (outputs v (after v x es) more)
-lines_of_more t v x es more = ap (session_lines t) (outputs-append v x es more) ∙ flat_map-append (output_lines t) (outputs v x es) (outputs v (after v x es) more)
+steps_of_more : (t : TablesData) (v : Setting) (x : Standing) (es more : List Event)
+    → session_steps t (outputs v x (es ++ more)) ≡ session_steps t (outputs v x es) ++ session_steps t (outputs v (after v x es) more)
+steps_of_more t v x es more = ap (session_steps t) (outputs-append v x es more) ∙ flat_map-append (output_steps t) (outputs v x es) (outputs v (after v x es) more)
 
-pub lines_one : (t : TablesData) (v : Setting) (x y : Standing) (es : List Event) (e : Event) → y ≡ after v x es
-    → session_lines t (outputs v x (es ++ e ∷ [])) ≡ session_lines t (outputs v x es) ++ session_lines t (press v y e).out
-lines_one t v x y es e at =
-    lines_of_more t v x es (e ∷ [])
-    ∙ (ap (λ (o : List Output). session_lines t (outputs v x es) ++ session_lines t o) (append-nil (press v (after v x es) e).out)
-    ∙ ap (λ (z : Standing). session_lines t (outputs v x es) ++ session_lines t (press v z e).out) (sym at))
+pub steps_one : (t : TablesData) (v : Setting) (x y : Standing) (es : List Event) (e : Event) → y ≡ after v x es
+    → session_steps t (outputs v x (es ++ e ∷ [])) ≡ session_steps t (outputs v x es) ++ session_steps t (press v y e).out
+steps_one t v x y es e at =
+    steps_of_more t v x es (e ∷ [])
+    ∙ (ap (λ (o : List Output). session_steps t (outputs v x es) ++ session_steps t o) (append-nil (press v (after v x es) e).out)
+    ∙ ap (λ (z : Standing). session_steps t (outputs v x es) ++ session_steps t (press v z e).out) (sym at))
 
-pub lines_rest : (t : TablesData) (v : Setting) (x y : Standing) (es more : List Event) (e : Event) → y ≡ after v x es
-    → (rest : List (List ℕ)) × (session_lines t (outputs v x (es ++ e ∷ more)) ≡ (session_lines t (outputs v x es) ++ session_lines t (press v y e).out) ++ rest)
-lines_rest t v x y es more e at =
+pub steps_rest : (t : TablesData) (v : Setting) (x y : Standing) (es more : List Event) (e : Event) → y ≡ after v x es
+    → (rest : List Step) × (session_steps t (outputs v x (es ++ e ∷ more)) ≡ (session_steps t (outputs v x es) ++ session_steps t (press v y e).out) ++ rest)
+steps_rest t v x y es more e at =
     let z = after v x (es ++ e ∷ []) in (
-      session_lines t (outputs v z more),
-      ap (λ (f : List Event). session_lines t (outputs v x f)) (sym (append_assoc es (e ∷ []) more))
-          ∙ (lines_of_more t v x (es ++ e ∷ []) more
-          ∙ ap (λ (ls : List (List ℕ)). ls ++ session_lines t (outputs v z more)) (lines_one t v x y es e at)),
+      session_steps t (outputs v z more),
+      ap (λ (f : List Event). session_steps t (outputs v x f)) (sym (append_assoc es (e ∷ []) more))
+          ∙ (steps_of_more t v x (es ++ e ∷ []) more
+          ∙ ap (λ (ls : List Step). ls ++ session_steps t (outputs v z more)) (steps_one t v x y es e at)),
     )
+
+last-append : (s : State) (a b : List Output) → last_state s (a ++ b) ≡ last_state (last_state s a) b
+last-append s [] b = refl
+last-append s (Says l ∷ a) b = last-append s a b
+last-append s (Commits u l ∷ a) b = last-append u a b
+last-append s (Reports title u ∷ a) b = last-append s a b
+
+last_after : (v : Setting) (x : Standing) (es : List Event) → last_state x.state (outputs v x es) ≡ (after v x es).state
+last_after v x [] = refl
+last_after v x (e ∷ es) =
+    let y = (press v x e).standing in
+    last-append x.state (press v x e).out (outputs v y es)
+    ∙ (ap (λ (s : State). last_state s (outputs v y es)) (press_faithful v x e).last ∙ last_after v y es)
+
+-- the state after the steps of events is that where the station stands
+pub steps_after : (t : TablesData) (v : Setting) (x : Standing) (es : List Event) → state_after x.state (session_steps t (outputs v x es)) ≡ (after v x es).state
+steps_after t v x es = state_after_outputs t x.state (outputs v x es) ∙ last_after v x es
 
 -- one event more is a run, which puts out what the press does
 pub press_run : (v : Setting) (s : State) (x : Standing) (e : Event) (es : List Event) (out : List Output) → IsSetting v → StandsFor v s x es out

@@ -43,7 +43,7 @@ length-with_votes [] choices bags = refl
 length-with_votes (l ∷ lines) [] bags = refl
 length-with_votes (l ∷ lines) (c ∷ choices) bags = length-with_votes lines choices (with_vote l.panel c bags) ∙ length-with_vote l.panel c bags
 
-ballot_fits : (v : Setting) (s : State) (place : ℕ) (choices : List Choice) → Fits v s → Fits v (with_ballot v.lines s place choices)
+pub ballot_fits : (v : Setting) (s : State) (place : ℕ) (choices : List Choice) → Fits v s → Fits v (with_ballot v.lines s place choices)
 ballot_fits v s place choices fits =
     record {
       roll = length-set s.came place true ∙ fits.roll;

@@ -7,3 +7,6 @@ pub mod Stands
 pub mod Valid
 pub mod Acts
 pub mod Text
+pub mod Station
+pub mod Doing
+pub mod Start

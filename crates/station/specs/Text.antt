@@ -8,6 +8,7 @@ use Rattle.turnout.specs.declared.phase.Phase.TheVariants as phase
 use Rattle.vote_kinds.specs.Ballot.{IsField}
 use Rattle.voter_term.specs.Screen.{screen_text}
 use Rattle.poll_report.specs.Counts.{count_lines}
+use Rattle.state_store.specs.Steps.{Step, quiet, telling}
 use Rattle.station.specs.Output.{Output, Says, Commits, Reports}
 use Rattle.station.specs.declared.line.Line.{Line}
 use Rattle.station.specs.declared.line.Line.TheVariants as line
@@ -45,6 +46,15 @@ output_lines t (Reports title s) = title_text title ∷ count_lines t s.bags
 -- the lines of a session, in order
 abbrev pub session_lines : TablesData → List Output → List (List ℕ)
 session_lines t out = flat_map (output_lines t) out
+
+-- the same with the states: each is committed just before its line
+abbrev pub output_steps : TablesData → Output → List Step
+output_steps t (Says l) = quiet (line_text t l ∷ [])
+output_steps t (Commits s l) = telling s (line_text t l)
+output_steps t (Reports title s) = quiet (title_text title ∷ count_lines t s.bags)
+
+abbrev pub session_steps : TablesData → List Output → List Step
+session_steps t out = flat_map (output_steps t) out
 
 -- a line whose numbers have the digits of its format
 abbrev pub IsLine : Line → Type 0

@@ -5,7 +5,8 @@
 //! run, line by line, and the state is where the run leads. `specs/Stands.antt` says what a station stands for between two
 //! presses. `laws` are the laws of runs.
 //!
-//! The station changes its state in memory and tells what is to be done (`session`); one loop does it on the machine (`perform`).
+//! The session changes its state in memory and tells what is to be done (`session`); one loop does it on the machine, over the store
+//! that keeps the state on both flashes (`perform`).
 #![tactic(auto)]
 
 mod act;

@@ -1,68 +1,121 @@
-//! Doing on a machine what a station asks for.
-ghost use Rattle.std.specs.Prelude.{◌≡◌, length};
+//! Doing on a machine, over a store, what a session asks for.
+ghost use Rattle.std.specs.Prelude.{◌≡◌, [], ◌∷◌, IfOk};
 ghost use Rattle.std.specs.List.{AllByRecursion};
-ghost use Rattle.urna_outside.specs.ShownLines.{Shows};
-ghost use Rattle.election_tables.specs.TablesData.{IsTables};
-ghost use Rattle.key_script.specs.Event.{IsEvent};
-ghost use Rattle.station.specs.Setting.{setting_of};
+ghost use Rattle.urna_outside.specs.Told.{port_of};
+ghost use Rattle.image_codec.specs.Encoding.{IsStateOf};
+ghost use Rattle.image_codec.specs.State.{State};
+ghost use Rattle.state_store.specs.Played.{Puts};
+ghost use Rattle.state_store.specs.Steps.{state_after, telling};
+ghost use Rattle.state_store.specs.Store.{AreDevices, IsBelow, IsLoadedWith, Keeps};
 ghost use Rattle.station.specs.Acts.{IsAct, output_of, outputs_of};
-ghost use Rattle.station.specs.Press.{press};
-ghost use Rattle.station.specs.Text.{output_lines, session_lines};
-ghost use Rattle.station.specs.Valid.{IsStanding};
+ghost use Rattle.station.specs.Doing.{AreDoable};
+ghost use Rattle.station.specs.Text.{IsLine, line_text, output_steps, session_steps};
 
 use crate::act::Act;
-use crate::station::Station;
+use crate::line::Line;
+use crate::session::Session;
 use election_tables::{Roll, Tables};
-use key_script::Event;
 use poll_report::show_counts;
-use urna_outside::{Failed, Machine, show_line};
+use state_store::Store;
+use urna_outside::{Dev, Machine, Port, show_line};
 
-impl Station {
-    /// One event, done.
-    pub(crate) fn do_event<M: Machine>(
-        &mut self,
-        tables: &Tables,
-        roll: &Roll,
-        m: &mut M,
-        event: Event,
-    ) -> Result<(), Failed>
-        requires event { IsEvent event }
-        requires stands { IsStanding (setting_of tables.now roll.now.titles) self.old }
-        ensures tables { IsTables tables.now }
-        ensures standing { self.new ≡ (press (setting_of tables.now roll.now.titles) self.old event).standing }
-        ensures stands { IsStanding (setting_of tables.now roll.now.titles) self.new }
-        ensures shows { Shows result (session_lines tables.now (press (setting_of tables.now roll.now.titles) self.old event).out) (M.told m.old) (M.told m.new) }
-    {
-        let acts = self.take_event(tables, roll, event);
-        self.perform_all(tables, m, &acts)
+/// Does the acts in order, over the state as it is now. The caller owes that the store keeps a state from which they may be done.
+pub(crate) fn perform_all<M: Machine>(
+    session: &Session,
+    store: Store,
+    tables: &Tables,
+    roll: &Roll,
+    m: &mut M,
+    acts: &[Act],
+) -> Result<Store, Port>
+    requires acts { AllByRecursion IsAct acts.now }
+    requires devices { AreDevices (M.told m.old).sizes }
+    requires load { IsLoadedWith tables.now roll.now store.load }
+    requires state { IsStateOf tables.now store.load.section.voters session.now.state }
+    requires may { AreDoable tables.now (M.told m.old) store session.now.state acts.now }
+    ensures load { IfOk result (λ next. next.load ≡ store.load) }
+    ensures kept { (s : State) → Keeps tables.now (M.told m.old) store s
+        → IfOk result (λ next. Keeps tables.now (M.told m.new) next (state_after s (session_steps tables.now (outputs_of session.now.state acts.now)))) }
+    ensures puts { (s : State) → Keeps tables.now (M.told m.old) store s
+        → Puts (λ port. port) result tables.now store.load s (session_steps tables.now (outputs_of session.now.state acts.now)) (M.told m.old) (M.told m.new) }
+{
+    let mut store = store;
+    for act in acts {
+        store = match perform(session, store, tables, roll, m, *act) {
+            Ok(store) => store,
+            Err(port) => return Err(port),
+        };
     }
+    Ok(store)
+}
 
-    /// Does the acts in order, over the state as it is now.
-    fn perform_all<M: Machine>(
-        &self,
-        tables: &Tables,
-        m: &mut M,
-        acts: &[Act],
-    ) -> Result<(), Failed>
-        requires acts { AllByRecursion IsAct acts.now }
-        requires panels { length self.now.state.bags ≡ length tables.now.panels }
-        ensures { Shows result (session_lines tables.now (outputs_of self.now.state acts.now)) (M.told m.old) (M.told m.new) }
-    {
-        for act in acts {
-            self.perform(tables, m, *act)?;
-        }
-        Ok(())
+fn perform<M: Machine>(
+    session: &Session,
+    store: Store,
+    tables: &Tables,
+    roll: &Roll,
+    m: &mut M,
+    act: Act,
+) -> Result<Store, Port>
+    requires act { IsAct act }
+    requires devices { AreDevices (M.told m.old).sizes }
+    requires load { IsLoadedWith tables.now roll.now store.load }
+    requires state { IsStateOf tables.now store.load.section.voters session.now.state }
+    requires may { AreDoable tables.now (M.told m.old) store session.now.state (act ∷ []) }
+    ensures load { IfOk result (λ next. next.load ≡ store.load) }
+    ensures kept { (s : State) → Keeps tables.now (M.told m.old) store s
+        → IfOk result (λ next. Keeps tables.now (M.told m.new) next (state_after s (output_steps tables.now (output_of session.now.state act)))) }
+    ensures puts { (s : State) → Keeps tables.now (M.told m.old) store s
+        → Puts (λ port. port) result tables.now store.load s (output_steps tables.now (output_of session.now.state act)) (M.told m.old) (M.told m.new) }
+{
+    match act {
+        Act::Say(line) => match show_line(m, line.text(tables).as_bytes()) {
+            Ok(()) => Ok(store),
+            Err(_) => Err(Port::Display),
+        },
+        Act::Commit(line) => tell(session, store, tables, roll, m, line),
+        Act::Report(title) => match show_counts(m, title.text(), tables, session.state().votes()) {
+            Ok(()) => Ok(store),
+            Err(_) => Err(Port::Display),
+        },
     }
+}
 
-    fn perform<M: Machine>(&self, tables: &Tables, m: &mut M, act: Act) -> Result<(), Failed>
-        requires act { IsAct act }
-        requires panels { length self.now.state.bags ≡ length tables.now.panels }
-        ensures { Shows result (output_lines tables.now (output_of self.now.state act)) (M.told m.old) (M.told m.new) }
-    {
-        match act {
-            Act::Say(line) => show_line(m, line.text(tables).as_bytes()),
-            Act::Commit(line) => show_line(m, line.text(tables).as_bytes()),
-            Act::Report(title) => show_counts(m, title.text(), tables, self.state.votes()),
-        }
+/// Commits the state, and then shows the line that tells it.
+fn tell<M: Machine>(
+    session: &Session,
+    store: Store,
+    tables: &Tables,
+    roll: &Roll,
+    m: &mut M,
+    line: Line,
+) -> Result<Store, Port>
+    requires line { IsLine line }
+    requires devices { AreDevices (M.told m.old).sizes }
+    requires load { IsLoadedWith tables.now roll.now store.load }
+    requires state { IsStateOf tables.now store.load.section.voters session.now.state }
+    requires below { IsBelow tables.now (M.told m.old) store session.now.state }
+    ensures load { IfOk result (λ next. next.load ≡ store.load) }
+    ensures kept { IfOk result (λ next. Keeps tables.now (M.told m.new) next session.now.state) }
+    ensures puts { (s : State) → Keeps tables.now (M.told m.old) store s
+        → Puts (λ port. port) result tables.now store.load s (telling session.now.state (line_text tables.now line)) (M.told m.old) (M.told m.new) }
+{
+    let store = match store.commit(tables, m, session.state()) {
+        Ok(store) => store,
+        Err(dev) => return Err(port_of(dev)),
+    };
+    match show_line(m, line.text(tables).as_bytes()) {
+        Ok(()) => Ok(store),
+        Err(_) => Err(Port::Display),
+    }
+}
+
+/// A device as the port that fails with it.
+pub(crate) fn port_of(dev: Dev) -> Port
+    ensures { result ≡ port_of dev }
+{
+    match dev {
+        Dev::Internal => Port::Internal,
+        Dev::External => Port::External,
     }
 }

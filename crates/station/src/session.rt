@@ -12,14 +12,32 @@ ghost use Rattle.station.specs.Valid.{IsAnswer, IsStanding};
 
 use crate::act::Act;
 use crate::line::{Line, Title};
-use crate::station::Station;
-use crate::visit::{fill_up, panel_of_line, screen_of};
+use crate::visit::{Choices, fill_up, panel_of_line, screen_of};
 use arrayvec::ArrayVec;
 use clerk_term::{ClerkAnswer, Mode, reply};
 use election_tables::{Roll, Tables};
+use image_codec::State;
 use key_script::{ClerkKey, Event, Key};
+use std::marker::Model;
 use vote_kinds::Field;
 use voter_term::{Shown, take_key};
+
+/// Both terminals over the state of one poll, in memory. Contracts see a session as a `Standing` (`specs/Press.antt`).
+#[derive(Drop)]
+pub struct Session {
+    state: State,
+    mode: Mode,
+    choices: Choices,
+    field: Field,
+}
+
+impl Model for Session {
+    ghost use Rattle.station.specs.Press.{Standing};
+
+    ghost Value = { Standing };
+
+    ghost view = { λ s. record { state = s.state; mode = s.mode; choices = s.choices.items; field = s.field } };
+}
 
 /// What one event asks to be done, in order.
 pub(crate) type Acts = ArrayVec<Act, 2>;
@@ -41,7 +59,33 @@ fn two(first: Act, second: Act) -> Acts
     acts
 }
 
-impl Station {
+impl Session {
+    /// Nobody is at the station.
+    pub(crate) fn of(state: State) -> Session
+        ensures { result ≡ idle_at state }
+    {
+        Session {
+            state,
+            mode: Mode::Idle,
+            choices: Choices::new(),
+            field: Field::Empty,
+        }
+    }
+
+    /// The state of the poll.
+    pub(crate) fn state(&self) -> &State
+        ensures { result.now ≡ self.now.state }
+    {
+        &self.state
+    }
+
+    /// Who is at the station.
+    pub(crate) fn mode(&self) -> Mode
+        ensures { result ≡ self.now.mode }
+    {
+        self.mode
+    }
+
     /// One event.
     pub(crate) fn take_event(&mut self, tables: &Tables, roll: &Roll, event: Event) -> Acts
         requires event { IsEvent event }

@@ -1,54 +1,109 @@
 -- How a command ends, by the answer of its steps
-use Rattle.std.proofs.Common.{◌≡◌, Some, ◌≢◌, ◌⊎◌, inl, inr, ℕ, List, [], Result, Ok, Err, OnOk, IfErr, sym, subst}
+use Rattle.std.proofs.Common.{◌≡◌, ◌≢◌, ◌⊎◌, inl, inr, ℕ, List, Result, Ok, Err, refl, sym, subst}
 use Rattle.std.specs.Result.{IsErrAnd}
-use Rattle.urna_outside.specs.Cabinet.{CabinetTold}
-use Rattle.urna_outside.specs.ShownLines.{HasShown, IsCutOff}
-use Rattle.urna_outside.specs.Told.{Told}
+use Rattle.urna_outside.specs.Cabinet.{CabinetTold, Tally}
+use Rattle.urna_outside.specs.Told.{Told, port_of}
+use Rattle.urna_outside.specs.declared.device.Dev.{Dev}
+use Rattle.urna_outside.specs.declared.device.Dev.TheVariants as dev
+use Rattle.urna_outside.specs.declared.device.Port.{Port}
+use Rattle.urna_outside.specs.declared.device.Port.TheVariants as port
+use Rattle.urna_outside.proofs.Doing.{does_nothing}
+use Rattle.urna_outside.proofs.Faults.{faultless_none}
 use Rattle.election_tables.specs.Roll.{RollData}
 use Rattle.election_tables.specs.TablesData.{TablesData}
 use Rattle.key_script.specs.declared.keys.Event.{Event}
-use Rattle.urna_app.specs.Command.{Vota, vota_of}
-use Rattle.urna_app.specs.Ending.{Ends, IsGiven, IsRefused, IsSession, refused, no_memory, no_cabinet, no_display, done}
-use Rattle.urna_app.specs.Taking.{HasTaken, status_in}
+use Rattle.state_store.specs.Calls.{IsUntouched}
+use Rattle.state_store.specs.declared.store.LoadError.{LoadError}
+use Rattle.state_store.specs.declared.store.LoadError.TheVariants as load
+use Rattle.station.specs.declared.station.StartError.{StartError}
+use Rattle.station.specs.declared.station.StartError.TheVariants as start
+use Rattle.urna_app.specs.Command.{Carga, Vota}
+use Rattle.urna_app.specs.Ending.{CargaEnds, IsGiven, IsRefused, IsRefusedLoad, VotaEnds, cut, load_no_cabinet, load_no_memory, load_refused, load_status, no_cabinet, no_memory, not_started, port_status, refused, start_status}
+use Rattle.urna_app.specs.Holding.{FailsToHold, hold_status}
+use Rattle.urna_app.specs.Taking.{CountsFor, HasTaken, status_in}
 use Rattle.urna_app.specs.declared.status.Status.{Status}
 use Rattle.urna_app.specs.declared.status.Status.TheVariants as status
+use Rattle.urna_app.specs.declared.vota.HoldError.{HoldError}
+use Rattle.urna_app.specs.declared.vota.HoldError.TheVariants as hold
 
 -- the status of an error that was passed on
 pub passed_on : {T : Type 0} {P : Status → Type 0} (r : Result T Status) (s : Status) → IsErrAnd r P → ((e : Status) → P e → e ≡ s) → status_in r ≡ s
 passed_on (Ok x) s h f = absurd h
 passed_on (Err e) s h f = f e h
 
--- a step that took no document shows nothing
-pub fault_ends : (words : List (List ℕ)) (c d : CabinetTold) (m : Told) (s : Status) (names : Vota) → vota_of words ≡ Some names → (s ≢ status.Memory → s ≢ status.Cabinet → IsRefused c.files words s)
-    → HasTaken 3 s c d → HasShown [] m m → Ends words c d m m s
-fault_ends words c d m status.Memory names vota found taken shown = no_memory vota taken shown
-fault_ends words c d m status.Cabinet names vota found taken shown = no_cabinet vota taken shown
-fault_ends words c d m status.Done names vota found taken shown = refused vota (found (λ e. absurd (cc)) (λ e. absurd (cc))) taken shown
-fault_ends words c d m status.Usage names vota found taken shown = refused vota (found (λ e. absurd (cc)) (λ e. absurd (cc))) taken shown
-fault_ends words c d m status.TablesNotToml names vota found taken shown = refused vota (found (λ e. absurd (cc)) (λ e. absurd (cc))) taken shown
-fault_ends words c d m (status.TablesRule k) names vota found taken shown = refused vota (found (λ e. absurd (cc)) (λ e. absurd (cc))) taken shown
-fault_ends words c d m status.RollCount names vota found taken shown = refused vota (found (λ e. absurd (cc)) (λ e. absurd (cc))) taken shown
-fault_ends words c d m (status.RollLine k) names vota found taken shown = refused vota (found (λ e. absurd (cc)) (λ e. absurd (cc))) taken shown
-fault_ends words c d m (status.Line k) names vota found taken shown = refused vota (found (λ e. absurd (cc)) (λ e. absurd (cc))) taken shown
-fault_ends words c d m (status.TooLong t) names vota found taken shown = refused vota (found (λ e. absurd (cc)) (λ e. absurd (cc))) taken shown
-fault_ends words c d m (status.Missing t) names vota found taken shown = refused vota (found (λ e. absurd (cc)) (λ e. absurd (cc))) taken shown
-fault_ends words c d m status.Display names vota found taken shown = refused vota (found (λ e. absurd (cc)) (λ e. absurd (cc))) taken shown
+-- nothing was done between a moment and itself
+pub untouched : (m : Told) → IsUntouched m m
+untouched m = record { does = does_nothing m; fine = faultless_none m }
+
+-- want of memory, a fault of the cabinet, or neither
+which : (s : Status) → (s ≡ status.Memory) ⊎ (s ≡ status.Cabinet) ⊎ ((s ≢ status.Memory) × (s ≢ status.Cabinet))
+which status.Memory = inl refl
+which status.Cabinet = inr (inl refl)
+which status.Done = inr (inr (λ e. absurd (cc), λ e. absurd (cc)))
+which status.Usage = inr (inr (λ e. absurd (cc), λ e. absurd (cc)))
+which status.TablesNotToml = inr (inr (λ e. absurd (cc), λ e. absurd (cc)))
+which (status.TablesRule k) = inr (inr (λ e. absurd (cc), λ e. absurd (cc)))
+which status.RollCount = inr (inr (λ e. absurd (cc), λ e. absurd (cc)))
+which (status.RollLine k) = inr (inr (λ e. absurd (cc), λ e. absurd (cc)))
+which (status.Line k) = inr (inr (λ e. absurd (cc), λ e. absurd (cc)))
+which (status.TooLong d) = inr (inr (λ e. absurd (cc), λ e. absurd (cc)))
+which (status.Missing d) = inr (inr (λ e. absurd (cc), λ e. absurd (cc)))
+which status.InternalFlash = inr (inr (λ e. absurd (cc), λ e. absurd (cc)))
+which status.ExternalFlash = inr (inr (λ e. absurd (cc), λ e. absurd (cc)))
+which status.Display = inr (inr (λ e. absurd (cc), λ e. absurd (cc)))
+which (status.Foreign d) = inr (inr (λ e. absurd (cc), λ e. absurd (cc)))
+which status.NoImage = inr (inr (λ e. absurd (cc), λ e. absurd (cc)))
+which (status.Busy d) = inr (inr (λ e. absurd (cc), λ e. absurd (cc)))
+which status.NoSection = inr (inr (λ e. absurd (cc), λ e. absurd (cc)))
+
+-- a step that took no document ends the command
+pub fault_ends : (names : Vota) (c d : CabinetTold) (m : Told) (s : Status) → (s ≢ status.Memory → s ≢ status.Cabinet → IsRefused c.files names s)
+    → HasTaken 3 s c d → VotaEnds names c d m m s
+fault_ends names c d m s found taken = ends s (which s) found taken
+  where
+    ends : (u : Status) → (u ≡ status.Memory) ⊎ (u ≡ status.Cabinet) ⊎ ((u ≢ status.Memory) × (u ≢ status.Cabinet))
+        → (u ≢ status.Memory → u ≢ status.Cabinet → IsRefused c.files names u) → HasTaken 3 u c d → VotaEnds names c d m m u
+    ends u (inl memory) found taken =
+        subst (VotaEnds names c d m m) (sym memory) (no_memory (subst (λ (v : Status). HasTaken 3 v c d) memory taken) (untouched m))
+    ends u (inr (inl failed)) found taken =
+        subst (VotaEnds names c d m m) (sym failed) (no_cabinet (subst (λ (v : Status). HasTaken 3 v c d) failed taken) (untouched m))
+    ends u (inr (inr (memory, failed))) found taken = refused (found memory failed) taken (untouched m)
+
+pub load_fault_ends : (names : Carga) (c d : CabinetTold) (m : Told) (s : Status) → (s ≢ status.Memory → s ≢ status.Cabinet → IsRefusedLoad c.files names s)
+    → HasTaken 2 s c d → CargaEnds names c d m m s
+load_fault_ends names c d m s found taken = ends s (which s) found taken
+  where
+    ends : (u : Status) → (u ≡ status.Memory) ⊎ (u ≡ status.Cabinet) ⊎ ((u ≢ status.Memory) × (u ≢ status.Cabinet))
+        → (u ≢ status.Memory → u ≢ status.Cabinet → IsRefusedLoad c.files names u) → HasTaken 2 u c d → CargaEnds names c d m m u
+    ends u (inl memory) found taken =
+        subst (CargaEnds names c d m m) (sym memory) (load_no_memory (subst (λ (v : Status). HasTaken 2 v c d) memory taken) (untouched m))
+    ends u (inr (inl failed)) found taken =
+        subst (CargaEnds names c d m m) (sym failed) (load_no_cabinet (subst (λ (v : Status). HasTaken 2 v c d) failed taken) (untouched m))
+    ends u (inr (inr (memory, failed))) found taken = load_refused (found memory failed) taken (untouched m)
 
 -- so many calls without a fault, whatever came after
-taken_as_memory : (n : ℕ) (c d : CabinetTold) → HasTaken n status.Done c d → HasTaken n status.Memory c d
-taken_as_memory n c d h = record { files = h.files; counts = h.counts; made = h.made; few = h.few; calls = h.calls }
+pub taken_as : (n : ℕ) (s : Status) (c d : CabinetTold) → (d.tally ≡ c.tally → CountsFor s c.tally d.tally) → HasTaken n status.Done c d → HasTaken n s c d
+taken_as n s c d counts h = record { files = h.files; counts = counts h.counts; made = h.made; few = h.few; calls = h.calls }
 
-taken_as_display : (n : ℕ) (c d : CabinetTold) → HasTaken n status.Done c d → HasTaken n status.Display c d
-taken_as_display n c d h = record { files = h.files; counts = h.counts; made = h.made; few = h.few; calls = h.calls }
+counts_port : (p : Port) (old new : Tally) → new ≡ old → CountsFor (port_status p) old new
+counts_port port.Internal old new same = same
+counts_port port.External old new same = same
+counts_port port.Display old new same = same
 
--- the session over the documents that were given
-pub held_ends : {T : Type 0} (words : List (List ℕ)) (c d : CabinetTold) (m n : Told) (t : TablesData) (r : RollData) (es : List Event) (result : Result T Status)
-    → IsGiven c.files words t r es → HasTaken 3 status.Done c d
-    → OnOk result ((lines : List (List ℕ)) × IsSession t r es lines × HasShown lines m n)
-    → IfErr result (λ s. ((s ≡ status.Memory) × HasShown [] m n) ⊎ ((s ≡ status.Display) × ((lines : List (List ℕ)) × IsSession t r es lines × IsCutOff lines m n)))
-    → Ends words c d m n (status_in result)
-held_ends words c d m n t r es (Ok x) given taken shown cut = done given shown.1 taken shown.2
-held_ends words c d m n t r es (Err s) given taken shown (inl memory) =
-    subst (Ends words c d m n) (sym memory.0) (no_memory given.vota (taken_as_memory 3 c d taken) memory.1)
-held_ends words c d m n t r es (Err s) given taken shown (inr display) =
-    subst (Ends words c d m n) (sym display.0) (no_display given display.1.1 (taken_as_display 3 c d taken) display.1.2)
+counts_start : (e : StartError) (old new : Tally) → new ≡ old → CountsFor (start_status e) old new
+counts_start start.Memory old new same = same
+counts_start (start.Port p) old new same = counts_port p old new same
+counts_start (start.Foreign d) old new same = same
+counts_start start.NoImage old new same = same
+
+pub counts_load : (e : LoadError) (old new : Tally) → new ≡ old → CountsFor (load_status e) old new
+counts_load load.Memory old new same = same
+counts_load (load.Flash dev.Internal) old new same = same
+counts_load (load.Flash dev.External) old new same = same
+counts_load (load.Busy d) old new same = same
+
+-- a session that was not held ends the command
+pub not_held : (names : Vota) (c d : CabinetTold) (m n : Told) (t : TablesData) (r : RollData) (es : List Event) (e : HoldError) → IsGiven c.files names t r es
+    → HasTaken 3 status.Done c d → FailsToHold t r es m n e → VotaEnds names c d m n (hold_status e)
+not_held names c d m n t r es (hold.Start e) given taken fails = not_started e given (taken_as 3 (start_status e) c d (counts_start e c.tally d.tally) taken) fails
+not_held names c d m n t r es (hold.Port p) given taken fails = cut p given (taken_as 3 (port_status p) c d (counts_port p c.tally d.tally) taken) fails

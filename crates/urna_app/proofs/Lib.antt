@@ -1,5 +1,7 @@
+mod Asked
 mod Calls
 mod Endings
 mod Faults
 mod FiveWords
 mod Once
+mod Sessions

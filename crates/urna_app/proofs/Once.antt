@@ -1,4 +1,4 @@
--- What is wrong with words and files is determined by them
+-- What is wrong with files is determined by them
 use Rattle.std.proofs.Common.{◌≡◌, ◌≤◌, ◌<◌, ℕ, List, length, Option, Some, None, refl, sym, ap, subst, ◌∙◌, arith, IsSomeAnd}
 use Rattle.std.specs.Option.{ForSome}
 use Rattle.std.specs.Prelude.{IsSome, MatchOption}
@@ -11,9 +11,9 @@ use Rattle.election_tables.specs.TablesData.{TablesData}
 use Rattle.key_script.specs.Script.{events_of, first_bad}
 use Rattle.key_script.proofs.ScriptLaws.{events_or_bad}
 use Rattle.key_script.specs.declared.keys.Event.{Event}
-use Rattle.urna_app.specs.Command.{Vota, vota_of}
-use Rattle.urna_app.specs.Documents.{IsTaken, IsBad, IsFault, HasTables, HasRoll, HasKeys, limit_of, lacks, longer, bad, no_document, rule, unserved, count, roll_line, line}
-use Rattle.urna_app.specs.Ending.{IsGiven, IsRefused, usage, tables, roll, keys}
+use Rattle.urna_app.specs.Command.{Carga, Vota}
+use Rattle.urna_app.specs.Documents.{IsTaken, IsBad, IsFault, HasTables, HasRoll, HasKeys, limit_of, lacks, longer, bad, no_document, rule, count, roll_line, line}
+use Rattle.urna_app.specs.Ending.{IsGiven, IsGivenLoad, IsRefused, IsRefusedLoad, tables, roll, keys, load_tables, load_roll}
 use Rattle.urna_app.specs.declared.status.Doc.{Doc}
 use Rattle.urna_app.specs.declared.status.Doc.TheVariants as doc
 use Rattle.urna_app.specs.declared.status.Status.{Status}
@@ -45,14 +45,9 @@ broken_not_kept bytes k ms h parsed kept =
 
 bad_tables : (bytes : List ℕ) (s t : Status) → IsBad doc.Tables bytes s → IsBad doc.Tables bytes t → s ≡ t
 bad_tables bytes s t (no_document h) (no_document i) = refl
-bad_tables bytes s t (no_document h) (rule one i) = absurd (no_members bytes i.members h i.parsed)
-bad_tables bytes s t (no_document h) (unserved i) = absurd (no_members bytes i.members h i.parsed)
-bad_tables bytes s t (rule one h) (no_document i) = absurd (no_members bytes h.members i h.parsed)
-bad_tables bytes s t (rule {k} one h) (rule {k = n} other i) = ap status.TablesRule (same_rule bytes k n h i)
-bad_tables bytes s t (rule {k} one h) (unserved i) = absurd (broken_not_kept bytes k i.members h i.parsed i.kept)
-bad_tables bytes s t (unserved h) (no_document i) = absurd (no_members bytes h.members i h.parsed)
-bad_tables bytes s t (unserved h) (rule {k} one i) = absurd (broken_not_kept bytes k h.members i h.parsed h.kept)
-bad_tables bytes s t (unserved h) (unserved i) = refl
+bad_tables bytes s t (no_document h) (rule i) = absurd (no_members bytes i.members h i.parsed)
+bad_tables bytes s t (rule h) (no_document i) = absurd (no_members bytes h.members i h.parsed)
+bad_tables bytes s t (rule {k} h) (rule {k = n} i) = ap status.TablesRule (same_rule bytes k n h i)
 
 bad_roll : (bytes : List ℕ) (s t : Status) → IsBad doc.Roll bytes s → IsBad doc.Roll bytes t → s ≡ t
 bad_roll bytes s t (count h) (count i) = refl
@@ -116,12 +111,7 @@ fault_once files name d s t (bad {bytes} taken h) (bad {bytes = other} again i) 
 
 bad_not_tables : (bytes : List ℕ) (s : Status) (t : TablesData) → IsBad doc.Tables bytes s → IsReadAs bytes t → ⊥
 bad_not_tables bytes s t (no_document h) read = no_members bytes read.members h read.parsed
-bad_not_tables bytes s t (rule {k} one h) read = broken_not_kept bytes k read.members h read.parsed read.kept
-bad_not_tables bytes s t (unserved h) read =
-    let same = same_members bytes h.members read.members h.parsed read.parsed in
-    let p = h.unserved in
-    let q = read.served in
-    absurd (cc)
+bad_not_tables bytes s t (rule {k} h) read = broken_not_kept bytes k read.members h read.parsed read.kept
 
 bad_not_roll : (bytes : List ℕ) (s : Status) (r : RollData) → IsBad doc.Roll bytes s → IsRollOf bytes r → ⊥
 bad_not_roll bytes s r (count h) read = let p = read.count in absurd (cc)
@@ -139,51 +129,6 @@ roll_not_fault files name s r (longer h) has = longer_not_taken files doc.Roll n
 roll_not_fault files name s r (bad {bytes} taken h) has =
     bad_not_roll has.bytes s r (subst (λ (b : List ℕ). IsBad doc.Roll b s) (same_bytes files doc.Roll name bytes has.bytes taken has.taken) h) has.read
 
--- The words and the files
-
-same_names : (words : List (List ℕ)) (a b : Vota) → vota_of words ≡ Some a → vota_of words ≡ Some b → a ≡ b
-same_names words a b h i = cc
-
-not_usage : (words : List (List ℕ)) (a : Vota) → vota_of words ≡ None → vota_of words ≡ Some a → ⊥
-not_usage words a h i = absurd (cc)
-
-no_usage : (files : Files) (words : List (List ℕ)) (s : Status) → IsRefused (Some files) words s → vota_of words ≡ None → s ≡ status.Usage
-no_usage files words s (usage none) e = refl
-no_usage files words s (tables found h) e = absurd (cc)
-no_usage files words s (roll found has h) e = absurd (cc)
-no_usage files words s (keys found has read h) e = absurd (cc)
-
--- the refusals of words with these names
-data RefusedAt (files : Files) (a : Vota) : Status → Type 0 where
-  at_tables : {s : Status} → IsFault (Some files) a.tables doc.Tables s → RefusedAt files a s
-  at_roll : {t : TablesData} {s : Status} → HasTables (Some files) a.tables t → IsFault (Some files) a.roll doc.Roll s → RefusedAt files a s
-  at_keys : {t : TablesData} {r : RollData} {s : Status} → HasTables (Some files) a.tables t → HasRoll (Some files) a.roll r
-      → IsFault (Some files) a.keys doc.Keys s → RefusedAt files a s
-
-refused_at : (files : Files) (words : List (List ℕ)) (a : Vota) (s : Status) → vota_of words ≡ Some a → IsRefused (Some files) words s → RefusedAt files a s
-refused_at files words a s at (usage none) = absurd (cc)
-refused_at files words a s at (tables {names} found h) = subst (λ (n : Vota). RefusedAt files n s) (same_names words names a found at) (at_tables h)
-refused_at files words a s at (roll {names} found has h) = subst (λ (n : Vota). RefusedAt files n s) (same_names words names a found at) (at_roll has h)
-refused_at files words a s at (keys {names} found has read h) = subst (λ (n : Vota). RefusedAt files n s) (same_names words names a found at) (at_keys has read h)
-
-once_at : (files : Files) (a : Vota) (s u : Status) → RefusedAt files a s → RefusedAt files a u → s ≡ u
-once_at files a s u (at_tables h) (at_tables i) = fault_once files a.tables doc.Tables s u h i
-once_at files a s u (at_tables h) (at_roll {t} has i) = absurd (tables_not_fault files a.tables s t h has)
-once_at files a s u (at_tables h) (at_keys {t} has read i) = absurd (tables_not_fault files a.tables s t h has)
-once_at files a s u (at_roll {t} has h) (at_tables i) = absurd (tables_not_fault files a.tables u t i has)
-once_at files a s u (at_roll has h) (at_roll also i) = fault_once files a.roll doc.Roll s u h i
-once_at files a s u (at_roll has h) (at_keys {r} also read i) = absurd (roll_not_fault files a.roll s r h read)
-once_at files a s u (at_keys {t} has read h) (at_tables i) = absurd (tables_not_fault files a.tables u t i has)
-once_at files a s u (at_keys {r} has read h) (at_roll also i) = absurd (roll_not_fault files a.roll u r i read)
-once_at files a s u (at_keys has read h) (at_keys also seen i) = fault_once files a.keys doc.Keys s u h i
-
-once_from : (files : Files) (words : List (List ℕ)) (s u : Status) (found : Option Vota) → vota_of words ≡ found → IsRefused (Some files) words s → IsRefused (Some files) words u → s ≡ u
-once_from files words s u None e h i = no_usage files words s h e ∙ sym (no_usage files words u i e)
-once_from files words s u (Some a) e h i = once_at files a s u (refused_at files words a s e h) (refused_at files words a u e i)
-
-pub refused_once : (files : Files) (words : List (List ℕ)) (s u : Status) → IsRefused (Some files) words s → IsRefused (Some files) words u → s ≡ u
-refused_once files words s u h i = once_from files words s u (vota_of words) refl h i
-
 keys_not_fault : (files : Files) (name : List ℕ) (s : Status) (es : List Event) → IsFault (Some files) name doc.Keys s → HasKeys (Some files) name es → ⊥
 keys_not_fault files name s es (lacks h) has = lacks_not_taken files doc.Keys name has.bytes h has.taken
 keys_not_fault files name s es (longer h) has = longer_not_taken files doc.Keys name has.bytes h has.taken
@@ -195,13 +140,32 @@ keys_not_fault files name s es (bad {bytes} taken (line {k} h)) has =
     let some = has.read in
     absurd (cc)
 
-not_given_at : (files : Files) (a : Vota) (s : Status) (t : TablesData) (r : RollData) (es : List Event) → RefusedAt files a s
-    → HasTables (Some files) a.tables t → HasRoll (Some files) a.roll r → HasKeys (Some files) a.keys es → ⊥
-not_given_at files a s t r es (at_tables h) first second third = tables_not_fault files a.tables s t h first
-not_given_at files a s t r es (at_roll has h) first second third = roll_not_fault files a.roll s r h second
-not_given_at files a s t r es (at_keys has read h) first second third = keys_not_fault files a.keys s es h third
+-- The files of some names
 
-pub refused_or_given : (files : Files) (words : List (List ℕ)) (s : Status) (t : TablesData) (r : RollData) (es : List Event) → IsRefused (Some files) words s
-    → IsGiven (Some files) words t r es → ⊥
-refused_or_given files words s t r es h given =
-    not_given_at files given.names s t r es (refused_at files words given.names s given.vota h) given.tables given.roll given.keys
+pub refused_once : (files : Files) (names : Vota) (s u : Status) → IsRefused (Some files) names s → IsRefused (Some files) names u → s ≡ u
+refused_once files a s u (tables h) (tables i) = fault_once files a.tables doc.Tables s u h i
+refused_once files a s u (tables h) (roll {t} has i) = absurd (tables_not_fault files a.tables s t h has)
+refused_once files a s u (tables h) (keys {t} has read i) = absurd (tables_not_fault files a.tables s t h has)
+refused_once files a s u (roll {t} has h) (tables i) = absurd (tables_not_fault files a.tables u t i has)
+refused_once files a s u (roll has h) (roll also i) = fault_once files a.roll doc.Roll s u h i
+refused_once files a s u (roll has h) (keys {r} also read i) = absurd (roll_not_fault files a.roll s r h read)
+refused_once files a s u (keys {t} has read h) (tables i) = absurd (tables_not_fault files a.tables u t i has)
+refused_once files a s u (keys {r} has read h) (roll also i) = absurd (roll_not_fault files a.roll u r i read)
+refused_once files a s u (keys has read h) (keys also seen i) = fault_once files a.keys doc.Keys s u h i
+
+pub refused_or_given : (files : Files) (names : Vota) (s : Status) (t : TablesData) (r : RollData) (es : List Event) → IsRefused (Some files) names s
+    → IsGiven (Some files) names t r es → ⊥
+refused_or_given files a s t r es (tables h) given = tables_not_fault files a.tables s t h given.tables
+refused_or_given files a s t r es (roll has h) given = roll_not_fault files a.roll s r h given.roll
+refused_or_given files a s t r es (keys has read h) given = keys_not_fault files a.keys s es h given.keys
+
+pub refused_load_once : (files : Files) (names : Carga) (s u : Status) → IsRefusedLoad (Some files) names s → IsRefusedLoad (Some files) names u → s ≡ u
+refused_load_once files a s u (load_tables h) (load_tables i) = fault_once files a.tables doc.Tables s u h i
+refused_load_once files a s u (load_tables h) (load_roll {t} has i) = absurd (tables_not_fault files a.tables s t h has)
+refused_load_once files a s u (load_roll {t} has h) (load_tables i) = absurd (tables_not_fault files a.tables u t i has)
+refused_load_once files a s u (load_roll has h) (load_roll also i) = fault_once files a.roll doc.Roll s u h i
+
+pub refused_or_given_load : (files : Files) (names : Carga) (s : Status) (t : TablesData) (r : RollData) → IsRefusedLoad (Some files) names s
+    → IsGivenLoad (Some files) names t r → ⊥
+refused_or_given_load files a s t r (load_tables h) given = tables_not_fault files a.tables s t h given.tables
+refused_or_given_load files a s t r (load_roll has h) given = roll_not_fault files a.roll s r h given.roll

@@ -1,6 +1,8 @@
 -- The words of a command
-use Rattle.std.specs.Prelude.{ℕ, List, [], ◌∷◌, Option, Some, None, if◌then◌else◌, codes}
+use Rattle.std.specs.Prelude.{ℕ, List, [], ◌∷◌, Option, Some, None, if◌then◌else◌, codes, nat_le, ◌&&◌}
+use Rattle.std.specs.Option.{option_and_then}
 use Rattle.std.specs.Str.{bytes_eq}
+use Rattle.urna_base.specs.Digits.{decimal_value}
 
 -- vota TABLES ROLL KEYS OUT: the names of the files
 pub record Vota : Type 0 where
@@ -8,6 +10,13 @@ pub record Vota : Type 0 where
   pub roll : List ℕ
   pub keys : List ℕ
   pub out : List ℕ
+
+-- carga TABLES ROLL ZONE SECTION: the names of the files, and the section's zone and number
+pub record Carga : Type 0 where
+  pub tables : List ℕ
+  pub roll : List ℕ
+  pub zone : ℕ
+  pub number : ℕ
 
 -- five words, the first of which is vota
 abbrev pub vota_of : List (List ℕ) → Option Vota
@@ -19,3 +28,26 @@ vota_of (a ∷ b ∷ []) = None
 vota_of (a ∷ b ∷ c ∷ []) = None
 vota_of (a ∷ b ∷ c ∷ d ∷ []) = None
 vota_of (a ∷ b ∷ c ∷ d ∷ e ∷ f ∷ more) = None
+
+-- a decimal from 1 to 9,999, without a leading zero
+abbrev pub in_range : ℕ → Option ℕ
+in_range n = if nat_le 1 n && nat_le n 9999 then Some n else None
+
+abbrev pub place_of : List ℕ → Option ℕ
+place_of word = option_and_then in_range (decimal_value word)
+
+abbrev pub carga_at : List ℕ → List ℕ → Option ℕ → Option ℕ → Option Carga
+carga_at tables roll (Some zone) (Some number) = Some (record { tables = tables; roll = roll; zone = zone; number = number })
+carga_at tables roll (Some zone) None = None
+carga_at tables roll None number = None
+
+-- five words, the first of which is carga, and the last two are places
+abbrev pub carga_of : List (List ℕ) → Option Carga
+carga_of (word ∷ tables ∷ roll ∷ zone ∷ number ∷ []) =
+    if bytes_eq word (codes "carga") then carga_at tables roll (place_of zone) (place_of number) else None
+carga_of [] = None
+carga_of (a ∷ []) = None
+carga_of (a ∷ b ∷ []) = None
+carga_of (a ∷ b ∷ c ∷ []) = None
+carga_of (a ∷ b ∷ c ∷ d ∷ []) = None
+carga_of (a ∷ b ∷ c ∷ d ∷ e ∷ f ∷ more) = None

@@ -4,7 +4,7 @@ use Rattle.std.specs.Option.{ForSome}
 use Rattle.urna_base.specs.Lines.{lines_of}
 use Rattle.urna_outside.specs.Cabinet.{Files, Holds, HoldsLonger, Lacks}
 use Rattle.election_tables.specs.Roll.{IsRollOf, RollData, HasBadLine, has_count}
-use Rattle.election_tables.specs.Tables.{IsReadAs, IsNoDocument, BreaksFirst, IsNotServed}
+use Rattle.election_tables.specs.Tables.{IsReadAs, IsNoDocument, BreaksFirst}
 use Rattle.election_tables.specs.TablesData.{TablesData}
 use Rattle.key_script.specs.Script.{events_of, first_bad}
 use Rattle.key_script.specs.declared.keys.Event.{Event}
@@ -27,8 +27,7 @@ pub record IsTaken (files : Option Files) (d : Doc) (name bytes : List ℕ) : Ty
 -- what is wrong with the bytes of a document, and the status that says so
 pub data IsBad : Doc → List ℕ → Status → Type 0 where
   no_document : {bytes : List ℕ} → IsNoDocument bytes → IsBad doc.Tables bytes status.TablesNotToml
-  rule : {bytes : List ℕ} {k : ℕ} → 1 ≤ k → BreaksFirst bytes k → IsBad doc.Tables bytes (status.TablesRule k)
-  unserved : {bytes : List ℕ} → IsNotServed bytes → IsBad doc.Tables bytes (status.TablesRule 0)
+  rule : {bytes : List ℕ} {k : ℕ} → BreaksFirst bytes k → IsBad doc.Tables bytes (status.TablesRule k)
   count : {bytes : List ℕ} → has_count (lines_of bytes) ≡ false → IsBad doc.Roll bytes status.RollCount
   roll_line : {bytes : List ℕ} {k : ℕ} → HasBadLine bytes k → IsBad doc.Roll bytes (status.RollLine k)
   line : {bytes : List ℕ} {k : ℕ} → first_bad bytes ≡ Some k → IsBad doc.Keys bytes (status.Line k)

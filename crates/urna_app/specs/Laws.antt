@@ -1,17 +1,24 @@
 -- Laws of endings
-use Rattle.std.specs.Prelude.{◌≡◌, ℕ, List, Some}
+use Rattle.std.specs.Prelude.{◌≡◌, Some}
 use Rattle.urna_outside.specs.Cabinet.{Files}
 use Rattle.election_tables.specs.Roll.{RollData}
 use Rattle.election_tables.specs.TablesData.{TablesData}
 use Rattle.key_script.specs.declared.keys.Event.{Event}
-use Rattle.urna_app.specs.Ending.{IsGiven, IsRefused}
+use Rattle.std.specs.Prelude.{List}
+use Rattle.urna_app.specs.Command.{Carga, Vota}
+use Rattle.urna_app.specs.Ending.{IsGiven, IsGivenLoad, IsRefused, IsRefusedLoad}
 use Rattle.urna_app.specs.declared.status.Status.{Status}
 
--- words and files are refused with one status
+-- files are refused with one status
 abbrev pub RefusedOnce : Type 0
-RefusedOnce = (files : Files) (words : List (List ℕ)) (s t : Status) → IsRefused (Some files) words s → IsRefused (Some files) words t → s ≡ t
+RefusedOnce =
+    ((files : Files) (names : Vota) (s t : Status) → IsRefused (Some files) names s → IsRefused (Some files) names t → s ≡ t)
+    × ((files : Files) (names : Carga) (s t : Status) → IsRefusedLoad (Some files) names s → IsRefusedLoad (Some files) names t → s ≡ t)
 
--- and then they give no session
+-- and then they give neither a session nor a load
 abbrev pub RefusedOrGiven : Type 0
-RefusedOrGiven = (files : Files) (words : List (List ℕ)) (s : Status) (t : TablesData) (r : RollData) (es : List Event)
-    → IsRefused (Some files) words s → IsGiven (Some files) words t r es → ⊥
+RefusedOrGiven =
+    ((files : Files) (names : Vota) (s : Status) (t : TablesData) (r : RollData) (es : List Event)
+    → IsRefused (Some files) names s → IsGiven (Some files) names t r es → ⊥)
+    × ((files : Files) (names : Carga) (s : Status) (t : TablesData) (r : RollData)
+    → IsRefusedLoad (Some files) names s → IsGivenLoad (Some files) names t r → ⊥)

@@ -3,5 +3,7 @@ pub mod Command
 pub mod Documents
 pub mod Ending
 pub mod Errors
+pub mod FaultLines
 pub mod Laws
 pub mod Taking
+pub mod Holding

@@ -19,7 +19,13 @@ CountsFor (status.TablesRule k) old new = new ≡ old
 CountsFor status.RollCount old new = new ≡ old
 CountsFor (status.RollLine k) old new = new ≡ old
 CountsFor (status.Line k) old new = new ≡ old
+CountsFor status.InternalFlash old new = new ≡ old
+CountsFor status.ExternalFlash old new = new ≡ old
 CountsFor status.Display old new = new ≡ old
+CountsFor (status.Foreign d) old new = new ≡ old
+CountsFor status.NoImage old new = new ≡ old
+CountsFor (status.Busy d) old new = new ≡ old
+CountsFor status.NoSection old new = new ≡ old
 
 -- the count of calls after so many more
 abbrev pub calls_after : ℕ → Option ℕ → Option ℕ

@@ -5,22 +5,32 @@
 #![tactic(auto)]
 
 ghost use Rattle.std.specs.Prelude.{map, string_bytes};
-ghost use Rattle.urna_app.specs.Ending.{Ends};
+ghost use Rattle.state_store.specs.Store.{AreDevices};
+ghost use Rattle.urna_app.specs.Ending.{CommandEnds, Ends};
+ghost use Rattle.urna_app.specs.Taking.{status_in};
 
+mod carga;
+mod command;
 mod documents;
+mod fault;
 mod laws;
 mod status;
+#[cfg(test)]
+mod stops;
 #[cfg(test)]
 mod tests;
 mod vota;
 
+use carga::carga;
+use command::{carga_words, vota_words};
+use fault::tell_fault;
 use status::Status;
 use std::alloc::Global;
 use std::env::Env;
 use std::process::ExitCode;
 use std::{env, io};
 use urna_outside::{Cabinet, FileMachine, FolderCabinet, Machine};
-use vota::{names_in, vota};
+use vota::vota;
 
 /// The bytes of each flash: a header of 512, and two slots of a gate with its padding, 512, and a body of 65,536.
 const DEVICE_SIZE: u32 = 132_608;
@@ -28,25 +38,45 @@ const DEVICE_SIZE: u32 = 132_608;
 /// The status where the program's words can't be had, which no command has.
 const NO_WORDS: u8 = 40;
 
-/// One command: the words after the program's name, over a machine and a cabinet.
+/// One command: the words after the program's name, over a machine with two flashes of 132,608 bytes and a cabinet.
 ///
-/// `vota TABLES ROLL KEYS OUT` takes the three files, and shows the session of the keys over a poll that is ready. The word OUT is
-/// not used.
+/// `carga TABLES ROLL ZONE SECTION` loads both flashes for a section of the tables. `vota TABLES ROLL KEYS OUT` takes the three files,
+/// recovers the poll that the flashes hold, and runs the session of the keys over it; the word OUT is not used. Where the command was
+/// refused, a line tells why.
 pub fn urna<M: Machine, C: Cabinet>(
     alloc: Global,
     words: &[String],
     machine: &mut M,
     cabinet: &mut C,
 ) -> Status
+    requires { AreDevices (M.told machine.old).sizes }
     ensures { Ends (map string_bytes words.now) (C.told cabinet.old) (C.told cabinet.new) (M.told machine.old) (M.told machine.new) result }
 {
-    let Some(names) = names_in(words) else {
-        return Status::Usage;
-    };
-    match vota(alloc, names, machine, cabinet) {
+    let status = match run_command(alloc, words, machine, cabinet) {
         Ok(()) => Status::Done,
         Err(status) => status,
+    };
+    tell_fault(machine, &status);
+    status
+}
+
+/// The command of the words.
+fn run_command<M: Machine, C: Cabinet>(
+    alloc: Global,
+    words: &[String],
+    machine: &mut M,
+    cabinet: &mut C,
+) -> Result<(), Status>
+    requires { AreDevices (M.told machine.old).sizes }
+    ensures { CommandEnds (map string_bytes words.now) (C.told cabinet.old) (C.told cabinet.new) (M.told machine.old) (M.told machine.new) (status_in result) }
+{
+    if let Some(names) = vota_words(words) {
+        return vota(alloc, names, machine, cabinet);
     }
+    if let Some(names) = carga_words(words) {
+        return carga(alloc, names, machine, cabinet);
+    }
+    Err(Status::Usage)
 }
 
 /// The words after the program's name.

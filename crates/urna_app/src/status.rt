@@ -1,6 +1,8 @@
 ghost use Rattle.std.specs.Prelude.{◌≡◌};
 ghost use Rattle.urna_app.specs.Codes.{code_of};
 
+use urna_outside::Dev;
+
 /// A file that a command takes.
 #[derive(Clone, Copy, Debug, PartialEq, Eq)]
 pub enum Doc {
@@ -34,8 +36,20 @@ pub enum Status {
     Missing(Doc),
     /// The cabinet failed.
     Cabinet,
+    /// The internal flash failed.
+    InternalFlash,
+    /// The external flash failed.
+    ExternalFlash,
     /// The display failed.
     Display,
+    /// The flash is not loaded with these tables and this roll.
+    Foreign(Dev),
+    /// No slot of the flashes stands.
+    NoImage,
+    /// The flash is in use.
+    Busy(Dev),
+    /// The tables have no such section, or it has another number of voters than the roll.
+    NoSection,
 }
 
 impl Status {
@@ -55,7 +69,13 @@ impl Status {
             Status::TooLong(_) => 5,
             Status::Missing(_) => 12,
             Status::Cabinet => 20,
+            Status::InternalFlash => 21,
+            Status::ExternalFlash => 22,
             Status::Display => 23,
+            Status::Foreign(_) => 30,
+            Status::NoImage => 31,
+            Status::Busy(_) => 32,
+            Status::NoSection => 34,
         }
     }
 }

@@ -1,8 +1,16 @@
+//! Commands one after another over machines in memory, each started again on what the last one left.
+ghost use Rattle.std.specs.Prelude.{IfOk};
+ghost use Rattle.urna_outside.specs.Recorder.{recorder_told};
+ghost use Rattle.state_store.specs.Store.{AreDevices};
+
 use crate::status::{Doc, Status};
 use crate::urna;
+use std::process::Abort;
 use std::test::Fail;
-use urna_outside::{Recorder, Shelf};
+use urna_base::Memory;
+use urna_outside::{Dev, Recorder, Shelf};
 
+/// One office and one voter.
 const TABLES: &[u8] = br#"
 processo = 7
 data = 20261004
@@ -19,8 +27,10 @@ candidato = [
 secao = [{zona = 1, secao = 42, eleitores = 1}]
 "#;
 
-/// A section that also votes for the council.
-const TWO_OFFICES: &[u8] = br#"
+const ROLL: &[u8] = b"010000000001\n";
+
+/// Two offices and three voters.
+pub(crate) const TWO_OFFICES: &[u8] = br#"
 processo = 7
 data = 20261004
 turno = 1
@@ -41,7 +51,7 @@ candidato = [
 secao = [{zona = 1, secao = 42, eleitores = 3}]
 "#;
 
-const ROLL: &[u8] = b"010000000001\n";
+pub(crate) const THREE_VOTERS: &[u8] = b"010000000001\n010000000002\n010000000003\n";
 
 const VISIT: &[u8] = b"M ABRE 20261004080000
 M TITULO 010000000001
@@ -75,37 +85,117 @@ NULO 0
 TOTAL 1
 ";
 
-/// What one command is run on: the calls of machine and cabinet that fail, by their numbers from 0.
-#[derive(Clone, Copy)]
-struct Given {
-    words: &'static [&'static str],
-    tables: Option<&'static [u8]>,
-    roll: Option<&'static [u8]>,
-    keys: Option<&'static [u8]>,
-    failing_shows: &'static [u32],
-    failing_takes: &'static [u32],
+/// The bytes of a device.
+const DEVICE: usize = 132_608;
+
+/// Where the gates of both slots stand.
+const GATES: [usize; 2] = [512, 66_560];
+
+/// What both devices hold.
+#[derive(Drop)]
+pub(crate) struct Images {
+    pub internal: Vec<u8>,
+    pub external: Vec<u8>,
 }
 
-const WORDS: &[&str] = &["vota", "t", "r", "k", "o"];
+/// What one command is given: its words, its files, and the numbers of the calls that fail.
+#[derive(Clone, Copy)]
+pub(crate) struct Given {
+    pub words: &'static [&'static str],
+    pub tables: Option<&'static [u8]>,
+    pub roll: Option<&'static [u8]>,
+    pub keys: Option<&'static [u8]>,
+    pub failing: &'static [u32],
+    pub failing_takes: &'static [u32],
+}
 
-const ROW: Given = Given {
-    words: WORDS,
+pub(crate) const CARGA: Given = Given {
+    words: &["carga", "t", "r", "1", "42"],
     tables: Some(TABLES),
     roll: Some(ROLL),
-    keys: Some(VISIT),
-    failing_shows: &[],
+    keys: None,
+    failing: &[],
     failing_takes: &[],
 };
 
-fn place(shelf: &mut Shelf, name: &str, bytes: Option<&[u8]>) -> Result<(), Fail> {
+pub(crate) const VOTA: Given = Given {
+    words: &["vota", "t", "r", "k", "o"],
+    keys: Some(VISIT),
+    ..CARGA
+};
+
+pub(crate) const NO_KEYS: Given = Given {
+    keys: Some(b""),
+    ..VOTA
+};
+
+pub(crate) fn blank(rt: &impl AllocGlobal) -> Result<Images, Memory> {
+    let internal = vec![in rt.alloc(); 0; DEVICE]?;
+    let external = internal.to_vec(rt.alloc())?;
+    Ok(Images { internal, external })
+}
+
+pub(crate) fn copied(rt: &impl AllocGlobal, images: &Images) -> Result<Images, Memory> {
+    Ok(Images {
+        internal: images.internal.to_vec(rt.alloc())?,
+        external: images.external.to_vec(rt.alloc())?,
+    })
+}
+
+/// What a machine's devices hold.
+pub(crate) fn left(rt: &impl AllocGlobal, m: &Recorder) -> Result<Images, Memory> {
+    Ok(Images {
+        internal: m.content(Dev::Internal).to_vec(rt.alloc())?,
+        external: m.content(Dev::External).to_vec(rt.alloc())?,
+    })
+}
+
+/// The same with the gates of a device shut.
+pub(crate) fn shut(mut image: Vec<u8>) -> Vec<u8> {
+    for gate in GATES {
+        if let Some(byte) = image.get_mut(gate) {
+            *byte = 0;
+        }
+    }
+    image
+}
+
+/// A machine over two images, with room for some commits.
+fn machine(
+    rt: &(impl Abort + AllocGlobal),
+    images: Images,
+    failing: &[u32],
+) -> Result<Recorder, Memory>
+    ensures { IfOk result (λ m. AreDevices (recorder_told m).sizes) }
+{
+    let Images { internal, external } = images;
+    assert!(rt; internal.len() == DEVICE && external.len() == DEVICE);
+    Recorder::restart(rt.alloc(), internal, external, 512, 1_500_000, failing)
+}
+
+fn place(shelf: &mut Shelf, name: &str, bytes: Option<&[u8]>) -> Result<(), Memory> {
     if let Some(bytes) = bytes {
         shelf.place(name, bytes)?;
     }
     Ok(())
 }
 
-/// The status of a command, and the machine that it was run on.
-fn run(rt: &HostRuntime, given: Given) -> Result<(Status, Recorder), Fail> {
+/// The status of a command over these images, and the machine that it was run on.
+pub(crate) fn run(
+    rt: &(impl Abort + AllocGlobal),
+    given: Given,
+    images: Images,
+) -> Result<(Status, Recorder), Fail> {
+    run_failing(rt, given, images, given.failing)
+}
+
+/// The same where the calls of these numbers fail.
+pub(crate) fn run_failing(
+    rt: &(impl Abort + AllocGlobal),
+    given: Given,
+    images: Images,
+    failing: &[u32],
+) -> Result<(Status, Recorder), Fail> {
     let alloc = rt.alloc();
     let mut words = Vec::new(alloc);
     for word in given.words {
@@ -115,123 +205,232 @@ fn run(rt: &HostRuntime, given: Given) -> Result<(Status, Recorder), Fail> {
     place(&mut shelf, "t", given.tables)?;
     place(&mut shelf, "r", given.roll)?;
     place(&mut shelf, "k", given.keys)?;
-    let mut machine = Recorder::new(alloc, 132_608, 64, 4_096, given.failing_shows)?;
-    let status = urna(alloc, &words, &mut machine, &mut shelf);
-    Ok((status, machine))
+    let mut m = machine(rt, images, failing)?;
+    let status = urna(alloc, &words, &mut m, &mut shelf);
+    Ok((status, m))
 }
 
-const WITH_A_TITLE_FIRST: &[u8] = b"M TITULO 010000000001
-";
+/// What a command leaves, which has to end with this status and number and show this text.
+fn step(
+    rt: &(impl Abort + AllocGlobal),
+    given: Given,
+    images: Images,
+    status: Status,
+    code: u8,
+    shown: &[u8],
+) -> Result<Images, Fail> {
+    let (answered, m) = run(rt, given, images)?;
+    assert_eq!(rt; answered, status);
+    assert_eq!(rt; answered.code(), code);
+    assert_eq!(rt; m.shown(), shown);
+    Ok(left(rt, &m)?)
+}
 
-const NO_FORM: &[u8] = b"E 1X
-";
+/// Flashes that are loaded for a section.
+pub(crate) fn loaded(rt: &(impl Abort + AllocGlobal), given: Given) -> Result<Images, Fail> {
+    let (status, m) = run(rt, given, blank(rt)?)?;
+    assert_eq!(rt; status, Status::Done);
+    Ok(left(rt, &m)?)
+}
 
 #[test]
 fn statuses_and_what_is_shown(rt: HostRuntime) -> Result<(), Fail> {
-    let rows = [
-        (ROW, Status::Done, 0, VISIT_SHOWN),
+    let flashes = loaded(&rt, CARGA)?;
+    let rows: [(Given, Status, u8, &[u8]); 12] = [
+        (VOTA, Status::Done, 0, VISIT_SHOWN),
         (
             Given {
-                keys: Some(WITH_A_TITLE_FIRST),
-                ..ROW
+                keys: Some(b"M TITULO 010000000001\n"),
+                ..VOTA
             },
             Status::Done,
             0,
-            b"URNA PRONTA 0\nRECUSA 1\n".as_slice(),
+            b"URNA PRONTA 0\nRECUSA 1\n",
         ),
         (
             Given {
-                keys: Some(NO_FORM),
-                ..ROW
+                keys: Some(b"E 1X\n"),
+                ..VOTA
             },
             Status::Line(1),
             4,
-            b"".as_slice(),
-        ),
-        (
-            Given {
-                tables: Some(TWO_OFFICES),
-                ..ROW
-            },
-            Status::TablesRule(0),
-            3,
-            b"".as_slice(),
+            b"ERRO LINHA 1\n",
         ),
         (
             Given {
                 tables: Some(b"processo"),
-                ..ROW
+                ..VOTA
             },
             Status::TablesNotToml,
             3,
-            b"".as_slice(),
+            b"ERRO TABELAS TOML\n",
         ),
         (
-            Given { roll: None, ..ROW },
+            Given { roll: None, ..VOTA },
             Status::Missing(Doc::Roll),
             12,
-            b"".as_slice(),
+            b"ERRO FALTA ROL\n",
         ),
         (
             Given {
                 roll: Some(&[b'0'; 16_385]),
-                ..ROW
+                ..VOTA
             },
             Status::TooLong(Doc::Roll),
             5,
-            b"".as_slice(),
+            b"ERRO TAMANHO ROL\n",
         ),
         (
             Given {
                 roll: Some(b"010000000001\n010000000001\n"),
-                ..ROW
+                ..VOTA
             },
             Status::RollLine(2),
             3,
-            b"".as_slice(),
+            b"ERRO ROL LINHA 2\n",
         ),
         (
             Given {
                 roll: Some(b""),
-                ..ROW
+                ..VOTA
             },
             Status::RollCount,
             3,
-            b"".as_slice(),
+            b"ERRO ROL CONTAGEM\n",
         ),
         (
             Given {
                 words: &["vota", "t", "r", "k"],
-                ..ROW
+                ..VOTA
             },
             Status::Usage,
             2,
-            b"".as_slice(),
+            b"ERRO USO\n",
         ),
         (
             Given {
                 failing_takes: &[1],
-                ..ROW
+                ..VOTA
             },
             Status::Cabinet,
             20,
-            b"".as_slice(),
+            b"",
         ),
         (
             Given {
-                failing_shows: &[1],
-                ..ROW
+                failing: &[0],
+                ..VOTA
             },
-            Status::Display,
-            23,
-            b"URNA PRONTA 0\nZERE".as_slice(),
+            Status::InternalFlash,
+            21,
+            b"",
+        ),
+        (
+            Given {
+                tables: Some(TWO_OFFICES),
+                roll: Some(THREE_VOTERS),
+                ..VOTA
+            },
+            Status::Foreign(Dev::Internal),
+            30,
+            b"ERRO OUTRA CARGA INTERNA\n",
         ),
     ];
     for (given, status, code, shown) in rows {
-        let (answered, machine) = run(&rt, given)?;
-        assert_eq!(rt; answered, status);
-        assert_eq!(rt; answered.code(), code);
-        assert_eq!(rt; machine.shown(), shown);
+        step(&rt, given, copied(&rt, &flashes)?, status, code, shown)?;
+    }
+    Ok(())
+}
+
+// A section is loaded, loaded again, opened and sealed; from its opening on it can't be loaded.
+#[test]
+fn a_poll_from_its_load_to_its_end(rt: HostRuntime) -> Result<(), Fail> {
+    let told = b"CARGA 1 42 1\n";
+    let fresh = step(
+        &rt,
+        NO_KEYS,
+        blank(&rt)?,
+        Status::Foreign(Dev::Internal),
+        30,
+        b"ERRO OUTRA CARGA INTERNA\n",
+    )?;
+    let once = step(&rt, CARGA, fresh, Status::Done, 0, told)?;
+    let twice = step(&rt, CARGA, once, Status::Done, 0, told)?;
+    let other = Given {
+        words: &["carga", "t", "r", "1", "43"],
+        ..CARGA
+    };
+    let same = step(&rt, other, twice, Status::NoSection, 34, b"ERRO SECAO\n")?;
+    let zero = Given {
+        words: &["carga", "t", "r", "01", "42"],
+        ..CARGA
+    };
+    let same = step(&rt, zero, same, Status::Usage, 2, b"ERRO USO\n")?;
+    let sealed = step(&rt, VOTA, same, Status::Done, 0, VISIT_SHOWN)?;
+    let still = step(&rt, NO_KEYS, sealed, Status::Done, 0, b"URNA LACRADA 1\n")?;
+    let Images { internal, external } = step(
+        &rt,
+        CARGA,
+        still,
+        Status::Busy(Dev::Internal),
+        32,
+        b"ERRO EM USO INTERNA\n",
+    )?;
+    let gone = Images {
+        internal: shut(internal),
+        external: shut(external),
+    };
+    step(
+        &rt,
+        NO_KEYS,
+        gone,
+        Status::NoImage,
+        31,
+        b"ERRO SEM IMAGEM\n",
+    )?;
+    Ok(())
+}
+
+// Where no key is pressed the flashes are synced, the poll is told, and nothing is written.
+#[test]
+fn no_keys_leave_the_flashes(rt: HostRuntime) -> Result<(), Fail> {
+    let flashes = loaded(&rt, CARGA)?;
+    let (status, m) = run(&rt, NO_KEYS, copied(&rt, &flashes)?)?;
+    assert_eq!(rt; status, Status::Done);
+    assert_eq!(rt; m.shown(), b"URNA PRONTA 0\n".as_slice());
+    assert_eq!(rt; m.trail_len(), 3);
+    assert_eq!(rt; m.content(Dev::Internal), flashes.internal.as_slice());
+    assert_eq!(rt; m.content(Dev::External), flashes.external.as_slice());
+    Ok(())
+}
+
+/// A poll that was opened and where the one voter came.
+const VOTED: &[u8] = b"M ABRE 20261004080000
+M TITULO 010000000001
+M LIBERA
+E 13C
+";
+
+/// What a body of that poll begins with: version and phase, both moments, how many came, the voters' marks, and the one bag.
+const OPENED: &[u8] = b"\x01\x01\x00\x00\x12\x6d\x61\xf3\x73\x80\0\0\0\0\0\0\0\0\0\0\0\x01\x80";
+
+const BAG: &[u8] = b"\x01\0\0\0\x01\x01\0\0\0\x0d";
+
+#[test]
+fn a_body_holds_the_marks_and_the_bags(rt: HostRuntime) -> Result<(), Fail> {
+    let given = Given {
+        keys: Some(VOTED),
+        ..VOTA
+    };
+    let (status, m) = run(&rt, given, loaded(&rt, CARGA)?)?;
+    assert_eq!(rt; status, Status::Done);
+    for dev in [Dev::Internal, Dev::External] {
+        let content = m.content(dev);
+        assert!(rt; content.get(1_024..1_047) == Some(OPENED));
+        assert!(rt; content.get(1_047..1_121) == Some([0; 74].as_slice()));
+        assert!(rt; content.get(1_121..1_131) == Some(BAG));
+        assert!(rt; content.get(67_072..67_095) == Some(OPENED));
+        assert!(rt; content.get(67_169..67_179) == Some(BAG));
     }
     Ok(())
 }

@@ -1,85 +1,89 @@
 //! The command `vota TABLES ROLL KEYS OUT`: the session of a section's poll.
-ghost use Rattle.std.specs.Prelude.{◌≡◌, ◌⊎◌, ◌∷◌, [], IfErr, OnOk, IfSome, IsNone, Some, None, List, ℕ, map, string_bytes};
-ghost use Rattle.election_tables.specs.TablesData.{IsTables};
-ghost use Rattle.urna_outside.specs.ShownLines.{HasShown, IsCutOff};
-ghost use Rattle.urna_app.specs.Command.{Vota, vota_of};
-ghost use Rattle.urna_app.specs.Ending.{Ends, IsSession};
+ghost use Rattle.std.specs.Prelude.{◌≡◌, ℕ, List, IfErr, OnOk};
+ghost use Rattle.state_store.specs.Store.{AreDevices};
+ghost use Rattle.urna_app.specs.Ending.{HasVoted, VotaEnds, port_status};
+ghost use Rattle.urna_app.specs.Holding.{FailsToHold, hold_status};
 ghost use Rattle.urna_app.specs.Taking.{status_in};
 
+use crate::command::VotaNames;
 use crate::documents::{take_keys, take_roll, take_tables};
 use crate::status::Status;
 use election_tables::{Roll, Tables};
 use key_script::Script;
 use station::{StartError, Station};
 use std::alloc::Global;
-use urna_outside::{Cabinet, Machine};
+use urna_outside::{Cabinet, Machine, Port};
 
-/// The names of the files of the command.
-#[derive(Clone, Copy)]
-pub(crate) struct Names<'a> {
-    tables: &'a str,
-    roll: &'a str,
-    keys: &'a str,
+/// Why a session was not held to its end.
+#[derive(Clone, Copy, Debug, PartialEq, Eq)]
+pub(crate) enum HoldError {
+    /// The station didn't start.
+    Start(StartError),
+    /// A port failed in the session.
+    Port(Port),
 }
 
-/// The names in the words of the command. The last word is not used.
-pub(crate) fn names_in(words: &[String]) -> Option<Names<'_>>
-    ensures names { IfSome result (λ n. (out : List ℕ) × (vota_of (map string_bytes words.now)
-        ≡ Some (record { tables = n.tables.now; roll = n.roll.now; keys = n.keys.now; out = out }))) }
-    ensures none { IsNone result → vota_of (map string_bytes words.now) ≡ None }
-{
-    let [command, tables, roll, keys, _] = words else {
-        return None;
-    };
-    if command.as_str() != "vota" {
-        return None;
-    }
-    Some(Names {
-        tables: tables.as_str(),
-        roll: roll.as_str(),
-        keys: keys.as_str(),
-    })
-}
-
-/// The session of the keys over a poll that is ready.
+/// The session of the keys over the poll that the flashes hold.
 fn hold<M: Machine>(
     alloc: Global,
     tables: &Tables,
     roll: &Roll,
     script: &Script,
     machine: &mut M,
-) -> Result<(), Status>
-    requires { IsTables tables.now }
-    ensures ok { OnOk result ((lines : List (List ℕ)) × IsSession tables.now roll.now script.now lines
-        × HasShown lines (M.told machine.old) (M.told machine.new)) }
-    ensures err { IfErr result (λ s. ((s ≡ Status.Memory) × HasShown [] (M.told machine.old) (M.told machine.new))
-        ⊎ ((s ≡ Status.Display) × ((lines : List (List ℕ)) × IsSession tables.now roll.now script.now lines
-        × IsCutOff lines (M.told machine.old) (M.told machine.new)))) }
+) -> Result<(), HoldError>
+    requires devices { AreDevices (M.told machine.old).sizes }
+    ensures ok { OnOk result (HasVoted tables.now roll.now script.now (M.told machine.old) (M.told machine.new)) }
+    ensures err { IfErr result (FailsToHold tables.now roll.now script.now (M.told machine.old) (M.told machine.new)) }
 {
     let station = match Station::start(alloc, tables, roll, machine) {
         Ok(station) => station,
-        Err(StartError::Memory) => return Err(Status::Memory),
-        Err(StartError::Port(_)) => return Err(Status::Display),
+        Err(error) => return Err(HoldError::Start(error)),
     };
-    let Ok(_end) = station.run(tables, roll, machine, script) else {
-        return Err(Status::Display);
-    };
-    Ok(())
+    match station.run(tables, roll, machine, script) {
+        Ok(_end) => Ok(()),
+        Err(port) => Err(HoldError::Port(port)),
+    }
+}
+
+fn status_of(error: HoldError) -> Status
+    ensures { result ≡ hold_status error }
+{
+    match error {
+        HoldError::Start(StartError::Memory) => Status::Memory,
+        HoldError::Start(StartError::Port(port)) => port_status(port),
+        HoldError::Start(StartError::Foreign(dev)) => Status::Foreign(dev),
+        HoldError::Start(StartError::NoImage) => Status::NoImage,
+        HoldError::Port(port) => port_status(port),
+    }
+}
+
+/// The status of a port that failed.
+pub(crate) fn port_status(port: Port) -> Status
+    ensures { result ≡ port_status port }
+{
+    match port {
+        Port::Internal => Status::InternalFlash,
+        Port::External => Status::ExternalFlash,
+        Port::Display => Status::Display,
+    }
 }
 
 /// The session of the files of these names: each is taken and read, and then the keys are pressed.
 pub(crate) fn vota<M: Machine, C: Cabinet>(
     alloc: Global,
-    names: Names<'_>,
+    names: VotaNames<'_>,
     machine: &mut M,
     cabinet: &mut C,
 ) -> Result<(), Status>
-    ensures { (words : List (List ℕ)) (out : List ℕ)
-        → vota_of words ≡ Some (record { tables = names.entry.tables.now; roll = names.entry.roll.now; keys = names.entry.keys.now; out = out })
-        → Ends words (C.told cabinet.old) (C.told cabinet.new) (M.told machine.old) (M.told machine.new) (status_in result) }
+    requires { AreDevices (M.told machine.old).sizes }
+    ensures { (out : List ℕ) → VotaEnds (record { tables = names.entry.tables.now; roll = names.entry.roll.now; keys = names.entry.keys.now; out = out })
+        (C.told cabinet.old) (C.told cabinet.new) (M.told machine.old) (M.told machine.new) (status_in result) }
 {
     let tables = take_tables(alloc, cabinet, names.tables)?;
     let roll = take_roll(alloc, cabinet, names.roll)?;
     let script = take_keys(alloc, cabinet, names.keys)?;
-    hold(alloc, &tables, &roll, &script, machine)
+    match hold(alloc, &tables, &roll, &script, machine) {
+        Ok(()) => Ok(()),
+        Err(error) => Err(status_of(error)),
+    }
 }

@@ -4,7 +4,8 @@ use Rattle.std.specs.List.{concat}
 use Rattle.urna_outside.specs.Flash.{Op, Show}
 use Rattle.urna_outside.specs.Told.{Told, Does, Runs, Counts, IsCalled, IsTornShow}
 use Rattle.urna_outside.specs.Shows.{ShowsText, ShowsFront}
-use Rattle.urna_outside.specs.ShownLines.{shows, IsCutShort, HasShown, IsCutOff, Shows, FaultsAt}
+use Rattle.urna_outside.specs.ShownLines.{shows, IsCutShort, HasShown, IsCutOff, Shows}
+use Rattle.urna_outside.specs.Faults.{FaultsAt}
 use Rattle.urna_outside.specs.declared.device.Port.TheVariants.{Display}
 use Rattle.urna_outside.proofs.Doing.{does-append, does_nothing}
 use Rattle.urna_outside.proofs.Calling.{without_fault_none, without_fault_one, without_fault_trans, stops_one, stops_later}

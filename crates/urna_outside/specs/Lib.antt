@@ -1,6 +1,9 @@
 pub mod Cabinet
 pub mod Chip
+pub mod Chips
+pub mod Confined
 pub mod Counters
+pub mod Faults
 pub mod FileMachine
 pub mod Flash
 pub mod FolderCabinet
@@ -11,8 +14,12 @@ pub mod Recorder
 pub mod Room
 pub mod Shelf
 pub mod Shows
+pub mod Stage
+pub mod Started
+pub mod Steady
 pub mod Stop
 pub mod TakeCounts
 pub mod Tape
+pub mod Tear
 pub mod Told
 pub mod ShownLines

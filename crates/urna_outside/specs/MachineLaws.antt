@@ -2,35 +2,54 @@
 use Rattle.std.specs.Prelude.{◌≡◌, ◌<◌, ◌^◌, refl, Some, None}
 use Rattle.std.specs.Option.{ForSome}
 use Rattle.std.proofs.Common.{subst}
+use Rattle.std.specs.declared.io.traits.Read.{Ghosts as Reads}
+use Rattle.std.specs.declared.io.traits.Write.{Ghosts as Writes}
+use Rattle.std.specs.declared.io.traits.Seek.{Ghosts as Seeks}
 use Rattle.urna_outside.specs.Flash.{Flashes}
 use Rattle.urna_outside.specs.Told.{Sizes, AreSized, size_of}
 use Rattle.urna_outside.specs.Recorder.{recorder_told}
 use Rattle.urna_outside.specs.FileMachine.{file_told}
+use Rattle.urna_outside.specs.Steady.{steady_told}
+use Rattle.urna_outside.specs.declared.chips.Chips.{Chips}
+use Rattle.urna_outside.specs.declared.steady.Steady.{Steady}
 use Rattle.urna_outside.specs.declared.file_machine.FileMachine.{FileMachine}
-use Rattle.urna_outside.specs.Chip.{flash}
+use Rattle.urna_outside.specs.Chips.{flashes_in, sizes_in}
 use Rattle.urna_outside.specs.declared.device.Dev.{Dev}
 use Rattle.urna_outside.specs.declared.device.Dev.TheVariants.{Internal, External}
 use Rattle.urna_outside.specs.declared.recorder.Recorder.{Recorder}
 
--- a recorder's contents and marks are as long as its devices
-pub recorder_sized : (r : Recorder) → ForSome (recorder_told r).flashes (AreSized (recorder_told r).sizes)
-recorder_sized r flashes same =
-    let kept : record { internal = flash r.internal; external = flash r.external } ≡ flashes = cc in
-    subst (AreSized (recorder_told r).sizes) kept (record {
+-- contents and marks of devices in memory are as long as the devices
+chips_sized : (chips : Chips) (flashes : Flashes) → Some (flashes_in chips) ≡ Some flashes → AreSized (sizes_in chips) flashes
+chips_sized chips flashes same =
+    let kept : flashes_in chips ≡ flashes = cc in
+    subst (AreSized (sizes_in chips)) kept (record {
       content = elim [ Internal ↦ refl | External ↦ refl ];
-      dirty = elim [ Internal ↦ r.internal.same_length | External ↦ r.external.same_length ];
+      dirty = elim [ Internal ↦ chips.internal.same_length | External ↦ chips.external.same_length ];
     })
 
 -- and these have fewer than 2^32 bytes
+chips_bounded : (chips : Chips) (d : Dev) → size_of d (sizes_in chips) < 2 ^ 32
+chips_bounded chips Internal = chips.internal.bounded
+chips_bounded chips External = chips.external.bounded
+
+-- so for both machines in memory
+pub recorder_sized : (r : Recorder) → ForSome (recorder_told r).flashes (AreSized (recorder_told r).sizes)
+recorder_sized r = chips_sized r.chips
+
 pub recorder_bounded : (r : Recorder) (d : Dev) → size_of d (recorder_told r).sizes < 2 ^ 32
-recorder_bounded r Internal = r.internal.bounded
-recorder_bounded r External = r.external.bounded
+recorder_bounded r = chips_bounded r.chips
+
+pub steady_sized : (m : Steady) → ForSome (steady_told m).flashes (AreSized (steady_told m).sizes)
+steady_sized m = chips_sized m.chips
+
+pub steady_bounded : (m : Steady) (d : Dev) → size_of d (steady_told m).sizes < 2 ^ 32
+steady_bounded m = chips_bounded m.chips
 
 -- where no flashes are told there is nothing to be of the right length
 pub none_sized : (sizes : Sizes) (flashes : Flashes) → None ≡ Some flashes → AreSized sizes flashes
 none_sized sizes flashes same = absurd (cc)
 
 -- devices that are files have fewer than 2^32 bytes
-pub file_bounded : {R : Type 0} (m : FileMachine R) (d : Dev) → size_of d (file_told m).sizes < 2 ^ 32
+pub file_bounded : {R F D : Type 0} {r : Reads F} {w : Writes F} {s : Seeks F} {l : Reads D} (m : FileMachine R F D r w s l) (d : Dev) → size_of d (file_told m).sizes < 2 ^ 32
 file_bounded m Internal = m.bounded
 file_bounded m External = m.bounded

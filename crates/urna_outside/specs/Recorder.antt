@@ -1,22 +1,39 @@
--- What a recorder tells, the room that is left in it, and the numbers of the calls that are to fail.
-use Rattle.std.specs.Prelude.{ℕ, List, [], Some, length, replicate, Contains}
-use Rattle.urna_outside.specs.Flash.{Op, clean_flash}
+-- What a recorder tells, where it started, the room that is left in it, and the numbers of the calls that are to fail.
+use Rattle.std.specs.Prelude.{ℕ, List, Some, take, Contains}
+use Rattle.urna_outside.specs.Flash.{Op, Flash, Flashes, flash_of, after}
 use Rattle.urna_outside.specs.Told.{Told}
-use Rattle.urna_outside.specs.Chip.{flash}
-use Rattle.urna_outside.specs.Counters.{faults_in, calls_in, no_faults, no_calls}
-use Rattle.urna_outside.specs.Room.{Room, HasRoom, show_of, torn_text}
-use Rattle.urna_outside.specs.Tape.{taped_ops, room_on}
+use Rattle.urna_outside.specs.Chips.{flashes_in, sizes_in}
+use Rattle.urna_outside.specs.Counters.{faults_in, calls_in}
+use Rattle.urna_outside.specs.Room.{Room, HasRoom, put_of, show_of, torn_part}
+use Rattle.urna_outside.specs.Tape.{taped_ops, room_on, start_on}
+use Rattle.urna_outside.specs.declared.device.Dev.{Dev}
 use Rattle.urna_outside.specs.declared.recorder.Recorder.{Recorder}
+
+-- the operations that were done
+abbrev pub trail_of : Recorder → List Op
+trail_of r = taped_ops r.tape
+
+-- what the devices hold
+abbrev pub flashes_of : Recorder → Flashes
+flashes_of r = flashes_in r.chips
+
+-- what they held at the start
+abbrev pub started_from : Recorder → Flashes
+started_from r = start_on r.tape
+
+-- a device after the first so many operations
+abbrev pub flash_after : Recorder → Dev → ℕ → Flash
+flash_after r dev ops = flash_of dev (after (take ops (trail_of r)) (started_from r))
 
 -- everything
 abbrev pub recorder_told : Recorder → Told
 recorder_told r =
     record {
-      sizes = record { internal = length (flash r.internal).content; external = length (flash r.external).content };
+      sizes = sizes_in r.chips;
       faults = faults_in r.faults;
-      flashes = Some (record { internal = flash r.internal; external = flash r.external });
+      flashes = Some (flashes_of r);
       shown = Some (r.tape.shown.items);
-      trail = Some (taped_ops r.tape);
+      trail = Some (trail_of r);
       calls = Some (calls_in r.calls);
     }
 
@@ -28,26 +45,17 @@ room_left r = room_on r.tape
 abbrev pub failing_calls : Recorder → List ℕ
 failing_calls r = r.failing.items
 
--- what a machine tells over two devices of so many zeros at which nothing was done yet
-abbrev pub blank_told : ℕ → Told
-blank_told size =
-    record {
-      sizes = record { internal = size; external = size };
-      faults = no_faults;
-      flashes = Some (record { internal = clean_flash (replicate size 0); external = clean_flash (replicate size 0) });
-      shown = Some [];
-      trail = Some [];
-      calls = Some no_calls;
-    }
-
 -- the next call is one of those that are to fail
 abbrev pub IsNextFailing : Recorder → Type 0
 IsNextFailing r = Contains (failing_calls r) (calls_in r.calls).made
 
--- the next call is not one of those that are to fail, and a show of this text has room
-abbrev pub CanShow : Recorder → List ℕ → Type 0
-CanShow r text = (¬ IsNextFailing r) × HasRoom (room_left r) (length text)
+-- the next call is not one of those that are to fail, and one more operation with so many bytes has room
+abbrev pub CanKeep : Recorder → ℕ → Type 0
+CanKeep r n = (¬ IsNextFailing r) × HasRoom (room_left r) n
 
--- the operations of a show of this text that fails
-abbrev pub torn_ops : Recorder → List ℕ → List Op
-torn_ops r text = show_of (torn_text (room_left r) text)
+-- the operations of a write of these bytes that fails, and of a show of them that fails
+abbrev pub torn_put : Recorder → Dev → ℕ → List ℕ → List Op
+torn_put r dev at bytes = put_of dev at (torn_part (room_left r) bytes)
+
+abbrev pub torn_show : Recorder → List ℕ → List Op
+torn_show r bytes = show_of (torn_part (room_left r) bytes)

@@ -1,6 +1,7 @@
--- How many operations and bytes a recorder has room for, and what a show that fails still shows.
+-- How many operations and bytes a recorder has room for, and what a write or a show that fails still does.
 use Rattle.std.specs.Prelude.{ℕ, ◌+◌, ◌-◌, ◌/◌, ◌<◌, ◌≤◌, min, List, [], ◌∷◌, if◌then◌else◌, nat_eq, length, take}
 use Rattle.urna_outside.specs.Flash.{Op, Put, Sync, Show}
+use Rattle.urna_outside.specs.declared.device.Dev.{Dev}
 
 -- so many operations, with so many bytes together
 pub record Room : Type 0 where
@@ -22,15 +23,20 @@ HasRoom room n = (0 < room.ops) × (n ≤ room.bytes)
 abbrev pub room_after : List Op → Room → Room
 room_after ops room = record { ops = room.ops - length ops; bytes = room.bytes - count_bytes ops }
 
+-- the put of these bytes, and no operation where there are none
+abbrev pub put_of : Dev → ℕ → List ℕ → List Op
+put_of dev at [] = []
+put_of dev at (byte ∷ bytes) = Put dev at (byte ∷ bytes) ∷ []
+
 -- the show of a text, and no operation where the text is empty
 abbrev pub show_of : List ℕ → List Op
 show_of [] = []
 show_of (byte ∷ text) = Show (byte ∷ text) ∷ []
 
--- how many of n bytes a show that fails still shows: half of them, as far as there is room
+-- how many of n bytes a write or a show that fails still puts or shows: half of them, as far as there is room
 abbrev pub torn_length : Room → ℕ → ℕ
 torn_length room n = if nat_eq room.ops 0 then 0 else min (n / 2) room.bytes
 
--- what of a text a show that fails has shown
-abbrev pub torn_text : Room → List ℕ → List ℕ
-torn_text room text = take (torn_length room (length text)) text
+-- these bytes of all
+abbrev pub torn_part : Room → List ℕ → List ℕ
+torn_part room bytes = take (torn_length room (length bytes)) bytes

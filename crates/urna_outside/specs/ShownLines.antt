@@ -1,8 +1,8 @@
 -- Calls that show a text line by line, one show for each line.
-use Rattle.std.specs.Prelude.{◌≡◌, ◌≢◌, ◌⊎◌, ℕ, ◌≤◌, List, [], ◌∷◌, Result, Ok, Err, map}
+use Rattle.std.specs.Prelude.{◌≡◌, ◌⊎◌, ℕ, List, [], ◌∷◌, Result, Ok, Err, map}
+use Rattle.urna_outside.specs.Faults.{FaultsAt}
 use Rattle.urna_outside.specs.Flash.{Op, Show}
-use Rattle.urna_outside.specs.Told.{Told, Faults, Does, Rose, WithoutFault, StopsAtFault, IsTornShow, faults_of}
-use Rattle.urna_outside.specs.declared.device.Port.{Port}
+use Rattle.urna_outside.specs.Told.{Told, Does, WithoutFault, StopsAtFault, IsTornShow}
 use Rattle.urna_outside.specs.declared.device.Port.TheVariants.{Display}
 
 -- one show for each line
@@ -13,12 +13,6 @@ shows lines = map (λ line. Show line) lines
 abbrev pub IsCutShort : List (List ℕ) → List Op → Type 0
 IsCutShort [] ops = ⊥
 IsCutShort (line ∷ lines) ops = IsTornShow line ops ⊎ ((rest : List Op) × (ops ≡ Show line ∷ rest) × IsCutShort lines rest)
-
--- the count of this port alone rose
-pub record FaultsAt (port : Port) (old new : Faults) : Type 0 where
-  pub never_falls : faults_of port old ≤ faults_of port new
-  pub others : (other : Port) → other ≢ port → faults_of other new ≡ faults_of other old
-  pub rose : Rose (faults_of port old) (faults_of port new)
 
 -- These lines were shown and nothing else was done, and no call failed.
 pub record HasShown (lines : List (List ℕ)) (old new : Told) : Type 0 where

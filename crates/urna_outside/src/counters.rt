@@ -1,5 +1,5 @@
 // Counts of faults and of calls. At its last value a count stands.
-ghost use Rattle.std.specs.Prelude.{◌≡◌, IsErr};
+ghost use Rattle.std.specs.Prelude.{◌≡◌, IsErr, is_ok};
 ghost use Rattle.urna_outside.specs.Told.{Counts, calls_after, faults_after};
 
 use crate::{Failed, Port};
@@ -37,6 +37,21 @@ impl Counters {
             Port::Display => self.display = self.display.saturating_add(1),
         }
         Err(Failed)
+    }
+
+    // Counts a failure where that came of a call, and answers whether it did.
+    pub(crate) fn count<E: Drop>(
+        &mut self,
+        port: Port,
+        outcome: Result<(), E>,
+    ) -> Result<(), Failed>
+        ensures result { is_ok result ≡ is_ok outcome }
+        ensures counts { Counts port result (faults_in self.old) (faults_in self.new) }
+    {
+        match outcome {
+            Ok(()) => Ok(()),
+            Err(_) => self.fail(port),
+        }
     }
 }
 

@@ -1,3 +1,6 @@
+ghost use Rattle.std.specs.Prelude.{◌≡◌};
+ghost use Rattle.urna_outside.specs.Told.{port_of};
+
 /// The two flashes of a machine. Internal comes first wherever both are meant.
 #[derive(Clone, Copy, Debug, PartialEq, Eq)]
 pub enum Dev {
@@ -11,6 +14,18 @@ pub enum Port {
     Internal,
     External,
     Display,
+}
+
+/// A device is a port too.
+impl From<Dev> for Port {
+    ghost from_gives = { λ dev port. port ≡ port_of dev };
+
+    fn from(dev: Dev) -> Port {
+        match dev {
+            Dev::Internal => Port::Internal,
+            Dev::External => Port::External,
+        }
+    }
 }
 
 /// A call to the outside failed, and the count of faults of its port rose.

@@ -2,17 +2,23 @@ ghost use Rattle.std.specs.Prelude.{◌≡◌, ◌<◌, ◌^◌};
 ghost use Rattle.urna_outside.specs.Told.{silent_told};
 
 use crate::counters::Counters;
+use crate::flash_files::FlashFiles;
 use crate::{Dev, Failed, Machine, Port};
 use std::io;
 use std::io::Write;
 use std::rt::Files;
 
-/// The machine of a real run: two flashes that are files of the working folder, and standard output as the
-/// display. It tells nothing but its sizes and its counts of faults. What files and terminal do is trusted.
+/// The machine of a real run: two flashes that are the files `internal.flash` and `external.flash` of the working
+/// folder, and standard output as the display. It tells nothing but its sizes and its counts of faults. What files and
+/// terminal do is trusted.
+///
+/// A file is made of zeros at the first read, write or sync of its device, where it is missing. A file that can't be
+/// opened or made, or that has another length than the device, is a fault of the device at each call.
 #[derive(Drop)]
-pub struct FileMachine<'a, R> {
+pub struct FileMachine<'a, R: Files> {
     rt: &'a R,
     size: u32,
+    files: FlashFiles<R::File>,
     faults: Counters,
     ghost bounded: { size < 2 ^ 32 },
 }
@@ -29,6 +35,7 @@ impl<'a, R: Files + Print> FileMachine<'a, R> {
         FileMachine {
             rt,
             size,
+            files: FlashFiles::new(),
             faults: Counters::new(),
         }
     }
@@ -55,10 +62,23 @@ impl<'a, R: Files + Print> Machine for FileMachine<'a, R> {
         self.size
     }
 
+    fn read(&mut self, dev: Dev, at: u32, into: &mut [u8]) -> Result<(), Failed> {
+        let outcome = self.files.read(self.rt, dev, self.size, at, into);
+        self.faults.count(Port::from(dev), outcome)
+    }
+
+    fn write(&mut self, dev: Dev, at: u32, bytes: &[u8]) -> Result<(), Failed> {
+        let outcome = self.files.write(self.rt, dev, self.size, at, bytes);
+        self.faults.count(Port::from(dev), outcome)
+    }
+
+    fn sync(&mut self, dev: Dev) -> Result<(), Failed> {
+        let outcome = self.files.sync(self.rt, dev, self.size);
+        self.faults.count(Port::from(dev), outcome)
+    }
+
     fn show(&mut self, bytes: &[u8]) -> Result<(), Failed> {
-        match write_out(self.rt, bytes) {
-            Ok(()) => Ok(()),
-            Err(_) => self.faults.fail(Port::Display),
-        }
+        let outcome = write_out(self.rt, bytes);
+        self.faults.count(Port::Display, outcome)
     }
 }

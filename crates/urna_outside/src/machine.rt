@@ -1,7 +1,7 @@
-ghost use Rattle.std.specs.Prelude.{◌≡◌, ℕ, ◌^◌, ◌<◌, [], ◌∷◌, OnOk, OnErr};
+ghost use Rattle.std.specs.Prelude.{◌≡◌, ℕ, ◌+◌, ◌^◌, ◌<◌, ◌≤◌, [], ◌∷◌, length, OnOk, OnErr};
 ghost use Rattle.std.specs.Option.{ForSome};
-ghost use Rattle.urna_outside.specs.Flash.{Show};
-ghost use Rattle.urna_outside.specs.Told.{Told, Does, Runs, Counts, IsCalled, IsTornShow, AreSized, size_of};
+ghost use Rattle.urna_outside.specs.Flash.{Put, Show, Sync, flash_of, part};
+ghost use Rattle.urna_outside.specs.Told.{Told, Does, Runs, Counts, IsCalled, IsTornPut, IsTornShow, AreSized, port_of, size_of};
 ghost use Rattle.urna_outside.specs.declared.device.Dev.{Dev};
 ghost use Rattle.urna_outside.specs.declared.device.Port.TheVariants.{Display};
 
@@ -17,6 +17,38 @@ pub trait Machine {
     /// The number of bytes of a device, which never changes.
     fn size(&self, dev: Dev) -> u32
         ensures { result ≡ size_of dev (told self.now).sizes };
+
+    /// Reads the bytes of a device from `at` on, as many as `into` has. It changes nothing but `into`.
+    ///
+    /// The caller owes that the range lies within the device. It fails only where that device's count of faults rose,
+    /// and `into` may then hold anything.
+    fn read(&mut self, dev: Dev, at: u32, into: &mut [u8]) -> Result<(), Failed>
+        requires { at + length into.old ≤ size_of dev (told self.old).sizes }
+        ensures ok { OnOk result (ForSome (told self.old).flashes
+            (λ flashes. into.new ≡ part (flash_of dev flashes).content at (length into.old))) }
+        ensures done { Does [] (told self.old) (told self.new) }
+        ensures counts { Counts (port_of dev) result (told self.old).faults (told self.new).faults }
+        ensures calls { IsCalled result (told self.old) (told self.new) };
+
+    /// Puts bytes on a device from `at` on. They are dirty until a sync of the device.
+    ///
+    /// The caller owes that the range lies within the device. It fails only where that device's count of faults rose,
+    /// and has then put any bytes into one part of the range, which may be none of it.
+    fn write(&mut self, dev: Dev, at: u32, bytes: &[u8]) -> Result<(), Failed>
+        requires { at + length bytes.now ≤ size_of dev (told self.old).sizes }
+        ensures ok { OnOk result (Does (Put dev at bytes.now ∷ []) (told self.old) (told self.new)) }
+        ensures torn { OnErr result (Runs (IsTornPut dev at (length bytes.now)) (told self.old) (told self.new)) }
+        ensures counts { Counts (port_of dev) result (told self.old).faults (told self.new).faults }
+        ensures calls { IsCalled result (told self.old) (told self.new) };
+
+    /// Brings all that was put on a device to it: nothing of the device is dirty afterwards.
+    ///
+    /// It fails only where that device's count of faults rose, and has then done nothing.
+    fn sync(&mut self, dev: Dev) -> Result<(), Failed>
+        ensures ok { OnOk result (Does (Sync dev ∷ []) (told self.old) (told self.new)) }
+        ensures err { OnErr result (Does [] (told self.old) (told self.new)) }
+        ensures counts { Counts (port_of dev) result (told self.old).faults (told self.new).faults }
+        ensures calls { IsCalled result (told self.old) (told self.new) };
 
     /// Shows bytes on the display, and changes no device.
     ///

@@ -1,5 +1,6 @@
 use crate::{
     Cabinet, CabinetError, Dev, Failed, FileMachine, FolderCabinet, Machine, Recorder, Shelf,
+    Steady, Tear,
 };
 use std::alloc::Allocator;
 use std::fmt::Display;
@@ -30,13 +31,13 @@ impl Print for Broken {
 impl Files for Broken {
     type File = fs::File;
 
-    type Dir = &'static [u8];
+    type Dir = fs::File;
 
     fn open_file(&self, _how: &OpenOptions, _path: &str) -> io::Result<fs::File> {
         Err(io::Error::from(self.0))
     }
 
-    fn open_dir(&self, _path: &str) -> io::Result<&'static [u8]> {
+    fn open_dir(&self, _path: &str) -> io::Result<fs::File> {
         Err(io::Error::from(self.0))
     }
 
@@ -105,6 +106,186 @@ fn a_show_that_fails_shows_half_as_far_as_there_is_room(rt: HostRuntime) -> Resu
             "the second at {ops} {bytes}"
         );
         assert_eq!(rt; m.shown(), shown, "at {ops} {bytes}");
+    }
+    Ok(())
+}
+
+// What writes leave, and the image of a device at some stops of a trail of five operations.
+#[test]
+fn a_stop_tears_what_was_not_synced(rt: HostRuntime) -> Result<(), Fail> {
+    let mut m = Recorder::new(rt.alloc(), 4, 5, 64, &[])?;
+    m.write(Dev::Internal, 0, &[1, 2, 3])?;
+    m.sync(Dev::Internal)?;
+    m.write(Dev::Internal, 1, &[9])?;
+    m.show(b"FIM")?;
+    m.write(Dev::External, 2, &[5, 6])?;
+    assert_eq!(rt; m.trail_len(), 5);
+    assert_eq!(rt; m.content(Dev::Internal), [1, 9, 3, 0].as_slice());
+    let rows = [
+        (Dev::Internal, 0, Tear::Byte(7), [0, 0, 0, 0]),
+        (Dev::Internal, 1, Tear::Byte(7), [7, 7, 7, 0]),
+        (Dev::Internal, 1, Tear::AsPut, [1, 2, 3, 0]),
+        (Dev::Internal, 2, Tear::Byte(7), [1, 2, 3, 0]),
+        (Dev::Internal, 5, Tear::Byte(7), [1, 7, 3, 0]),
+        (Dev::External, 4, Tear::Byte(7), [0, 0, 0, 0]),
+        (Dev::External, 5, Tear::Byte(7), [0, 0, 7, 7]),
+        (Dev::External, 5, Tear::AsPut, [0, 0, 5, 6]),
+    ];
+    for (dev, ops, tear, image) in rows {
+        assert!(rt; ops <= m.trail_len());
+        let left = m.stop(rt.alloc(), dev, ops, tear)?;
+        assert_eq!(rt;
+            left.as_slice(),
+            image.as_slice(),
+            "at {dev:?} {ops} {tear:?}"
+        );
+    }
+    Ok(())
+}
+
+// A write, a sync, a write and a read with room for so many operations and bytes, one of them failing: which end well,
+// what the device holds then, and what a power cut may leave of it.
+#[test]
+fn a_write_that_fails_puts_half_as_far_as_there_is_room(rt: HostRuntime) -> Result<(), Fail> {
+    let rows = [
+        (
+            3,
+            5,
+            9,
+            [true, true, true, true],
+            [1, 8, 9, 0],
+            [1, 7, 7, 0],
+        ),
+        (
+            3,
+            5,
+            0,
+            [false, true, true, true],
+            [1, 8, 9, 0],
+            [1, 7, 7, 0],
+        ),
+        (
+            3,
+            5,
+            1,
+            [true, false, true, true],
+            [1, 8, 9, 0],
+            [7, 7, 7, 0],
+        ),
+        (
+            3,
+            5,
+            2,
+            [true, true, false, true],
+            [1, 8, 3, 0],
+            [1, 7, 3, 0],
+        ),
+        (
+            3,
+            5,
+            3,
+            [true, true, true, false],
+            [1, 8, 9, 0],
+            [1, 7, 7, 0],
+        ),
+        (
+            2,
+            5,
+            9,
+            [true, true, false, true],
+            [1, 2, 3, 0],
+            [1, 2, 3, 0],
+        ),
+        (
+            3,
+            4,
+            9,
+            [true, true, false, true],
+            [1, 8, 3, 0],
+            [1, 7, 3, 0],
+        ),
+        (
+            3,
+            3,
+            9,
+            [true, true, false, true],
+            [1, 2, 3, 0],
+            [1, 2, 3, 0],
+        ),
+        (
+            0,
+            9,
+            9,
+            [false, false, false, true],
+            [0, 0, 0, 0],
+            [0, 0, 0, 0],
+        ),
+    ];
+    for (ops, bytes, failing, ok, content, torn) in rows {
+        let mut m = Recorder::new(rt.alloc(), 4, ops, bytes, &[failing])?;
+        let mut read = [0; 4];
+        let calls = [
+            m.write(Dev::Internal, 0, &[1, 2, 3]).is_ok(),
+            m.sync(Dev::Internal).is_ok(),
+            m.write(Dev::Internal, 1, &[8, 9]).is_ok(),
+            m.read(Dev::Internal, 0, &mut read).is_ok(),
+        ];
+        assert_eq!(rt; calls, ok, "at {ops} {bytes} {failing}");
+        assert_eq!(rt;
+            m.content(Dev::Internal),
+            content.as_slice(),
+            "at {ops} {bytes} {failing}"
+        );
+        assert_eq!(rt;
+            read,
+            if ok[3] { content } else { [0; 4] },
+            "at {ops} {bytes} {failing}"
+        );
+        let done = m.trail_len();
+        let left = m.stop(rt.alloc(), Dev::Internal, done, Tear::Byte(7))?;
+        assert_eq!(rt;
+            left.as_slice(),
+            torn.as_slice(),
+            "at {ops} {bytes} {failing}"
+        );
+    }
+    Ok(())
+}
+
+#[test]
+fn a_machine_restarts_over_what_was_left(rt: HostRuntime) -> Result<(), Fail> {
+    let mut m = Recorder::new(rt.alloc(), 2, 3, 9, &[])?;
+    m.write(Dev::External, 1, &[4])?;
+    let internal = m.stop(rt.alloc(), Dev::Internal, 1, Tear::Byte(7))?;
+    let external = m.stop(rt.alloc(), Dev::External, 1, Tear::Byte(7))?;
+    assert!(rt; external.len() == internal.len() && internal.len() == 2);
+    let mut m = Recorder::restart(rt.alloc(), internal, external, 3, 9, &[1])?;
+    assert_eq!(rt; m.trail_len(), 0);
+    let mut read = [0; 1];
+    m.read(Dev::External, 1, &mut read)?;
+    assert_eq!(rt; read, [7]);
+    assert_eq!(rt; m.sync(Dev::External), Err(Failed));
+    m.write(Dev::External, 0, &[5])?;
+    let left = m.stop(rt.alloc(), Dev::External, 1, Tear::Byte(9))?;
+    assert_eq!(rt;
+        left.as_slice(),
+        [9, 7].as_slice(),
+        "the machine started with nothing dirty"
+    );
+    Ok(())
+}
+
+#[test]
+fn a_steady_machine_reads_what_it_wrote(rt: HostRuntime) -> Result<(), Fail> {
+    let mut m = Steady::new(rt.alloc(), 4)?;
+    m.write(Dev::External, 1, &[5, 6])?;
+    m.sync(Dev::External)?;
+    m.show(b"FIM\n")?;
+    let mut bytes = [7; 4];
+    for (dev, content) in [(Dev::External, [0, 5, 6, 0]), (Dev::Internal, [0; 4])] {
+        assert!(rt; m.size(dev) == 4);
+        m.read(dev, 0, &mut bytes)?;
+        assert_eq!(rt; bytes, content, "at {dev:?}");
     }
     Ok(())
 }
@@ -182,6 +363,59 @@ fn a_file_machine_shows_on_standard_output(rt: HostRuntime) -> Result<(), Fail> 
 }
 
 #[test]
+fn a_file_machine_makes_no_file_before_an_operation_on_it(rt: HostRuntime) -> Result<(), Fail> {
+    let mut m = FileMachine::new(&rt, 16);
+    m.show(b"URNA PRONTA 0\n")?;
+    assert!(rt; fs::metadata(&rt, "internal.flash").is_err());
+    assert!(rt; fs::metadata(&rt, "external.flash").is_err());
+    let mut bytes = [7; 16];
+    m.read(Dev::External, 0, &mut bytes)?;
+    assert_eq!(rt; bytes, [0; 16]);
+    let internal = fs::metadata(&rt, "internal.flash");
+    let external = fs::read(&rt, "external.flash");
+    fs::remove_file(&rt, "external.flash")?;
+    assert!(rt; internal.is_err());
+    assert_eq!(rt; external?.as_slice(), [0; 16].as_slice());
+    Ok(())
+}
+
+#[test]
+fn another_machine_reads_what_was_written_to_the_files(rt: HostRuntime) -> Result<(), Fail> {
+    let mut first = FileMachine::new(&rt, 16);
+    first.write(Dev::Internal, 3, &[1, 2, 3])?;
+    first.write(Dev::External, 12, &[4, 5, 6, 7])?;
+    first.write(Dev::Internal, 4, &[8])?;
+    first.sync(Dev::Internal)?;
+    first.sync(Dev::External)?;
+    first.sync(Dev::Internal)?;
+    let mut second = FileMachine::new(&rt, 16);
+    let mut internal = [9; 6];
+    let mut external = [9; 4];
+    let reads = [
+        second.read(Dev::Internal, 2, &mut internal),
+        second.read(Dev::External, 12, &mut external),
+    ];
+    let mut longer = FileMachine::new(&rt, 17);
+    let calls = [
+        longer.read(Dev::Internal, 0, &mut [0]),
+        longer.write(Dev::Internal, 0, &[1]),
+        longer.sync(Dev::External),
+    ];
+    let left = fs::read(&rt, "internal.flash");
+    fs::remove_file(&rt, "internal.flash")?;
+    fs::remove_file(&rt, "external.flash")?;
+    assert_eq!(rt; reads, [Ok(()), Ok(())]);
+    assert_eq!(rt; internal, [0, 1, 8, 3, 0, 0]);
+    assert_eq!(rt; external, [4, 5, 6, 7]);
+    assert_eq!(rt; calls, [Err(Failed), Err(Failed), Err(Failed)]);
+    assert_eq!(rt;
+        left?.as_slice(),
+        [0, 0, 0, 1, 8, 3, 0, 0, 0, 0, 0, 0, 0, 0, 0, 0].as_slice()
+    );
+    Ok(())
+}
+
+#[test]
 fn a_refusal_of_the_system_is_a_failure(rt: HostRuntime) {
     for (kind, error) in [
         (ErrorKind::NotFound, CabinetError::Missing),
@@ -196,6 +430,10 @@ fn a_refusal_of_the_system_is_a_failure(rt: HostRuntime) {
             Some(error),
             "at {kind:?}"
         );
-        assert_eq!(rt; FileMachine::new(&broken, 512).show(b"FIM\n"), Err(Failed));
+        let mut m = FileMachine::new(&broken, 512);
+        assert_eq!(rt; m.show(b"FIM\n"), Err(Failed));
+        assert_eq!(rt; m.read(Dev::Internal, 0, &mut [0]), Err(Failed));
+        assert_eq!(rt; m.write(Dev::External, 0, &[1]), Err(Failed));
+        assert_eq!(rt; m.sync(Dev::Internal), Err(Failed));
     }
 }

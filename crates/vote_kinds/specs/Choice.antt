@@ -1,5 +1,5 @@
 -- The order of choices: nominal rising, party rising, blank, null
-use Rattle.std.specs.Prelude.{ℕ, Bool, ◌==◌, ◌&&◌, nat_le, nat_lt, if◌then◌else◌}
+use Rattle.std.specs.Prelude.{ℕ, Bool, ◌==◌, ◌&&◌, nat_le, nat_lt, if◌then◌else◌, Option, Some, None}
 use Rattle.vote_kinds.specs.declared.choice.Choice.{Choice}
 use Rattle.vote_kinds.specs.declared.choice.Choice.TheVariants as choice
 
@@ -16,6 +16,15 @@ number_of (choice.Nominal number) = number
 number_of (choice.Party number) = number
 number_of choice.Blank = 0
 number_of choice.Null = 0
+
+-- the choice of a kind and a number
+abbrev pub choice_with : ℕ → ℕ → Option Choice
+choice_with kind number =
+    if kind == 1 then Some (choice.Nominal number)
+    else (if kind == 2 && nat_lt number 256 then Some (choice.Party number)
+    else (if kind == 3 && number == 0 then Some choice.Blank
+    else (if kind == 4 && number == 0 then Some choice.Null
+    else None)))
 
 -- a stands before b, or is b
 abbrev pub choice_le : Choice → Choice → Bool

@@ -1,5 +1,5 @@
 -- Bags of choices: the order in which members come doesn't count
-use Rattle.std.proofs.Common.{◌≡◌, ℕ, zero, suc, ◌+◌, ◌≤◌, ◌<◌, ◌≢◌, Bool, true, false, cond, List, [], ◌∷◌, length, ◌⊎◌, inl, inr, refl, sym, ap, subst, ◌∙◌, nat_le, nat_lt, arith, ◌==◌}
+use Rattle.std.proofs.Common.{◌≡◌, ℕ, zero, suc, ◌+◌, ◌≤◌, ◌<◌, ◌≢◌, Bool, true, false, cond, List, [], ◌∷◌, ◌++◌, length, ◌⊎◌, inl, inr, refl, sym, ap, subst, ◌∙◌, nat_le, nat_lt, arith, ◌==◌}
 use Rattle.std.proofs.lemmas.Bool.Decides.{nat_tests}
 use Rattle.std.proofs.lemmas.List.Sums.{sum_by-cons}
 use Rattle.std.specs.List.{AllByRecursion}
@@ -154,7 +154,7 @@ same_bag (x ∷ xs) (y ∷ ys) p q h =
 
 -- Adding keeps the order
 
-all_trans : (a b : Choice) (bag : List Choice) → choice_le a b ≡ true → AllByRecursion (λ d. choice_le b d ≡ true) bag → AllByRecursion (λ d. choice_le a d ≡ true) bag
+pub all_trans : (a b : Choice) (bag : List Choice) → choice_le a b ≡ true → AllByRecursion (λ d. choice_le b d ≡ true) bag → AllByRecursion (λ d. choice_le a d ≡ true) bag
 all_trans a b [] h p = tt
 all_trans a b (d ∷ bag) h p = (le_trans a b d h p.0, all_trans a b bag h p.1)
 
@@ -174,6 +174,25 @@ in_order_at c d bag false h p more = (all_with d c bag (le_total c d h) p.0, mor
 pub in_order-with_choice : (c : Choice) (bag : List Choice) → IsInOrder bag → IsInOrder (with_choice c bag)
 in_order-with_choice c [] p = (tt, tt)
 in_order-with_choice c (d ∷ bag) p = in_order_at c d bag (choice_le c d) refl p (in_order-with_choice c bag p.1)
+
+-- A member at the end
+
+with_choice-front : (c : Choice) (bag : List Choice) → AllByRecursion (λ d. choice_le c d ≡ true) bag → with_choice c bag ≡ c ∷ bag
+with_choice-front c [] all = refl
+with_choice-front c (d ∷ bag) all = rw all.0 refl
+
+-- a member that stands at or after all others goes to the end
+pub with_choice-last : (c : Choice) (bag : List Choice) → IsInOrder bag → AllByRecursion (λ d. choice_le d c ≡ true) bag → with_choice c bag ≡ bag ++ c ∷ []
+with_choice-last c [] p all = refl
+with_choice-last c (d ∷ bag) p all =
+    let rest : d ∷ with_choice c bag ≡ d ∷ (bag ++ c ∷ []) = ap (λ (t : List Choice). d ∷ t) (with_choice-last c bag p.1 all.1) in
+    elim (test_cases (choice_le c d)) [
+      | inl t ↦
+          let e : c ≡ d = le_antisym c d t all.0 in
+          let front : with_choice c bag ≡ c ∷ bag = with_choice-front c bag (subst (λ (x : Choice). AllByRecursion (λ y. choice_le x y ≡ true) bag) (sym e) p.0) in
+          rw t (ap (λ (x : Choice). x ∷ d ∷ bag) e ∙ ap (λ (x : Choice). d ∷ x ∷ bag) (sym e) ∙ sym (ap (λ (t : List Choice). d ∷ t) front) ∙ rest)
+      | inr f ↦ rw f rest
+    ]
 
 -- The bag of one panel
 

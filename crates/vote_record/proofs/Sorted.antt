@@ -1,12 +1,14 @@
 -- A bag as a sorted vector: where a binary search puts a new member
-use Rattle.std.proofs.Common.{◌≡◌, ℕ, zero, suc, ◌≤◌, ◌<◌, Bool, true, false, not, List, [], ◌∷◌, length, get_or, inl, inr, refl, sym, ap, subst, arith}
+use Rattle.std.proofs.Common.{◌≡◌, ℕ, zero, suc, ◌-◌, ◌≤◌, ◌<◌, Bool, true, false, not, List, [], ◌∷◌, ◌++◌, length, get_or, inl, inr, refl, sym, ap, subst, arith}
 use Rattle.std.specs.List.{AllByRecursion, insert}
 use Rattle.std.specs.List.Sorted.{IsPartitionedBy, IsPartitionPoint}
 use Rattle.vote_kinds.specs.declared.choice.Choice.{Choice}
 use Rattle.vote_kinds.specs.Choice.{choice_le}
 use Rattle.vote_record.specs.Bag.{IsInOrder, with_choice}
 use Rattle.vote_record.specs.BagData.{BagData, IsStored}
-use Rattle.vote_record.proofs.Bags.{test_cases, le_refl, le_trans, in_order-with_choice, length-with_choice}
+use Rattle.vote_record.proofs.Bags.{test_cases, le_refl, le_trans, in_order-with_choice, length-with_choice, with_choice-last}
+use Rattle.std.proofs.lemmas.List.{get_or_read}
+use Rattle.std.proofs.lemmas.List.Elements.{recursion_from_All}
 
 all_at : (P : Choice → Type 0) (xs : List Choice) (k : ℕ) (d : Choice) → AllByRecursion P xs → k < length xs → P (get_or xs k d)
 all_at P [] k d all lt = absurd (omega arith)
@@ -20,6 +22,18 @@ ordered_at (x ∷ xs) zero zero d order le lt = le_refl x
 ordered_at (x ∷ xs) zero (suc j) d order le lt = all_at (λ y. choice_le x y ≡ true) xs j d order.0 (omega arith)
 ordered_at (x ∷ xs) (suc i) zero d order le lt = absurd (omega arith)
 ordered_at (x ∷ xs) (suc i) (suc j) d order le lt = ordered_at xs i j d order.1 (omega arith) (omega arith)
+
+-- a member that stands at or after the last stands at or after all
+all_at_last : (c : Choice) (bag : List Choice) (last : Choice) → IsInOrder bag → last ≡ get_or bag (length bag - 1) last → choice_le last c ≡ true
+    → AllByRecursion (λ e. choice_le e c ≡ true) bag
+all_at_last c bag last order is h = recursion_from_All (λ e. choice_le e c ≡ true) bag (λ k d lt.
+    let same : last ≡ get_or bag (length bag - 1) d = get_or_read bag (length bag - 1) last (omega arith) is d in
+    let before = ordered_at bag k (length bag - 1) d order (omega arith) (omega arith) in
+    le_trans (get_or bag k d) (get_or bag (length bag - 1) d) c before (subst (λ (x : Choice). choice_le x c ≡ true) same h))
+
+pub with_choice-at_last : (c : Choice) (bag : List Choice) (last : Choice) → IsInOrder bag → last ≡ get_or bag (length bag - 1) last → choice_le last c ≡ true
+    → with_choice c bag ≡ bag ++ c ∷ []
+with_choice-at_last c bag last order is h = with_choice-last c bag order (all_at_last c bag last order is h)
 
 not_true : (b : Bool) → not b ≡ true → b ≡ false
 not_true true h = sym h

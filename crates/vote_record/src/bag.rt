@@ -1,7 +1,7 @@
-ghost use Rattle.std.specs.Prelude.{◌≡◌, ◌<◌, ◌≤◌, [], length, IfOk, Some, slice_get, insert, vec_len, vec_capacity};
+ghost use Rattle.std.specs.Prelude.{◌≡◌, ◌<◌, ◌≤◌, [], ◌∷◌, ◌++◌, length, IfOk, IsTrue, Some, slice_get, insert, vec_len, vec_capacity};
+ghost use Rattle.vote_kinds.specs.Choice.{is_same};
 ghost use Rattle.vote_record.specs.Bag.{IsInOrder, count_of, with_choice};
 
-use crate::order::{is_at_or_before, is_same};
 use std::alloc::Global;
 use std::marker::Model;
 use urna_base::Memory;
@@ -78,8 +78,23 @@ fn add_member(members: &mut Vec<Choice>, choice: Choice)
     ensures added { members.new.items ≡ with_choice choice members.old.items }
     ensures reserved { vec_capacity members.old ≤ vec_capacity members.new }
 {
-    let place = place_for(members, choice);
-    members.insert(place, choice).unwrap();
+    if goes_last(members, choice) {
+        members.push(choice).unwrap();
+    } else {
+        let place = place_for(members, choice);
+        members.insert(place, choice).unwrap();
+    }
+}
+
+// Whether a new member stands at the end of members in order, as each does where they come in order.
+fn goes_last(members: &[Choice], choice: Choice) -> bool
+    requires { IsInOrder members.now }
+    ensures { IsTrue result → with_choice choice members.now ≡ members.now ++ choice ∷ [] }
+{
+    match members.last() {
+        Some(last) => last.is_at_or_before(choice),
+        None => true,
+    }
 }
 
 // Where a new member goes among members in order: before the first that stands at it or after it.
@@ -88,7 +103,14 @@ fn place_for(members: &[Choice], choice: Choice) -> usize
     ensures within { result ≤ length members.now }
     ensures keeps_order { insert members.now result choice ≡ with_choice choice members.now }
 {
-    members.partition_point(|member| !is_at_or_before(choice, *member))
+    members.partition_point(|member| !choice.is_at_or_before(*member))
+}
+
+// Whether two choices are the same.
+fn is_same(a: Choice, b: Choice) -> bool
+    ensures { result ≡ is_same a b }
+{
+    a.kind() == b.kind() && a.number() == b.number()
 }
 
 #[cfg(test)]

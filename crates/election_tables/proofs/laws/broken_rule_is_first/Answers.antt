@@ -1,6 +1,8 @@
-use Rattle.std.proofs.Common.{◌+◌, refl}
-use Rattle.election_tables.proofs.Breaks.{first_broken_at}
+use Rattle.election_tables.proofs.Breaks.{broken_is_first, first_is_broken, kept_is_all, all_is_kept}
 use Rattle.election_tables.proofs.laws.broken_rule_is_first.Goals as goal
 
-pub returns : goal.returns
-returns c n i holds here before = first_broken_at n i (n + i) holds refl here before
+pub returns-clause-first : goal.returns-clause-first
+returns-clause-first c ms k = (broken_is_first ms k, first_is_broken ms k)
+
+pub returns-clause-kept : goal.returns-clause-kept
+returns-clause-kept c ms = (kept_is_all ms, all_is_kept ms)

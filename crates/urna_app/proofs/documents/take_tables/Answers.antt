@@ -32,7 +32,7 @@ returns-clause-fault g c =
     subst (IsTaken told.files doc.Tables name) (sym c.deref.ensures.value) (record { held = c.in-Ok.ensures.bytes; short = subst (λ (n : ℕ). n ≤ limit_of doc.Tables) c.in-Ok.bytes.ok.0 c.in-Ok.ensures.limit }) in
     subst (λ (s : Status). s ≢ status.Memory → s ≢ status.Cabinet → IsFault told.files name doc.Tables s) (sym c.not_tables.ensures)
     (λ memory failed. not_tables told.files name c.deref.result.now c.in-Err-read.error taken (λ e. c.in-Err-read.ensures.not_toml (ap Err e))
-    (λ k one e. c.in-Err-read.ensures.rule k one (ap Err e)) (λ e. c.in-Err-read.ensures.unserved (ap Err e)) memory)
+    (λ k e. c.in-Err-read.ensures.rule k (ap Err e)) memory)
 
 pub returns-clause-taken : goal.returns-clause-taken
 returns-clause-taken g c =
@@ -40,3 +40,7 @@ returns-clause-taken g c =
     let new = g.C.Cabinet.told c.take.new.self in
     one_call c.not_tables.result old new c.take.ensures.files
     (subst (λ (s : Status). CountsFor s old.tally new.tally) (sym c.not_tables.ensures) (counts_tables c.in-Err-read.error old.tally new.tally c.in-Ok.ensures.ok)) c.take.ensures.calls
+
+pub returns-in-Ok-read-clause-taken : goal.returns-in-Ok-read-clause-taken
+returns-in-Ok-read-clause-taken g c =
+    one_call status.Done (g.C.Cabinet.told c.args.cabinet.now) (g.C.Cabinet.told c.take.new.self) c.take.ensures.files c.in-Ok.ensures.ok c.take.ensures.calls

@@ -1,0 +1,272 @@
+//! Runs the keys of a day over two flashes in memory, and writes and reads the body that the day leaves, for `make bench`.
+//!
+//! The words are WORK TABLES ROLL KEYS TIMES, with section 1 of zone 1. `press` loads the flashes and runs the keys, TIMES
+//! times, and prints the bytes that each time puts on the flashes and its syncs. Each other work runs the keys once and then,
+//! TIMES times, writes the body of the state that is held (`encode`), reads it (`decode`) or copies it (`copy`).
+//!
+//! Its status is 0 where each time went well, 1 where one did not, and 2 where the words are others.
+#![tactic(auto)]
+
+ghost use Rattle.std.specs.Prelude.{◌≡◌, ◌≤◌, Some, codes, IfSome, length};
+ghost use Rattle.image_codec.specs.Encoding.{IsStateOf};
+ghost use Rattle.state_store.specs.Load.{IsSectionOf};
+
+mod bank;
+
+use bank::Bank;
+use election_tables::{Roll, Section, Tables};
+use image_codec::{State, decode, encode_into};
+use key_script::Script;
+use state_store::Store;
+use station::Station;
+use std::alloc::Global;
+use std::process::ExitCode;
+use std::{env, fs, io};
+use urna_base::decimal;
+use urna_outside::{Dev, Machine};
+
+/// The first body of a flash begins behind its header and a gate with its padding.
+const FIRST_BODY: u32 = 1024;
+
+const BODY: usize = 65_536;
+
+/// The longest keys that are read.
+const LONGEST_KEYS: usize = 16_777_216;
+
+/// What is done with the day.
+#[derive(Clone, Copy, Debug, PartialEq, Eq)]
+enum Work {
+    Press,
+    Encode,
+    Decode,
+    Copy,
+}
+
+/// The work that a word names.
+fn work_of(word: &str) -> Option<Work>
+    ensures press { result ≡ Some Work.Press → word.now ≡ codes "press" }
+    ensures encode { result ≡ Some Work.Encode → word.now ≡ codes "encode" }
+    ensures decode { result ≡ Some Work.Decode → word.now ≡ codes "decode" }
+    ensures copy { result ≡ Some Work.Copy → word.now ≡ codes "copy" }
+{
+    match word {
+        "press" => Some(Work::Press),
+        "encode" => Some(Work::Encode),
+        "decode" => Some(Work::Decode),
+        "copy" => Some(Work::Copy),
+        _ => None,
+    }
+}
+
+/// The section, where it has as many voters as the roll.
+fn section_of(tables: &Tables, roll: &Roll) -> Option<Section>
+    ensures section { IfSome result (λ section. IsSectionOf tables.now roll.now section) }
+    ensures voters { IfSome result (λ section. section.voters ≤ 600) }
+{
+    let section = tables.find_section(1, 1)?;
+    if section.voters == roll.len() {
+        Some(section)
+    } else {
+        None
+    }
+}
+
+/// Whether the flashes were loaded and the keys were run.
+#[tactic(auto, using(crate::specs::Bank::are_devices))]
+fn is_held(
+    alloc: Global,
+    tables: &Tables,
+    roll: &Roll,
+    section: Section,
+    script: &Script,
+    bank: &mut Bank,
+) -> bool
+    requires { IsSectionOf tables.now roll.now section }
+{
+    if Store::format(alloc, tables, roll, section, bank).is_err() {
+        return false;
+    }
+    match Station::start(alloc, tables, roll, bank) {
+        Ok(station) => station.run(tables, roll, bank, script).is_ok(),
+        Err(_) => false,
+    }
+}
+
+/// The flashes after a day.
+fn day(
+    alloc: Global,
+    tables: &Tables,
+    roll: &Roll,
+    section: Section,
+    script: &Script,
+) -> Option<Bank>
+    requires { IsSectionOf tables.now roll.now section }
+{
+    let mut bank = Bank::new(alloc).ok()?;
+    if is_held(alloc, tables, roll, section, script, &mut bank) {
+        Some(bank)
+    } else {
+        None
+    }
+}
+
+fn encode_all(state: &State, tables: &Tables, body: &mut [u8; BODY], times: u64)
+    requires { IsStateOf tables.now (length state.now.came) state.now }
+{
+    for _ in 0..times {
+        encode_into(state, tables, body);
+    }
+}
+
+fn all_decoded(alloc: Global, tables: &Tables, voters: u32, body: &[u8; BODY], times: u64) -> bool
+    requires { voters ≤ 600 }
+{
+    for _ in 0..times {
+        if decode(alloc, tables, voters, body).is_err() {
+            return false;
+        }
+    }
+    true
+}
+
+/// Each copy is of bytes that the one before it changed, and a byte of the last is answered, so that none can be left out.
+fn copy_all(body: &mut [u8; BODY], times: u64) -> u64 {
+    let mut into = [0; BODY];
+    for time in 0..times {
+        into.copy_from_slice(body);
+        let at = time as usize % BODY;
+        body[at] = into[BODY - 1 - at].wrapping_add(1);
+    }
+    u64::from(into[times as usize % BODY])
+}
+
+/// Writes, reads or copies the body that the flashes hold.
+fn use_body(
+    alloc: Global,
+    work: Work,
+    tables: &Tables,
+    voters: u32,
+    bank: &mut Bank,
+    times: u64,
+) -> Option<u64>
+    requires { voters ≤ 600 }
+{
+    let mut body = [0; BODY];
+    bank.read(Dev::Internal, FIRST_BODY, &mut body).ok()?;
+    let state = decode(alloc, tables, voters, &body).ok()??;
+    match work {
+        Work::Encode => encode_all(&state, tables, &mut body, times),
+        Work::Decode => {
+            if !all_decoded(alloc, tables, voters, &body, times) {
+                return None;
+            }
+        }
+        _ => return Some(copy_all(&mut body, times)),
+    }
+    Some(u64::from(body[0]))
+}
+
+/// The documents of a day, and what is done with it.
+#[derive(Drop)]
+struct Task {
+    work: Work,
+    tables: Tables,
+    roll: Roll,
+    script: Script,
+    times: u64,
+}
+
+/// The work that the words name; `None` where the words, or the documents, are others.
+fn task_of(rt: &HostRuntime) -> io::Result<Option<Task>> {
+    let mut words = env::args(rt)?.skip(1);
+    let (Some(work), Some(tables), Some(roll), Some(keys), Some(times)) = (
+        words.next(),
+        words.next(),
+        words.next(),
+        words.next(),
+        words.next(),
+    ) else {
+        return Ok(None);
+    };
+    let (Some(work), Some(times)) = (work_of(work.as_str()), decimal(times.as_bytes())) else {
+        return Ok(None);
+    };
+    let tables = fs::read(rt, tables.as_str())?;
+    let roll = fs::read(rt, roll.as_str())?;
+    let keys = fs::read(rt, keys.as_str())?;
+    if keys.len() > LONGEST_KEYS {
+        return Ok(None);
+    }
+    let (Ok(tables), Ok(roll), Ok(script)) = (
+        Tables::read(rt.alloc(), &tables),
+        Roll::read(rt.alloc(), &roll),
+        Script::read(keys),
+    ) else {
+        return Ok(None);
+    };
+    Ok(Some(Task {
+        work,
+        tables,
+        roll,
+        script,
+        times,
+    }))
+}
+
+/// What a task prints: what was put on the flashes and the syncs of the last day, and a byte of what was written or copied.
+#[derive(Clone, Copy)]
+struct Outcome {
+    put: u64,
+    syncs: u64,
+    byte: u64,
+}
+
+/// The days of a task, each over newly loaded flashes, and the work on the body.
+fn outcome_of(alloc: Global, task: &Task) -> Option<Outcome> {
+    let section = section_of(&task.tables, &task.roll)?;
+    let mut bank = day(alloc, &task.tables, &task.roll, section, &task.script)?;
+    let (put, syncs) = (bank.put(), bank.syncs());
+    if task.work != Work::Press {
+        let voters = section.voters;
+        let byte = use_body(
+            alloc,
+            task.work,
+            &task.tables,
+            voters,
+            &mut bank,
+            task.times,
+        )?;
+        return Some(Outcome { put, syncs, byte });
+    }
+    for _ in 1..task.times {
+        let _bank = day(alloc, &task.tables, &task.roll, section, &task.script)?;
+    }
+    Some(Outcome {
+        put,
+        syncs,
+        byte: 0,
+    })
+}
+
+fn status(rt: &HostRuntime) -> io::Result<u8> {
+    let Some(task) = task_of(rt)? else {
+        return Ok(2);
+    };
+    match outcome_of(rt.alloc(), &task) {
+        Some(outcome) => {
+            println!(rt;
+                "PUT {} SYNC {} BYTE {}",
+                outcome.put, outcome.syncs, outcome.byte
+            )?;
+            Ok(0)
+        }
+        None => Ok(1),
+    }
+}
+
+fn main(rt: HostRuntime) -> ExitCode {
+    match status(&rt) {
+        Ok(code) => ExitCode::from(code),
+        Err(_) => ExitCode::from(1),
+    }
+}

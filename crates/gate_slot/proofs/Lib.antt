@@ -1,0 +1,3 @@
+pub mod Images
+pub mod Rows
+pub mod Written

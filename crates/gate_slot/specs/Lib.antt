@@ -1,0 +1,4 @@
+pub mod Device
+pub mod Slot
+pub mod Survival
+pub mod Token

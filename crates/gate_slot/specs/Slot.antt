@@ -1,0 +1,68 @@
+-- Where a slot's gate and body stand, what is known of them in every image, and the steps that change them.
+use Rattle.std.specs.Prelude.{◌≡◌, ◌≢◌, ℕ, ◌+◌, ◌*◌, ◌≤◌, List, [], ◌∷◌, length, slice_index}
+use Rattle.urna_outside.specs.Flash.{Op, Put, Sync, Flash, Stably, part}
+use Rattle.urna_outside.specs.Confined.{AreWithin, IsInRange, count_puts, count_syncs}
+use Rattle.urna_outside.specs.declared.device.Dev.{Dev}
+
+-- A device is a header of 512 bytes and two slots; a slot is a gate byte, 511 bytes of padding and a body of `size` bytes.
+abbrev pub gate_place : ℕ → ℕ → ℕ
+gate_place size index = 512 + index * (512 + size)
+
+abbrev pub padding_place : ℕ → ℕ → ℕ
+padding_place size index = gate_place size index + 1
+
+abbrev pub body_place : ℕ → ℕ → ℕ
+body_place size index = gate_place size index + 512
+
+-- how many bytes the header and two slots take
+abbrev pub room : ℕ → ℕ
+room size = 512 + 2 * (512 + size)
+
+-- a place of the slot's gate, or of its body
+abbrev pub IsGate : ℕ → ℕ → ℕ → Type 0
+IsGate size index k = IsInRange (gate_place size index) 1 k
+
+abbrev pub IsBody : ℕ → ℕ → ℕ → Type 0
+IsBody size index k = IsInRange (body_place size index) size k
+
+-- the gate and the body of a slot in some content
+abbrev pub gate_in : ℕ → ℕ → List ℕ → ℕ
+gate_in size index content = slice_index content (gate_place size index)
+
+abbrev pub body_in : ℕ → ℕ → List ℕ → List ℕ
+body_in size index content = part content (body_place size index) size
+
+-- the gate isn't 0xA5, in every image
+abbrev pub IsGateShut : ℕ → ℕ → Flash → Type 0
+IsGateShut size index flash = (gate : ℕ) × (gate ≢ 0xA5) × Stably flash (gate_place size index) (gate ∷ [])
+
+-- the gate is 0xA5, in every image
+abbrev pub IsGateOpen : ℕ → ℕ → Flash → Type 0
+IsGateOpen size index flash = Stably flash (gate_place size index) (0xA5 ∷ [])
+
+-- these bytes are the slot's body, in every image
+abbrev pub HasBody : ℕ → ℕ → List ℕ → Flash → Type 0
+HasBody size index body flash = Stably flash (body_place size index) body
+
+-- the slot is shut over a whole body, in every image
+pub record IsFilled (size index : ℕ) (flash : Flash) : Type 0 where
+  pub shut : IsGateShut size index flash
+  pub body : List ℕ
+  pub long : length body ≡ size
+  pub stands : HasBody size index body flash
+
+-- at most one write, of these places alone, and one sync of that device
+pub record IsOneWrite (d : Dev) (In : ℕ → Type 0) (ops : List Op) : Type 0 where
+  pub within : AreWithin d In ops
+  pub puts : count_puts ops ≤ 1
+  pub syncs : count_syncs ops ≤ 1
+
+-- the whole steps: an open gate is shut, a body is written, a gate is opened, and each is synced
+abbrev pub shut_ops : ℕ → Dev → ℕ → List Op
+shut_ops size d index = Put d (gate_place size index) (0x5A ∷ []) ∷ Sync d ∷ []
+
+abbrev pub fill_ops : ℕ → Dev → ℕ → List ℕ → List Op
+fill_ops size d index body = Put d (body_place size index) body ∷ Sync d ∷ []
+
+abbrev pub publish_ops : ℕ → Dev → ℕ → List Op
+publish_ops size d index = Put d (gate_place size index) (0xA5 ∷ []) ∷ Sync d ∷ []

@@ -1,0 +1,14 @@
+//! One slot of a flash. A slot is a gate byte and a body, and stands for something only where its gate is open. The
+//! body is never written under an open gate, so no power cut leaves half a body behind one.
+//!
+//! The layer above takes a slot through its states `Shut`, `Filled` and `Live` by `shut`, `fill` and `publish`, and
+//! takes over a slot that is live already by `adopt`. `specs/Slot.antt` says where gate and body stand and what a
+//! state means in every image; `facts_survive` says what such a fact survives. docs/CRASH.md has the flash model.
+#![tactic(auto)]
+
+mod law;
+mod slot;
+mod write;
+
+pub use law::facts_survive;
+pub use slot::{Filled, Live, Shut, Slot, Step, Torn, adopt};

@@ -1,0 +1,174 @@
+-- Bags that are read are those that were written, and what was written is read again
+use Rattle.std.proofs.Common.{◌≡◌, ℕ, zero, suc, ◌+◌, ◌-◌, ◌*◌, ◌^◌, ◌<◌, ◌≤◌, Bool, true, cond, ◌==◌, List, [], ◌∷◌, ◌++◌, length, take, drop, replicate, Option, Some, None, option_map, refl, sym, ap, subst, ◌∙◌, append_assoc, arith}
+use Rattle.std.specs.Option.{option_and_then}
+use Rattle.std.specs.Int.{w32, to_be_bytes}
+use Rattle.std.specs.List.{flat_map, AllByRecursion, list_all}
+use Rattle.std.proofs.lemmas.Bool.{eqb-true, eq-eqb, le-leb, and_parts}
+use Rattle.std.proofs.lemmas.List.{drop-drop, drop_at, take-append-drop, length-drop, length-append}
+use Rattle.std.proofs.lemmas.Nat.{from_be_bytes-to_be_bytes_4}
+use Rattle.std.proofs.lemmas.Option.{cond_some}
+use Rattle.election_tables.specs.TablesData.{TablesData}
+use Rattle.election_tables.specs.declared.tables.panels.Panel.{Panel}
+use Rattle.vote_kinds.specs.declared.choice.Choice.{Choice}
+use Rattle.vote_kinds.specs.declared.choice.Choice.TheVariants as choice
+use Rattle.vote_kinds.specs.Choice.{choice_le}
+use Rattle.vote_kinds.specs.Ballot.{BallotLine, ballot_lines, lines_from, is_choice}
+use Rattle.vote_record.specs.Bag.{IsInOrder}
+use Rattle.image_codec.specs.Valid.{AreFull, HasChoices}
+use Rattle.image_codec.specs.Encoding.{vote_bytes, bag_bytes}
+use Rattle.image_codec.specs.Decoded.{number4_at, votes_in, bag_in, bags_in}
+use Rattle.image_codec.proofs.Ballots.{AreOf, of-panel, choices_below, choices_after}
+use Rattle.image_codec.proofs.ReadVotes.{bytes_drop, bind_some, map_some, test_some, number4_back, HasSmall, votes_take, votes_back}
+use Rattle.image_codec.proofs.WholeBody.{AreBytes}
+use Rattle.image_codec.proofs.Written.{length-bag_bytes}
+
+-- One bag
+
+-- a bag is read from the front of bytes
+pub record TakesBag (line : BallotLine) (n : ℕ) (bytes : List ℕ) (bag : List Choice) : Type 0 where
+  pub text : bytes ≡ bag_bytes bag ++ drop (4 + 5 * n) bytes
+  pub many : length bag ≡ n
+  pub choices : AllByRecursion (λ c. is_choice line c ≡ true) bag
+  pub in_order : IsInOrder bag
+
+pub bag_takes : (line : BallotLine) (n : ℕ) (bytes : List ℕ) (bag : List Choice) → AreBytes bytes → 4 + 5 * n ≤ length bytes → bag_in line n bytes ≡ Some bag → TakesBag line n bytes bag
+unfolding bag_in
+bag_takes line n bytes bag are long e =
+    let t = test_some (number4_at bytes 0 == n) (votes_in line (choice.Nominal 0) n (drop 4 bytes)) bag e in
+    let votes = votes_take line (choice.Nominal 0) n (drop 4 bytes) bag (bytes_drop 4 bytes are) (omega (arith, length-drop 4 bytes)) t.1 in
+    let count : to_be_bytes w32 (length bag) ≡ take 4 bytes =
+    number4_back bytes 0 (length bag) are (omega arith) (votes.many ∙ sym (eqb-true (number4_at bytes 0) n t.0)) in
+    let further : drop (5 * n) (drop 4 bytes) ≡ drop (4 + 5 * n) bytes = drop-drop (5 * n) 4 bytes in
+    record {
+      text = sym (take-append-drop 4 bytes) ∙ ap (λ (f : List ℕ). f ++ drop 4 bytes) (sym count)
+          ∙ ap (λ (r : List ℕ). to_be_bytes w32 (length bag) ++ r) (votes.text ∙ ap (λ (r : List ℕ). flat_map vote_bytes bag ++ r) further)
+          ∙ sym (append_assoc (to_be_bytes w32 (length bag)) (flat_map vote_bytes bag) (drop (4 + 5 * n) bytes));
+      many = votes.many;
+      choices = votes.choices;
+      in_order = votes.in_order;
+    }
+
+-- every choice stands at the lowest or after it
+after_lowest : (bag : List Choice) → AllByRecursion (λ c. choice_le (choice.Nominal 0) c ≡ true) bag
+after_lowest [] = tt
+after_lowest (choice.Nominal n ∷ bag) = (le-leb 0 n (omega arith), after_lowest bag)
+after_lowest (choice.Party n ∷ bag) = (refl, after_lowest bag)
+after_lowest (choice.Blank ∷ bag) = (refl, after_lowest bag)
+after_lowest (choice.Null ∷ bag) = (refl, after_lowest bag)
+
+pub bag_back : (line : BallotLine) (n : ℕ) (bag : List Choice) (rest : List ℕ) → HasSmall line → AllByRecursion (λ c. is_choice line c ≡ true) bag → IsInOrder bag
+    → length bag ≡ n → n < 2 ^ 32 → bag_in line n (bag_bytes bag ++ rest) ≡ Some bag
+unfolding bag_in
+bag_back line n bag rest small choices order many few =
+    let behind : List ℕ = flat_map vote_bytes bag ++ rest in
+    let count : (number4_at (to_be_bytes w32 (length bag) ++ behind) 0 == n) ≡ true =
+    eq-eqb (number4_at (to_be_bytes w32 (length bag) ++ behind) 0) n (from_be_bytes-to_be_bytes_4 (length bag) (omega arith) ∙ many) in
+    ap (bag_in line n) (append_assoc (to_be_bytes w32 (length bag)) (flat_map vote_bytes bag) rest)
+    ∙ ap (λ (b : Bool). cond b (votes_in line (choice.Nominal 0) n behind) None) count
+    ∙ ap (λ (k : ℕ). votes_in line (choice.Nominal 0) k behind) (sym many)
+    ∙ votes_back line (choice.Nominal 0) bag rest small choices (after_lowest bag) order
+
+-- The bags of all lines
+
+-- each bag has choices of its line
+abbrev pub AreVotes : List BallotLine → List (List Choice) → Type 0
+AreVotes [] [] = Unit {0}
+AreVotes [] (bag ∷ bags) = ⊥
+AreVotes (line ∷ lines) [] = ⊥
+AreVotes (line ∷ lines) (bag ∷ bags) = AreOf line bag × AreVotes lines bags
+
+pub record TakesBags (lines : List BallotLine) (n : ℕ) (bytes : List ℕ) (bags : List (List Choice)) : Type 0 where
+  pub text : bytes ≡ flat_map bag_bytes bags ++ replicate (length bytes - length (flat_map bag_bytes bags)) 0
+  pub as_many : length bags ≡ length lines
+  pub full : AreFull n bags
+  pub in_order : AllByRecursion IsInOrder bags
+  pub votes : AreVotes lines bags
+
+zeros_are : (bytes : List ℕ) → list_all (λ b. b == 0) bytes ≡ true → bytes ≡ replicate (length bytes) 0
+zeros_are [] all = refl
+zeros_are (b ∷ bytes) all =
+    let parts = and_parts (b == 0) (list_all (λ c. c == 0) bytes) all in
+    ap (λ (k : ℕ). k ∷ bytes) (eqb-true b 0 parts.0) ∙ ap (λ (r : List ℕ). 0 ∷ r) (zeros_are bytes parts.1)
+
+zeros_pass : (k : ℕ) → list_all (λ b. b == 0) (replicate k 0) ≡ true
+zeros_pass zero = refl
+zeros_pass (suc k) = zeros_pass k
+
+room_behind : (k m n r : ℕ) → suc k * m ≤ n → r ≡ n - m → (m ≤ n) × (k * m ≤ r)
+room_behind k m n r long is = (omega arith, omega arith)
+
+pub bags_take : (lines : List BallotLine) (n : ℕ) (bytes : List ℕ) (bags : List (List Choice)) → AreBytes bytes → length lines * (4 + 5 * n) ≤ length bytes
+    → bags_in lines n bytes ≡ Some bags → TakesBags lines n bytes bags
+unfolding bags_in
+bags_take [] n bytes bags are long e =
+    let t = cond_some (list_all (λ b. b == 0) bytes) [] bags e in
+    subst (λ (x : List (List Choice)). TakesBags [] n bytes x) t.1 (record {
+      text = zeros_are bytes t.0 ∙ ap (λ (k : ℕ). replicate k 0) (omega arith);
+      as_many = refl;
+      full = tt;
+      in_order = tt;
+      votes = tt;
+    })
+bags_take (line ∷ lines) n bytes bags are long e =
+    let size : ℕ = 4 + 5 * n in
+    let room = room_behind (length lines) size (length bytes) (length (drop size bytes)) long (length-drop size bytes) in
+    let a = bind_some (λ bag. option_map (λ bs. bag ∷ bs) (bags_in lines n (drop size bytes))) (bag_in line n bytes) bags e in
+    let b = map_some (λ bs. a.0 ∷ bs) (bags_in lines n (drop size bytes)) bags a.2 in
+    let first = bag_takes line n bytes a.0 are room.0 a.1 in
+    let rest = bags_take lines n (drop size bytes) b.0 (bytes_drop size bytes are) room.1 b.1 in
+    let tail : List ℕ = flat_map bag_bytes b.0 in
+    let zeros : length (drop size bytes) - length tail ≡ length bytes - length (bag_bytes a.0 ++ tail) =
+    omega (arith, length-drop size bytes, length-append (bag_bytes a.0) tail, length-bag_bytes a.0, first.many) in
+    subst (λ (x : List (List Choice)). TakesBags (line ∷ lines) n bytes x) b.2 (record {
+      text = first.text ∙ ap (λ (r : List ℕ). bag_bytes a.0 ++ r) (rest.text ∙ ap (λ (k : ℕ). tail ++ replicate k 0) zeros)
+          ∙ sym (append_assoc (bag_bytes a.0) tail (replicate (length bytes - length (bag_bytes a.0 ++ tail)) 0));
+      as_many = ap suc rest.as_many;
+      full = (first.many, rest.full);
+      in_order = (first.in_order, rest.in_order);
+      votes = (first.choices, rest.votes);
+    })
+
+pub bags_back : (lines : List BallotLine) (n : ℕ) (bags : List (List Choice)) (k : ℕ) → AllByRecursion HasSmall lines → AreVotes lines bags → AllByRecursion IsInOrder bags → AreFull n bags → n < 2 ^ 32
+    → bags_in lines n (flat_map bag_bytes bags ++ replicate k 0) ≡ Some bags
+unfolding bags_in
+bags_back [] n [] k small votes order full few = ap (λ (b : Bool). cond {A = Option (List (List Choice))} b (Some []) None) (zeros_pass k)
+bags_back [] n (bag ∷ bags) k small votes order full few = absurd votes
+bags_back (line ∷ lines) n [] k small votes order full few = absurd votes
+bags_back (line ∷ lines) n (bag ∷ bags) k small votes order full few =
+    let behind : List ℕ = flat_map bag_bytes bags ++ replicate k 0 in
+    let further : drop (4 + 5 * n) (bag_bytes bag ++ behind) ≡ behind = drop_at (bag_bytes bag) behind (4 + 5 * n) (omega (arith, length-bag_bytes bag, full.0)) in
+    ap (bags_in (line ∷ lines) n) (append_assoc (bag_bytes bag) (flat_map bag_bytes bags) (replicate k 0))
+    ∙ ap (λ (o : Option (List Choice)). option_and_then (λ b. option_map (λ bs. b ∷ bs) (bags_in lines n (drop (4 + 5 * n) (bag_bytes bag ++ behind)))) o)
+    (bag_back line n bag behind small.0 votes.0 order.0 full.0 few)
+    ∙ ap (λ (r : List ℕ). option_map (λ bs. bag ∷ bs) (bags_in lines n r)) further
+    ∙ ap (option_map (λ bs. bag ∷ bs)) (bags_back lines n bags k small.1 votes.1 order.1 full.1 few)
+
+-- The lines of the ballot, by their panels
+
+votes_shift : (t : TablesData) (a b : ℕ) (panels : List Panel) (bags : List (List Choice)) → AreVotes (lines_from t a panels) bags → AreVotes (lines_from t b panels) bags
+votes_shift t a b [] [] votes = tt
+votes_shift t a b [] (bag ∷ bags) votes = absurd votes
+votes_shift t a b (p ∷ panels) [] votes = absurd votes
+votes_shift t a b (p ∷ panels) (bag ∷ bags) votes = (of-panel t a b p bag votes.0, votes_shift t (a + 1) (b + 1) panels bags votes.1)
+
+votes_from : (t : TablesData) (panels : List Panel) (bags : List (List Choice)) → length bags ≡ length panels → HasChoices (lines_from t 0 panels) bags → AreVotes (lines_from t 0 panels) bags
+votes_from t [] [] m has = tt
+votes_from t [] (bag ∷ bags) m has = absurd (omega arith)
+votes_from t (p ∷ panels) [] m has = absurd (omega arith)
+votes_from t (p ∷ panels) (bag ∷ bags) m has =
+    (has.0, votes_shift t 0 1 panels bags (votes_from t panels bags (omega arith) (choices_below t 0 panels bag bags has.1)))
+
+choices_of : (t : TablesData) (panels : List Panel) (bags : List (List Choice)) → AreVotes (lines_from t 0 panels) bags → HasChoices (lines_from t 0 panels) bags
+choices_of t [] [] votes = tt
+choices_of t [] (bag ∷ bags) votes = absurd votes
+choices_of t (p ∷ panels) [] votes = absurd votes
+choices_of t (p ∷ panels) (bag ∷ bags) votes =
+    (votes.0, choices_after t 0 panels bag bags (choices_of t panels bags (votes_shift t 1 0 panels bags votes.1)))
+
+pub votes_of_lines : (t : TablesData) (bags : List (List Choice)) → length bags ≡ length t.panels → HasChoices (ballot_lines t) bags → AreVotes (ballot_lines t) bags
+unfolding ballot_lines
+votes_of_lines t bags m has = votes_from t t.panels bags m has
+
+pub choices_of_lines : (t : TablesData) (bags : List (List Choice)) → AreVotes (ballot_lines t) bags → HasChoices (ballot_lines t) bags
+unfolding ballot_lines
+choices_of_lines t bags votes = choices_of t t.panels bags votes

@@ -1,0 +1,14 @@
+use Rattle.image_codec.proofs.OfTables.{of_tables-ready_state, of_tables-opened_at, of_tables-with_ballot, of_tables-sealed_at}
+use Rattle.image_codec.proofs.laws.polls.Goals as goal
+
+pub returns-clause-ready : goal.returns-clause-ready
+returns-clause-ready _ = of_tables-ready_state
+
+pub returns-clause-opening : goal.returns-clause-opening
+returns-clause-opening _ = of_tables-opened_at
+
+pub returns-clause-ballot : goal.returns-clause-ballot
+returns-clause-ballot _ = of_tables-with_ballot
+
+pub returns-clause-sealing : goal.returns-clause-sealing
+returns-clause-sealing _ = of_tables-sealed_at

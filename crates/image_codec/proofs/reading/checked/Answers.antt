@@ -1,0 +1,47 @@
+use Rattle.std.proofs.Common.{◌≡◌, ◌∙◌, sym, ap, ℕ, length, true, option_map, None, Some, arith}
+use Rattle.image_codec.specs.Decoded.{turnout_of, phase_in, is_body}
+use Rattle.image_codec.specs.Head.{head_of}
+use Rattle.image_codec.specs.declared.reading.Head.{Head}
+use Rattle.image_codec.proofs.ReadParts.{few_marked}
+use Rattle.image_codec.proofs.WholeBody.{body_is, decoded_short, decoded_no_phase, decoded_no_bags, decoded_head, same_bags, head_is}
+use Rattle.image_codec.proofs.reading.checked.Goals as goal
+
+pub returns-then-bytes-ne-BODY-clause-head : goal.returns-then-bytes-ne-BODY-clause-head
+returns-then-bytes-ne-BODY-clause-head c =
+    sym (ap (option_map head_of) (decoded_short c.args.tables.now c.args.voters c.args.bytes.now c.if-bytes-ne-BODY.true))
+
+pub returns-in_err-head-clause-head : goal.returns-in_err-head-clause-head
+returns-in_err-head-clause-head c =
+    let body : is_body c.args.bytes.now ≡ true = body_is c.args.bytes.now (λ i. omega (arith, c.type_inv.bytes i)) (omega arith) in
+    let phase : phase_in c.args.voters (length c.args.tables.now.panels) c.args.bytes.now ≡ None =
+    ap (λ (n : ℕ). phase_in c.args.voters n c.args.bytes.now) (sym c.panels-panels.ensures.count) ∙ sym c.in_err-head.ensures.phase in
+    c.from_residual.ensures ∙ sym (ap (option_map head_of) (decoded_no_phase c.args.tables.now c.args.voters c.args.bytes.now body phase))
+
+pub has_bags-requires : goal.has_bags-requires
+has_bags-requires c =
+    let few = few_marked c.args.voters (turnout_of c.args.bytes.now) in
+    omega (arith, c.in_ok-head.ensures.came, c.split_at.ensures.back_len)
+
+pub returns-then-has_bags-clause-head : goal.returns-then-has_bags-clause-head
+returns-then-has_bags-clause-head c =
+    let h : Head = c.in_ok-head.head in
+    let body : is_body c.args.bytes.now ≡ true = body_is c.args.bytes.now (λ i. omega (arith, c.type_inv.bytes i)) (omega arith) in
+    let phase : phase_in c.args.voters (length c.args.tables.now.panels) c.args.bytes.now ≡ Some h.phase =
+    ap (λ (n : ℕ). phase_in c.args.voters n c.args.bytes.now) (sym c.panels-panels.ensures.count) ∙ sym c.in_ok-head.ensures.phase in
+    let bags = same_bags c.args.tables.now c.args.voters h.came c.args.bytes.now c.split_at.result.1.now c.in_ok-head.ensures.came c.split_at.ensures.back in
+    sym (decoded_head c.args.tables.now c.args.voters c.args.bytes.now h.phase body phase (sym bags ∙ sym c.has_bags.ensures ∙ c.if-has_bags.true)
+    ∙ ap (λ (g : Head). Some g) (head_is c.args.voters c.args.bytes.now h c.in_ok-head.ensures.came))
+
+pub returns-else-has_bags-clause-head : goal.returns-else-has_bags-clause-head
+returns-else-has_bags-clause-head c =
+    let h : Head = c.in_ok-head.head in
+    let body : is_body c.args.bytes.now ≡ true = body_is c.args.bytes.now (λ i. omega (arith, c.type_inv.bytes i)) (omega arith) in
+    let phase : phase_in c.args.voters (length c.args.tables.now.panels) c.args.bytes.now ≡ Some h.phase =
+    ap (λ (n : ℕ). phase_in c.args.voters n c.args.bytes.now) (sym c.panels-panels.ensures.count) ∙ sym c.in_ok-head.ensures.phase in
+    let bags = same_bags c.args.tables.now c.args.voters h.came c.args.bytes.now c.split_at.result.1.now c.in_ok-head.ensures.came c.split_at.ensures.back in
+    sym (ap (option_map head_of) (decoded_no_bags c.args.tables.now c.args.voters c.args.bytes.now h.phase body phase (sym bags ∙ sym c.has_bags.ensures ∙ c.if-has_bags.false)))
+
+pub returns-then-has_bags-clause-few : goal.returns-then-has_bags-clause-few
+returns-then-has_bags-clause-few c =
+    let few = few_marked c.args.voters (turnout_of c.args.bytes.now) in
+    omega (arith, c.in_ok-head.ensures.came)

@@ -1,0 +1,56 @@
+-- What is so of all encodings
+use Rattle.std.specs.Prelude.{◌≡◌, ◌≤◌, ℕ, true, ◌↔◌, List, [], ◌∷◌, length, Some, IsPermutation}
+use Rattle.urna_base.specs.Moment.{is_moment}
+use Rattle.election_tables.specs.TablesData.{TablesData, IsTables}
+use Rattle.vote_kinds.specs.declared.choice.Choice.{Choice}
+use Rattle.vote_kinds.specs.Ballot.{BallotLine, ballot_lines}
+use Rattle.image_codec.specs.State.{State, opened_at, with_ballot, sealed_at, MayVote, IsBallot}
+use Rattle.image_codec.specs.Valid.{ready_state, MayClose}
+use Rattle.image_codec.specs.Encoding.{IsStateOf, IsEncoding, encode, written}
+use Rattle.image_codec.specs.Decoded.{decoded}
+
+-- bytes are decoded as a state exactly where they are its encoding
+abbrev pub IsDecodedExactly : Type 0
+IsDecodedExactly = (t : TablesData) (voters : ℕ) (s : State) (bytes : List ℕ) → IsTables t → voters ≤ 600 → (decoded t voters bytes ≡ Some s) ↔ IsEncoding t voters s bytes
+
+-- two states of one encoding are one state
+abbrev pub IsOneState : Type 0
+IsOneState = (t : TablesData) (voters : ℕ) (s u : State) → IsTables t → voters ≤ 600 → IsStateOf t voters s → IsStateOf t voters u → encode s ≡ encode u → s ≡ u
+
+-- what is written of a state has room in a body
+abbrev pub HasRoomInBody : Type 0
+HasRoomInBody = (t : TablesData) (voters : ℕ) (s : State) → IsTables t → voters ≤ 600 → IsStateOf t voters s → length (written s) ≤ 24130
+
+abbrev pub IsBodyLong : Type 0
+IsBodyLong = (t : TablesData) (voters : ℕ) (s : State) → IsTables t → voters ≤ 600 → IsStateOf t voters s → length (encode s) ≡ 65536
+
+-- the state before the poll is one of these tables, and each step leads from such a state to such a state
+
+abbrev pub ReadyIsOfTables : Type 0
+ReadyIsOfTables = (t : TablesData) (voters : ℕ) → IsStateOf t voters (ready_state t voters)
+
+abbrev pub OpeningStaysOfTables : Type 0
+OpeningStaysOfTables = (t : TablesData) (voters : ℕ) (s : State) (m : ℕ) → IsStateOf t voters s → is_moment m ≡ true → IsStateOf t voters (opened_at s m)
+
+abbrev pub BallotStaysOfTables : Type 0
+BallotStaysOfTables = (t : TablesData) (voters : ℕ) (s : State) (place : ℕ) (choices : List Choice) → IsStateOf t voters s → MayVote s place
+    → IsBallot (ballot_lines t) choices → IsStateOf t voters (with_ballot (ballot_lines t) s place choices)
+
+abbrev pub SealingStaysOfTables : Type 0
+SealingStaysOfTables = (t : TablesData) (voters : ℕ) (s : State) (m : ℕ) → IsStateOf t voters s → MayClose s.phase m → is_moment m ≡ true
+    → IsStateOf t voters (sealed_at s m)
+
+-- a voter's place, and the voter's choices
+pub record Ballot : Type 0 where
+  pub place : ℕ
+  pub choices : List Choice
+
+-- these voters came, in this order
+abbrev pub with_ballots : List BallotLine → State → List Ballot → State
+with_ballots lines s [] = s
+with_ballots lines s (b ∷ ballots) = with_ballots lines (with_ballot lines s b.place b.choices) ballots
+
+-- in whatever order the voters came, the encoding is the same
+abbrev pub IsInAnyOrder : Type 0
+IsInAnyOrder = (lines : List BallotLine) (s : State) (ballots others : List Ballot) → IsPermutation ballots others
+    → encode (with_ballots lines s ballots) ≡ encode (with_ballots lines s others)

@@ -1,0 +1,151 @@
+//! Bodies worked out by hand from docs/FORMATS.md.
+ghost use Rattle.std.specs.Prelude.{◌≡◌, ◌+◌, ◌≤◌, length, vec_len, IfOk};
+
+use super::*;
+use election_tables::Tables;
+use std::alloc::Global;
+use std::test::Fail;
+use turnout::Phase;
+use urna_base::Memory;
+use vote_kinds::Choice;
+
+const TABLES: &[u8] = br#"
+processo = 7
+data = 20261004
+turno = 1
+cargo = [{codigo = 11, regra = "absoluta", cadeiras = 1}]
+partido = [
+  {numero = 13, nome = "PA"},
+  {numero = 45, nome = "PB"},
+]
+candidato = [
+  {cargo = 11, numero = 13, nascimento = 19600303, nome = "CARLA"},
+  {cargo = 11, numero = 45, nascimento = 19751212, nome = "DAVI"},
+]
+secao = [{zona = 1, secao = 42, eleitores = 3}]
+"#;
+
+// A sealed poll: version and phase, 20261004080000, 20261004170000, how many came, the first and the third of three voters.
+const SEALED: [u8; 23] = [
+    1, 2, 0, 0, 18, 109, 97, 243, 115, 128, 0, 0, 18, 109, 97, 244, 211, 16, 0, 0, 0, 2, 160,
+];
+
+// One panel: a vote for candidate 45 and a blank one.
+const VOTES: [u8; 15] = [1, 0, 0, 0, 2, 1, 0, 0, 0, 45, 3, 0, 0, 0, 0];
+
+// A body of zeros but for its front and the bytes from the number of panels on.
+fn body_of(alloc: Global, front: &[u8], bags: &[u8]) -> Result<Vec<u8>, Memory>
+    requires front { length front.now ≤ 97 }
+    requires bags { length bags.now ≤ 1000 }
+    ensures { IfOk result (λ body. vec_len body ≡ 65536) }
+{
+    let mut body = vec![in alloc; 0; 65_536]?;
+    body[..front.len()].copy_from_slice(front);
+    body[97..97 + bags.len()].copy_from_slice(bags);
+    Ok(body)
+}
+
+#[test]
+fn a_sealed_poll_is_read_and_written_again(rt: HostRuntime) -> Result<(), Fail> {
+    let tables = Tables::read(rt.alloc(), TABLES)?;
+    assert!(rt; tables.panels() == 1);
+    let body = body_of(rt.alloc(), &SEALED, &VOTES)?;
+    assert_eq!(rt; rank_of(&tables, 3, &body), Some(4));
+    let state = decode(rt.alloc(), &tables, 3, &body)?.ok_or("the body is an encoding")?;
+    let sealed = Phase::Sealed {
+        opened: 20261004080000,
+        closed: 20261004170000,
+    };
+    assert_eq!(rt; state.phase(), sealed);
+    let came = [0, 1, 2].map(|place| state.turnout().came(place));
+    assert_eq!(rt; came.as_slice(), [true, false, true].as_slice());
+    assert_eq!(rt; state.votes().count(0, Choice::Nominal(45)), 1);
+    assert_eq!(rt; state.votes().count(0, Choice::Blank), 1);
+    let mut written = body_of(rt.alloc(), &[255; 97], &[255; 1000])?;
+    encode_into(&state, &tables, &mut written);
+    assert!(rt; written.as_slice() == body.as_slice());
+    Ok(())
+}
+
+#[test]
+fn a_body_with_a_wrong_field_is_no_encoding(rt: HostRuntime) -> Result<(), Fail> {
+    let tables = Tables::read(rt.alloc(), TABLES)?;
+    let wrong: [(usize, &[u8], &str); 14] = [
+        (0, &[2], "version 2"),
+        (1, &[3], "phase 3"),
+        (
+            10,
+            &[0, 0, 18, 109, 97, 246, 11, 144],
+            "closing at 25 hours",
+        ),
+        (
+            10,
+            &[0, 0, 18, 109, 97, 243, 76, 112],
+            "closing at 7 hours, opening at 8",
+        ),
+        (1, &[1], "a closing moment, and polling"),
+        (22, &[176], "the fourth of three voters came too"),
+        (22, &[224], "three are marked, and two came"),
+        (97, &[2], "two panels"),
+        (106, &[46], "a vote for candidate 46"),
+        (102, &[2], "a vote for a party where a mayor is elected"),
+        (
+            102,
+            &[3, 0, 0, 0, 0, 1, 0, 0, 0, 45],
+            "the blank vote before the nominal one",
+        ),
+        (111, &[45], "a blank vote with a number"),
+        (112, &[1], "a byte after the last vote"),
+        (65_535, &[1], "the last byte"),
+    ];
+    for (at, bytes, what) in wrong {
+        assert!(rt; at <= 65_536 && bytes.len() <= 65_536 - at);
+        let refused = is_refused(rt.alloc(), &tables, at, bytes)?;
+        assert!(rt; refused, "{what}");
+    }
+    Ok(())
+}
+
+// Whether the sealed poll is no encoding with these bytes in a place.
+fn is_refused(alloc: Global, tables: &Tables, at: usize, bytes: &[u8]) -> Result<bool, Memory>
+    requires { at + length bytes.now ≤ 65536 }
+{
+    let mut body = body_of(alloc, &SEALED, &VOTES)?;
+    body[at..at + bytes.len()].copy_from_slice(bytes);
+    Ok(rank_of(tables, 3, &body).is_none())
+}
+
+#[test]
+fn the_length_and_the_roll_count_too(rt: HostRuntime) -> Result<(), Fail> {
+    let tables = Tables::read(rt.alloc(), TABLES)?;
+    let mut body = body_of(rt.alloc(), &SEALED, &VOTES)?;
+    assert_eq!(rt; rank_of(&tables, 2, &body), None);
+    assert_eq!(rt; rank_of(&tables, 3, &body), Some(4));
+    assert_eq!(rt; body.pop(), Some(0));
+    assert_eq!(rt; rank_of(&tables, 3, &body), None);
+    Ok(())
+}
+
+#[test]
+fn a_ready_body_has_no_moments(rt: HostRuntime) -> Result<(), Fail> {
+    let tables = Tables::read(rt.alloc(), TABLES)?;
+    let ready = body_of(rt.alloc(), &[1, 0], &[1])?;
+    assert_eq!(rt; rank_of(&tables, 3, &ready), Some(0));
+    let opened = body_of(rt.alloc(), &[1, 0, 0, 0, 18, 109, 97, 243, 115, 128], &[1])?;
+    assert_eq!(rt; rank_of(&tables, 3, &opened), None);
+    Ok(())
+}
+
+#[test]
+fn a_ready_state_takes_on_a_sealed_one(rt: HostRuntime) -> Result<(), Fail> {
+    let tables = Tables::read(rt.alloc(), TABLES)?;
+    let mut state = State::ready(rt.alloc(), &tables, 3)?;
+    let short = state.load(&tables, &SEALED);
+    assert!(rt; !short);
+    assert_eq!(rt; state.rank(), 0);
+    let whole = state.load(&tables, &body_of(rt.alloc(), &SEALED, &VOTES)?);
+    assert!(rt; whole);
+    assert_eq!(rt; state.rank(), 4);
+    assert_eq!(rt; state.turnout().len(), 2);
+    Ok(())
+}

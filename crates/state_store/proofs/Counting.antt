@@ -1,0 +1,210 @@
+-- Steps after steps: their lines, their states, and how many of them a front of the text reaches into.
+use Rattle.std.proofs.Common.{◌≡◌, ◌⊎◌, inl, inr, ℕ, zero, suc, ◌+◌, ◌-◌, ◌<◌, ◌≤◌, Bool, cond, Option, Some, None, IsSome, Contains, List, [], ◌∷◌, ◌++◌, length, slice_get, unwrap_or, option_to_list, refl, sym, ap, subst, ◌∙◌, arith, append_assoc, append-nil, length-append}
+use Rattle.std.proofs.lemmas.Bool.{cases_lt, ne_eqb}
+use Rattle.std.proofs.lemmas.List.{map-append}
+use Rattle.std.proofs.lemmas.List.Elements.{Contains-append_left, Contains-append_right}
+use Rattle.std.specs.List.{AllByRecursion, concat}
+use Rattle.image_codec.specs.State.{State}
+use Rattle.state_store.specs.Played.{IsStateOrNext}
+use Rattle.state_store.specs.Steps.{Step, quiet, telling, lines_in, text_in, commits_in, state_after, commits_reached, AreFull}
+
+-- Steps after steps
+
+pub lines_in-append : (xs ys : List Step) → lines_in (xs ++ ys) ≡ lines_in xs ++ lines_in ys
+lines_in-append xs ys = map-append (λ (step : Step). step.line) xs ys
+
+pub text_in-append : (xs ys : List Step) → text_in (xs ++ ys) ≡ text_in xs ++ text_in ys
+text_in-append [] ys = refl
+text_in-append (x ∷ xs) ys =
+    ap (λ (l : List ℕ). x.line ++ l) (text_in-append xs ys) ∙ sym (append_assoc x.line (text_in xs) (text_in ys))
+
+pub commits_in-append : (xs ys : List Step) → commits_in (xs ++ ys) ≡ commits_in xs ++ commits_in ys
+commits_in-append [] ys = refl
+commits_in-append (x ∷ xs) ys =
+    ap (λ (l : List State). option_to_list x.commit ++ l) (commits_in-append xs ys) ∙ sym (append_assoc (option_to_list x.commit) (commits_in xs) (commits_in ys))
+
+pub state_after-append : (s : State) (xs ys : List Step) → state_after s (xs ++ ys) ≡ state_after (state_after s xs) ys
+state_after-append s [] ys = refl
+state_after-append s (x ∷ xs) ys = state_after-append (unwrap_or x.commit s) xs ys
+
+pub full-append : (xs ys : List Step) → AreFull xs → AreFull ys → AreFull (xs ++ ys)
+full-append [] ys first second = second
+full-append (x ∷ xs) ys first second = (first.0, full-append xs ys first.1 second)
+
+pub full_front : (xs ys : List Step) → AreFull (xs ++ ys) → AreFull xs
+full_front [] ys full = tt
+full_front (x ∷ xs) ys full = (full.0, full_front xs ys full.1)
+
+pub full_back : (xs ys : List Step) → AreFull (xs ++ ys) → AreFull ys
+full_back [] ys full = full
+full_back (x ∷ xs) ys full = full_back xs ys full.1
+
+pub full-quiet : (lines : List (List ℕ)) → AllByRecursion (λ line. 0 < length line) lines → AreFull (quiet lines)
+full-quiet [] full = tt
+full-quiet (line ∷ lines) full = (full.0, full-quiet lines full.1)
+
+-- How many lines that tell a state are reached
+
+pub reached_none : (xs : List Step) → commits_reached xs 0 ≡ 0
+reached_none [] = refl
+reached_none (x ∷ xs) = refl
+
+-- some bytes go past the first line
+reached_more : (x : Step) (xs : List Step) (n : ℕ) → 0 < n → commits_reached (x ∷ xs) n ≡ length (option_to_list x.commit) + commits_reached xs (n - length x.line)
+reached_more x xs n some =
+    ap (λ (b : Bool). cond b 0 (length (option_to_list x.commit) + commits_reached xs (n - length x.line))) (ne_eqb n 0 (λ same. omega arith))
+
+-- as many as in the first steps, where the bytes are a front of their text
+pub reached_before : (xs ys : List Step) (n : ℕ) → n ≤ length (text_in xs) → commits_reached (xs ++ ys) n ≡ commits_reached xs n
+reached_before [] ys n within = let none : n ≡ 0 = omega arith in
+    ap (λ (k : ℕ). commits_reached ys k) none ∙ reached_none ys
+reached_before (x ∷ xs) ys n within = elim (cases_lt 0 n) [
+  | inl some ↦
+      let left_over : n - length x.line ≤ length (text_in xs) = omega (arith, length-append x.line (text_in xs)) in
+      let first = reached_more x (xs ++ ys) n some in
+      let own = reached_more x xs n some in
+      let rest = reached_before xs ys (n - length x.line) left_over in
+      omega (arith, first, own, rest)
+  | inr nothing ↦
+      let none : n ≡ 0 = omega arith in
+      ap (λ (k : ℕ). commits_reached (x ∷ (xs ++ ys)) k) none ∙ sym (ap (λ (k : ℕ). commits_reached (x ∷ xs) k) none)
+]
+
+-- all of the first steps and what is reached of the others, where the bytes are the whole text and more
+pub reached_after : (xs ys : List Step) (more : List ℕ) → AreFull xs → commits_reached (xs ++ ys) (length (text_in xs ++ more)) ≡ length (commits_in xs) + commits_reached ys (length more)
+reached_after [] ys more full = omega arith
+reached_after (x ∷ xs) ys more full =
+    let long : length (x.line ++ text_in xs ++ more) ≡ length x.line + length (text_in xs ++ more) =
+    ap length (append_assoc x.line (text_in xs) more) ∙ length-append x.line (text_in xs ++ more) in
+    let some = full.0 in
+    let left_over : length (x.line ++ text_in xs ++ more) - length x.line ≡ length (text_in xs ++ more) = omega arith in
+    let first = reached_more x (xs ++ ys) (length (x.line ++ text_in xs ++ more)) (omega arith) in
+    let rest = ap (λ (n : ℕ). commits_reached (xs ++ ys) n) left_over ∙ reached_after xs ys more full.1 in
+    omega (arith, first, rest, length-append (option_to_list x.commit) (commits_in xs))
+
+-- The states
+
+next_one : (x : State) (states : List State) (k : ℕ) → slice_get (x ∷ states) (1 + k) ≡ slice_get states k
+next_one x states k = let same : 1 + k ≡ suc k = omega arith in ap (λ (j : ℕ). slice_get (x ∷ states) j) same
+
+-- the states from that after a step on, by their number from the one before it
+first_state : (s : State) (commit : Option State) (states : List State) (k : ℕ)
+    → slice_get (s ∷ (option_to_list commit ++ states)) (length (option_to_list commit) + k) ≡ slice_get (unwrap_or commit s ∷ states) k
+first_state s None states k = let same : 0 + k ≡ k = omega arith in ap (λ (j : ℕ). slice_get (s ∷ states) j) same
+first_state s (Some u) states k = next_one s (u ∷ states) k
+
+-- the same of several steps
+pub states_after : (s : State) (xs : List Step) (states : List State) (k : ℕ) → slice_get (s ∷ (commits_in xs ++ states)) (length (commits_in xs) + k) ≡ slice_get (state_after s xs ∷ states) k
+states_after s [] states k = let same : 0 + k ≡ k = omega arith in ap (λ (j : ℕ). slice_get (s ∷ states) j) same
+states_after s (x ∷ xs) states k =
+    let number : length (option_to_list x.commit ++ commits_in xs) + k ≡ length (option_to_list x.commit) + (length (commits_in xs) + k) =
+    omega (arith, length-append (option_to_list x.commit) (commits_in xs)) in
+    ap (λ (l : List State). slice_get (s ∷ l) (length (option_to_list x.commit ++ commits_in xs) + k)) (append_assoc (option_to_list x.commit) (commits_in xs) states)
+    ∙ ap (λ (j : ℕ). slice_get (s ∷ (option_to_list x.commit ++ (commits_in xs ++ states))) j) number
+    ∙ first_state s x.commit (commits_in xs ++ states) (length (commits_in xs) + k)
+    ∙ states_after (unwrap_or x.commit s) xs states k
+
+-- the state after the steps is the last of them
+pub last_state : (s : State) (xs : List Step) → slice_get (s ∷ commits_in xs) (length (commits_in xs)) ≡ Some (state_after s xs)
+last_state s xs =
+    let number : length (commits_in xs) ≡ length (commits_in xs) + 0 = omega arith in
+    ap (λ (j : ℕ). slice_get (s ∷ commits_in xs) j) number
+    ∙ ap (λ (l : List State). slice_get (s ∷ l) (length (commits_in xs) + 0)) (sym (append-nil (commits_in xs)))
+    ∙ states_after s xs [] 0
+
+pub last_contained : (s : State) (xs : List Step) → Contains (s ∷ commits_in xs) (state_after s xs)
+last_contained s [] = (0, omega arith, refl)
+last_contained s (x ∷ xs) = go x.commit (last_contained (unwrap_or x.commit s) xs)
+  where
+    go : (commit : Option State) → Contains (unwrap_or commit s ∷ commits_in xs) (state_after (unwrap_or commit s) xs) → Contains (s ∷ (option_to_list commit ++ commits_in xs)) (state_after (unwrap_or commit s) xs)
+    go None rest = rest
+    go (Some u) rest = Contains-append_right (s ∷ []) (u ∷ commits_in xs) (state_after u xs) rest
+
+-- more states
+pub contained_before : (s u : State) (xs ys : List Step) → Contains (s ∷ commits_in xs) u → Contains (s ∷ commits_in (xs ++ ys)) u
+contained_before s u xs ys has =
+    subst (λ (l : List State). Contains (s ∷ l) u) (sym (commits_in-append xs ys)) (Contains-append_left (s ∷ commits_in xs) (commits_in ys) u has)
+
+pub contained_after : (s u : State) (xs ys : List Step) → Contains (state_after s xs ∷ commits_in ys) u → Contains (s ∷ commits_in (xs ++ ys)) u
+contained_after s u xs ys (zero, below, is) =
+    contained_before s u xs ys (subst (λ (v : State). Contains (s ∷ commits_in xs) v) is (last_contained s xs))
+contained_after s u xs ys (suc k, below, is) =
+    subst (λ (l : List State). Contains (s ∷ l) u) (sym (commits_in-append xs ys)) (Contains-append_right (s ∷ commits_in xs) (commits_in ys) u (k, omega arith, is))
+
+-- The state of a number, or the next one
+
+get_more : (states more : List State) (k : ℕ) (v : State) → slice_get states k ≡ Some v → slice_get (states ++ more) k ≡ Some v
+get_more [] more k v is = absurd (cc)
+get_more (x ∷ states) more zero v is = is
+get_more (x ∷ states) more (suc k) v is = get_more states more k v is
+
+-- among more states
+pub state_or_next_more : (states more : List State) (c : ℕ) (held : Option State) → IsStateOrNext states c held → IsStateOrNext (states ++ more) c held
+state_or_next_more states more c None is = absurd (cc)
+state_or_next_more states more c (Some v) is = (refl, go is.1)
+  where
+    go : (Some v ≡ slice_get states c) ⊎ (Some v ≡ slice_get states (c + 1)) → (Some v ≡ slice_get (states ++ more) c) ⊎ (Some v ≡ slice_get (states ++ more) (c + 1))
+    go (inl same) = inl (sym (get_more states more c v (sym same)))
+    go (inr same) = inr (sym (get_more states more (c + 1) v (sym same)))
+
+-- among the states of more steps
+pub state_or_next_before : (s : State) (xs ys : List Step) (c : ℕ) (held : Option State) → IsStateOrNext (s ∷ commits_in xs) c held → IsStateOrNext (s ∷ commits_in (xs ++ ys)) c held
+state_or_next_before s xs ys c held is =
+    subst (λ (l : List State). IsStateOrNext (s ∷ l) c held) (sym (commits_in-append xs ys)) (state_or_next_more (s ∷ commits_in xs) (commits_in ys) c held is)
+
+-- by its number from the state before the first steps
+pub state_or_next_after : (s : State) (xs ys : List Step) (c : ℕ) (held : Option State) → IsStateOrNext (state_after s xs ∷ commits_in ys) c held → IsStateOrNext (s ∷ commits_in (xs ++ ys)) (length (commits_in xs) + c) held
+state_or_next_after s xs ys c held is =
+    subst (λ (l : List State). IsStateOrNext (s ∷ l) (length (commits_in xs) + c) held) (sym (commits_in-append xs ys)) (is.0, go is.1)
+  where
+    go : (held ≡ slice_get (state_after s xs ∷ commits_in ys) c) ⊎ (held ≡ slice_get (state_after s xs ∷ commits_in ys) (c + 1))
+        → (held ≡ slice_get (s ∷ (commits_in xs ++ commits_in ys)) (length (commits_in xs) + c)) ⊎ (held ≡ slice_get (s ∷ (commits_in xs ++ commits_in ys)) (length (commits_in xs) + c + 1))
+    go (inl same) = inl (same ∙ sym (states_after s xs (commits_in ys) c))
+    go (inr same) =
+        let number : length (commits_in xs) + (c + 1) ≡ length (commits_in xs) + c + 1 = omega arith in
+        inr (same ∙ sym (states_after s xs (commits_in ys) (c + 1)) ∙ ap (λ (j : ℕ). slice_get (s ∷ (commits_in xs ++ commits_in ys)) j) number)
+
+-- the only state
+pub only_state : (s : State) (c : ℕ) (held : Option State) → IsStateOrNext (s ∷ []) c held → held ≡ Some s
+only_state s c None is = absurd (cc)
+only_state s c (Some v) (some, inl is) = go c (Some v) some is
+  where
+    go : (c : ℕ) (held : Option State) → IsSome held → held ≡ slice_get (s ∷ []) c → held ≡ Some s
+    go zero held some is = is
+    go (suc c) None some is = absurd (cc)
+    go (suc c) (Some v) some is = absurd (cc)
+only_state s c (Some v) (some, inr is) = absurd (past is)
+  where
+    past : Some v ≡ slice_get (s ∷ []) (c + 1) → ⊥
+    past is = let same : c + 1 ≡ suc c = omega arith in let none : Some v ≡ None = is ∙ ap (λ (j : ℕ). slice_get (s ∷ []) j) same in cc
+
+-- Lines that tell no state
+
+pub lines_in-quiet : (lines : List (List ℕ)) → lines_in (quiet lines) ≡ lines
+lines_in-quiet [] = refl
+lines_in-quiet (line ∷ lines) = ap (λ (l : List (List ℕ)). line ∷ l) (lines_in-quiet lines)
+
+pub text_in-quiet : (lines : List (List ℕ)) → text_in (quiet lines) ≡ concat lines
+text_in-quiet lines = ap concat (lines_in-quiet lines)
+
+pub commits_in-quiet : (lines : List (List ℕ)) → commits_in (quiet lines) ≡ []
+commits_in-quiet [] = refl
+commits_in-quiet (line ∷ lines) = commits_in-quiet lines
+
+pub state_after-quiet : (s : State) (lines : List (List ℕ)) → state_after s (quiet lines) ≡ s
+state_after-quiet s [] = refl
+state_after-quiet s (line ∷ lines) = state_after-quiet s lines
+
+pub reached-quiet : (lines : List (List ℕ)) (n : ℕ) → commits_reached (quiet lines) n ≡ 0
+reached-quiet [] n = refl
+reached-quiet (line ∷ lines) n = elim (cases_lt 0 n) [
+  | inl some ↦
+      let first = reached_more (record { line = line; commit = None }) (quiet lines) n some in
+      omega (arith, first, reached-quiet lines (n - length line))
+  | inr nothing ↦ let none : n ≡ 0 = omega arith in ap (λ (k : ℕ). commits_reached (quiet (line ∷ lines)) k) none
+]
+
+-- One line that tells a state
+
+pub reached-telling : (u : State) (line : List ℕ) (n : ℕ) → 0 < n → commits_reached (telling u line) n ≡ 1
+reached-telling u line n some = omega (arith, reached_more (record { line = line; commit = Some u }) [] n some)

@@ -1,0 +1,526 @@
+-- Steps that are put out over a store, some after others.
+use Rattle.std.proofs.Common.{◌≡◌, inl, inr, ℕ, ◌+◌, ◌<◌, ◌≤◌, Option, Some, IsSome, Result, Ok, Err, IsErr, List, [], ◌∷◌, ◌++◌, length, slice_get, is_some, refl, sym, ap, subst, ◌∙◌, arith, append_assoc, length-append}
+use Rattle.std.proofs.lemmas.Bool.{cases_lt}
+use Rattle.std.proofs.lemmas.List.{map-append}
+use Rattle.std.specs.List.{concat}
+use Rattle.std.specs.Option.{ForSome}
+use Rattle.urna_outside.specs.Faults.{EndsAt, IsFaultless}
+use Rattle.urna_outside.specs.Flash.{Op, Show, Flashes, flash_of, after, shown_by}
+use Rattle.urna_outside.specs.ShownLines.{shows, HasShown, IsCutOff, IsCutShort}
+use Rattle.urna_outside.specs.Shows.{ShowsFront}
+use Rattle.urna_outside.specs.Stop.{Left, AtEachStop}
+use Rattle.urna_outside.specs.Told.{Told, Does, Runs, port_of}
+use Rattle.urna_outside.specs.declared.device.Dev.{Dev}
+use Rattle.urna_outside.specs.declared.device.Dev.TheVariants.{Internal, External}
+use Rattle.urna_outside.specs.declared.device.Port.{Port}
+use Rattle.urna_outside.specs.declared.device.Port.TheVariants as port
+use Rattle.urna_outside.proofs.Courses.{in_shows, stops_silent}
+use Rattle.urna_outside.proofs.Doing.{does-append, does_nothing, told_after}
+use Rattle.urna_outside.proofs.Faults.{ends_later, faultless_none, faultless_trans}
+use Rattle.urna_outside.proofs.Runs.{syncs-append}
+use Rattle.urna_outside.proofs.Showing.{shows_keep}
+use Rattle.urna_outside.proofs.ShowingLines.{cut_front, shows_lines}
+use Rattle.urna_outside.proofs.Stops.{stops-append, stops-append_silent, stops_both}
+use Rattle.twin_image.specs.Slots.{KeepsFrame}
+use Rattle.twin_image.specs.Twin.{IsOfTwin}
+use Rattle.election_tables.specs.Roll.{RollData}
+use Rattle.election_tables.specs.TablesData.{TablesData}
+use Rattle.image_codec.specs.State.{State}
+use Rattle.state_store.specs.Calls.{Commits, HoldEither, IsEither, KeepFrames, Recovers, both_synced}
+use Rattle.state_store.specs.Held.{held_alone, held_by_both}
+use Rattle.state_store.specs.Played.{Follows, HasPut, HasStopped, IsCutAt, IsSafe, IsStateOrNext, Plays, Puts, Survives, shows_in}
+use Rattle.state_store.specs.Rest.{AreAtRest, body_size}
+use Rattle.state_store.specs.Steps.{AreFull, Step, commits_in, commits_reached, lines_in, quiet, state_after, telling, text_in}
+use Rattle.state_store.specs.declared.load.Load.{Load}
+use Rattle.state_store.proofs.Counting.{commits_in-append, commits_in-quiet, contained_after, contained_before, lines_in-append, lines_in-quiet, only_state, reached-quiet, reached-telling, reached_after, reached_before, state_after-append, state_after-quiet, state_or_next_after, state_or_next_before, text_in-append, text_in-quiet}
+use Rattle.state_store.proofs.Resting.{IsStored, frames_at_end, frames_same, frames_text, frames_trans, rest_holds}
+use Rattle.state_store.proofs.ShowStops.{front_of_text, session-append, session_shows, session_slots, shows_in-append, shows_in_shows, shows_in_silent, stops_of_shows, syncs_shows, text_of_lines}
+
+-- what is left at a stop of the steps
+abbrev Leaves : TablesData → Load → State → List Step → Flashes → Left → Type 0
+Leaves t load s steps start left = Follows t load.section.voters s steps left × KeepFrames start left
+
+-- Lines that tell no state
+
+quiet_state : (s : State) (lines : List (List ℕ)) (n : ℕ) (held : Option State) → IsEither s s held → IsStateOrNext (s ∷ commits_in (quiet lines)) (commits_reached (quiet lines) n) held
+quiet_state s lines n held (inl is) = (ap is_some is, inl (is ∙ ap (λ (k : ℕ). slice_get (s ∷ commits_in (quiet lines)) k) (sym (reached-quiet lines n))))
+quiet_state s lines n held (inr is) = (ap is_some is, inl (is ∙ ap (λ (k : ℕ). slice_get (s ∷ commits_in (quiet lines)) k) (sym (reached-quiet lines n))))
+
+-- shows of a front of their text, from flashes at rest on
+plays_quiet : (t : TablesData) (load : Load) (s : State) (lines : List (List ℕ)) (start : Option Flashes) (ops : List Op) → IsStored t load s → ForSome start (AreAtRest load s) → ShowsFront (concat lines) ops → Plays t load s (quiet lines) start ops
+plays_quiet t load s lines start ops stored rest part =
+    record {
+      slots = session_shows ops part.shows;
+      syncs = omega (arith, syncs_shows ops part.shows);
+      idle = λ none. sym (shows_in_shows ops part.shows);
+      stops = λ flashes told.
+          let resting = rest flashes told in
+          stops_of_shows flashes ops (Leaves t load s (quiet lines) flashes) part.shows (λ left internal external more split.
+          let holds = rest_holds t load s flashes left stored resting internal external in (
+            record {
+              rest = more ++ part.back;
+              front = text_in-quiet lines ∙ part.front ∙ ap (λ (l : List ℕ). l ++ part.back) split ∙ append_assoc left.shown more part.back;
+              both = quiet_state s lines (length left.shown) (held_by_both t load.section.voters left.internal left.external) holds.both;
+              internal = quiet_state s lines (length left.shown) (held_alone t load.section.voters left.internal) holds.internal;
+              external = quiet_state s lines (length left.shown) (held_alone t load.section.voters left.external) holds.external;
+            },
+            frames_same flashes left resting.clean internal external,
+          ));
+    }
+
+-- no step
+pub put_nothing : (t : TablesData) (load : Load) (s : State) (a : Told) → IsStored t load s → ForSome a.flashes (AreAtRest load s) → HasPut t load s [] a a
+put_nothing t load s a stored rest =
+    record {
+      ops = [];
+      does = does_nothing a;
+      plays = plays_quiet t load s [] a.flashes [] stored rest (record { shows = tt; back = []; front = refl });
+      shown = refl;
+      rest = rest;
+      fine = faultless_none a;
+    }
+
+-- lines that were shown
+pub put_shown : (t : TablesData) (load : Load) (s : State) (lines : List (List ℕ)) (a b : Told) → IsStored t load s → ForSome a.flashes (AreAtRest load s) → HasShown lines a b → HasPut t load s (quiet lines) a b
+put_shown t load s lines a b stored rest showed =
+    let text = shows_lines lines in
+    let kept = shows_keep (shows lines) a b text.shows showed.does in
+    record {
+      ops = shows lines;
+      does = showed.does;
+      plays = plays_quiet t load s lines a.flashes (shows lines) stored rest (front_of_text (concat lines) (shows lines) text);
+      shown = shows_in_shows (shows lines) text.shows ∙ ap shows (sym (lines_in-quiet lines));
+      rest = subst (λ (u : State). ForSome b.flashes (AreAtRest load u)) (sym (state_after-quiet s lines)) (subst (λ (o : Option Flashes). ForSome o (AreAtRest load s)) (sym kept) rest);
+      fine = record { faults = showed.faults; calls = showed.calls };
+    }
+
+-- lines in which the display failed
+pub stopped_shown : (t : TablesData) (load : Load) (s : State) (lines : List (List ℕ)) (a b : Told) → IsStored t load s → ForSome a.flashes (AreAtRest load s) → IsCutOff lines a b → HasStopped t load s (quiet lines) port.Display a b
+stopped_shown t load s lines a b stored rest off =
+    let part = cut_front lines off.ops off.cut in
+    let kept = shows_keep off.ops a b part.shows off.does in
+    record {
+      ops = off.ops;
+      does = off.does;
+      plays = plays_quiet t load s lines a.flashes off.ops stored rest part;
+      cut =
+          subst (λ (l : List (List ℕ)). IsCutShort l (shows_in off.ops)) (sym (lines_in-quiet lines)) (subst (IsCutShort lines) (sym (shows_in_shows off.ops part.shows)) off.cut);
+      rest = λ display. (s, (0, omega arith, refl), subst (λ (o : Option Flashes). ForSome o (AreAtRest load s)) (sym kept) rest);
+      fault = record { faults = off.faults; calls = off.calls };
+    }
+
+-- A line that tells a state
+
+module _ (t : TablesData) (load : Load) (s u : State) (line : List ℕ) where
+  -- while it is committed
+  while_committed : (a : Told) (ops : List Op) → Commits t load.section.voters s u a ops → (start : Flashes) → a.flashes ≡ Some start → AtEachStop start ops (Leaves t load s (telling u line) start)
+  while_committed a ops commits start told =
+      stops_both start ops (λ left. HoldEither t load.section.voters s u left × KeepFrames start left) (λ left. left.shown ≡ []) (Leaves t load s (telling u line) start)
+      (commits.stops start told) (stops_silent (λ d k. IsOfTwin body_size k) start ops commits.slots.within) (λ left holds silent.
+      let none = ap length silent in
+      let number : commits_reached (telling u line) (length left.shown) ≡ 0 = ap (λ (n : ℕ). commits_reached (telling u line) n) none in (
+        record {
+          rest = line ++ [];
+          front = ap (λ (l : List ℕ). l ++ (line ++ [])) (sym silent);
+          both = either (commits_reached (telling u line) (length left.shown)) number (held_by_both t load.section.voters left.internal left.external) holds.0.both;
+          internal = either (commits_reached (telling u line) (length left.shown)) number (held_alone t load.section.voters left.internal) holds.0.internal;
+          external = either (commits_reached (telling u line) (length left.shown)) number (held_alone t load.section.voters left.external) holds.0.external;
+        },
+        holds.1,
+      ))
+    where
+      either : (c : ℕ) → c ≡ 0 → (held : Option State) → IsEither s u held → IsStateOrNext (s ∷ u ∷ []) c held
+      either c none held (inl old) = (ap is_some old, inl (old ∙ ap (λ (k : ℕ). slice_get (s ∷ u ∷ []) k) (sym none)))
+      either c none held (inr new) = (ap is_some new, inr (new ∙ ap (λ (k : ℕ). slice_get (s ∷ u ∷ []) (k + 1)) (sym none)))
+
+  -- the state is kept, and some of the line was shown, or none of it
+  told_state : (n : ℕ) (held : Option State) → IsEither u u held → IsStateOrNext (s ∷ u ∷ []) (commits_reached (telling u line) n) held
+  told_state n held either = elim (cases_lt 0 n) [
+    | inl some ↦ (ap is_some (own either), inl (own either ∙ ap (λ (k : ℕ). slice_get (s ∷ u ∷ []) k) (sym (reached-telling u line n some))))
+    | inr nothing ↦
+        let none : n ≡ 0 = omega arith in
+        (ap is_some (own either), inr (own either ∙ ap (λ (m : ℕ). slice_get (s ∷ u ∷ []) (commits_reached (telling u line) m + 1)) (sym none)))
+  ]
+    where
+      own : IsEither u u held → held ≡ Some u
+      own (inl is) = is
+      own (inr is) = is
+
+  -- a commit that a port cut off
+  plays_commit : (a : Told) (ops : List Op) → Commits t load.section.voters s u a ops → Plays t load s (telling u line) a.flashes ops
+  plays_commit a ops commits =
+      record {
+        slots = session_slots ops commits.slots.within;
+        syncs = commits.slots.syncs;
+        idle = λ none. absurd (cc);
+        stops = while_committed a ops commits;
+      }
+
+  -- a commit, and then shows of a front of the line
+  plays_told : (a b : Told) (xs ys : List Op) → IsStored t load u → Commits t load.section.voters s u a xs → Does xs a b → ForSome b.flashes (AreAtRest load u) → ShowsFront (line ++ []) ys → Plays t load s (telling u line) a.flashes (xs ++ ys)
+  plays_told a b xs ys stored commits does rest part =
+      record {
+        slots = session-append xs ys (session_slots xs commits.slots.within) (session_shows ys part.shows);
+        syncs = omega (arith, commits.slots.syncs, syncs-append xs ys, syncs_shows ys part.shows);
+        idle = λ none. absurd (cc);
+        stops = λ start told.
+            let mid = after xs start in
+            let resting = rest mid (told_after xs a b start does told) in
+            let kept = frames_at_end start start xs (λ done stop left is. (commits.stops start told done stop left is).1) in
+            stops-append_silent start xs ys (Leaves t load s (telling u line) start) (in_shows (λ d k. IsOfTwin body_size k) xs commits.slots.within) (while_committed a xs commits start told)
+            (stops_of_shows mid ys (Leaves t load s (telling u line) start) part.shows (λ left internal external more split.
+            let holds = rest_holds t load u mid left stored resting internal external in (
+              record {
+                rest = more ++ part.back;
+                front = part.front ∙ ap (λ (l : List ℕ). l ++ part.back) split ∙ append_assoc left.shown more part.back;
+                both = told_state (length left.shown) (held_by_both t load.section.voters left.internal left.external) holds.both;
+                internal = told_state (length left.shown) (held_alone t load.section.voters left.internal) holds.internal;
+                external = told_state (length left.shown) (held_alone t load.section.voters left.external) holds.external;
+              },
+              frames_trans start mid left kept (frames_same mid left resting.clean internal external),
+            )));
+      }
+
+  -- the state was committed and its line shown
+  pub put_told : (a b c : Told) → IsStored t load u → Runs (Commits t load.section.voters s u a) a b → IsFaultless a b → ForSome b.flashes (AreAtRest load u) → HasShown (line ∷ []) b c → HasPut t load s (telling u line) a c
+  put_told a b c stored run fine rest showed =
+      let text = shows_lines (line ∷ []) in
+      let kept = shows_keep (Show line ∷ []) b c text.shows showed.does in
+      record {
+        ops = run.0 ++ Show line ∷ [];
+        does = does-append run.0 (Show line ∷ []) a b c run.1 showed.does;
+        plays = plays_told a b run.0 (Show line ∷ []) stored run.2 run.1 rest (front_of_text (line ++ []) (Show line ∷ []) text);
+        shown =
+            shows_in-append run.0 (Show line ∷ []) ∙ ap (λ (l : List Op). l ++ Show line ∷ []) (shows_in_silent (λ d k. IsOfTwin body_size k) run.0 run.2.slots.within);
+        rest = subst (λ (o : Option Flashes). ForSome o (AreAtRest load u)) (sym kept) rest;
+        fine = faultless_trans a b c fine (record { faults = showed.faults; calls = showed.calls });
+      }
+
+  -- the state was committed, and the display failed in its line
+  pub stopped_told : (a b c : Told) → IsStored t load u → Runs (Commits t load.section.voters s u a) a b → IsFaultless a b → ForSome b.flashes (AreAtRest load u) → IsCutOff (line ∷ []) b c → HasStopped t load s (telling u line) port.Display a c
+  stopped_told a b c stored run fine rest off =
+      let part = cut_front (line ∷ []) off.ops off.cut in
+      let kept = shows_keep off.ops b c part.shows off.does in
+      let shown : shows_in (run.0 ++ off.ops) ≡ off.ops =
+      shows_in-append run.0 off.ops ∙ ap (λ (l : List Op). l ++ shows_in off.ops) (shows_in_silent (λ d k. IsOfTwin body_size k) run.0 run.2.slots.within) ∙ shows_in_shows off.ops part.shows in
+      record {
+        ops = run.0 ++ off.ops;
+        does = does-append run.0 off.ops a b c run.1 off.does;
+        plays = plays_told a b run.0 off.ops stored run.2 run.1 rest part;
+        cut = subst (IsCutShort (line ∷ [])) (sym shown) off.cut;
+        rest = λ display. (u, (1, omega arith, refl), subst (λ (o : Option Flashes). ForSome o (AreAtRest load u)) (sym kept) rest);
+        fault = ends_later port.Display a b c fine (record { faults = off.faults; calls = off.calls });
+      }
+
+  cut_in_commit : (d : Dev) (ops : List Op) → shows_in ops ≡ [] → IsCutAt (port_of d) (telling u line) (shows_in ops)
+  cut_in_commit Internal ops silent = ([], record { line = line; commit = Some u }, [], refl, refl, silent)
+  cut_in_commit External ops silent = ([], record { line = line; commit = Some u }, [], refl, refl, silent)
+
+  no_display : (d : Dev) → port_of d ≡ port.Display → ⊥
+  no_display Internal same = cc
+  no_display External same = cc
+
+  -- a flash failed in the commit
+  pub stopped_commit : (d : Dev) (a b : Told) → Runs (Commits t load.section.voters s u a) a b → EndsAt (port_of d) a b → HasStopped t load s (telling u line) (port_of d) a b
+  stopped_commit d a b run fault =
+      record {
+        ops = run.0;
+        does = run.1;
+        plays = plays_commit a run.0 run.2;
+        cut = cut_in_commit d run.0 (shows_in_silent (λ x k. IsOfTwin body_size k) run.0 run.2.slots.within);
+        rest = λ display. absurd (no_display d display);
+        fault = fault;
+      }
+
+-- Steps after steps
+
+-- what follows the first steps follows all
+pub follows_before : (t : TablesData) (voters : ℕ) (s : State) (xs ys : List Step) (left : Left) → Follows t voters s xs left → Follows t voters s (xs ++ ys) left
+follows_before t voters s xs ys left follows =
+    record {
+      rest = follows.rest ++ text_in ys;
+      front = text_in-append xs ys ∙ ap (λ (l : List ℕ). l ++ text_in ys) follows.front ∙ append_assoc left.shown follows.rest (text_in ys);
+      both = each (held_by_both t voters left.internal left.external) follows.both;
+      internal = each (held_alone t voters left.internal) follows.internal;
+      external = each (held_alone t voters left.external) follows.external;
+    }
+  where
+    within : length left.shown ≤ length (text_in xs)
+    within = let fits = ap length follows.front in omega (arith, fits, length-append left.shown follows.rest)
+
+    each : (held : Option State) → IsStateOrNext (s ∷ commits_in xs) (commits_reached xs (length left.shown)) held → IsStateOrNext (s ∷ commits_in (xs ++ ys)) (commits_reached (xs ++ ys) (length left.shown)) held
+    each held is =
+        subst (λ (n : ℕ). IsStateOrNext (s ∷ commits_in (xs ++ ys)) n held) (sym (reached_before xs ys (length left.shown) within)) (state_or_next_before s xs ys (commits_reached xs (length left.shown)) held is)
+
+-- and what follows the steps behind them, once their text was shown
+pub follows_after : (t : TablesData) (voters : ℕ) (s : State) (xs ys : List Step) (left : Left) → AreFull xs → Follows t voters (state_after s xs) ys left → Follows t voters s (xs ++ ys) (record left { shown = text_in xs ++ left.shown })
+follows_after t voters s xs ys left full follows =
+    record {
+      rest = follows.rest;
+      front = text_in-append xs ys ∙ ap (λ (l : List ℕ). text_in xs ++ l) follows.front ∙ sym (append_assoc (text_in xs) left.shown follows.rest);
+      both = each (held_by_both t voters left.internal left.external) follows.both;
+      internal = each (held_alone t voters left.internal) follows.internal;
+      external = each (held_alone t voters left.external) follows.external;
+    }
+  where
+    each : (held : Option State) → IsStateOrNext (state_after s xs ∷ commits_in ys) (commits_reached ys (length left.shown)) held → IsStateOrNext (s ∷ commits_in (xs ++ ys)) (commits_reached (xs ++ ys) (length (text_in xs ++ left.shown))) held
+    each held is =
+        subst (λ (n : ℕ). IsStateOrNext (s ∷ commits_in (xs ++ ys)) n held) (sym (reached_after xs ys left.shown full)) (state_or_next_after s xs ys (commits_reached ys (length left.shown)) held is)
+
+-- no state is told by either, where none is told by both
+no_commits : (xs ys : List Step) → commits_in (xs ++ ys) ≡ [] → (commits_in xs ≡ []) × (commits_in ys ≡ [])
+no_commits xs ys none = go (commits_in xs) (commits_in ys) (sym (commits_in-append xs ys) ∙ none)
+  where
+    go : (first second : List State) → first ++ second ≡ [] → (first ≡ []) × (second ≡ [])
+    go [] second same = (refl, same)
+    go (u ∷ first) second same = absurd (cc)
+
+more_commits : (xs ys : List Step) → length (commits_in (xs ++ ys)) ≡ length (commits_in xs) + length (commits_in ys)
+more_commits xs ys = ap length (commits_in-append xs ys) ∙ length-append (commits_in xs) (commits_in ys)
+
+plays_before : (t : TablesData) (load : Load) (s : State) (xs ys : List Step) (start : Option Flashes) (ops : List Op) → Plays t load s xs start ops → Plays t load s (xs ++ ys) start ops
+plays_before t load s xs ys start ops plays =
+    record {
+      slots = plays.slots;
+      syncs = omega (arith, plays.syncs, more_commits xs ys);
+      idle = λ none. plays.idle (no_commits xs ys none).0;
+      stops = λ flashes told done stop left is.
+          let holds = plays.stops flashes told done stop left is in
+          (follows_before t load.section.voters s xs ys left holds.0, holds.1);
+    }
+
+-- the first steps were put out, and the operations behind play those behind them
+plays-append : (t : TablesData) (load : Load) (s : State) (xs ys : List Step) (a b : Told) (first second : List Op) → AreFull xs → Plays t load s xs a.flashes first → shows_in first ≡ shows (lines_in xs) → Does first a b
+    → Plays t load (state_after s xs) ys b.flashes second → Plays t load s (xs ++ ys) a.flashes (first ++ second)
+plays-append t load s xs ys a b first second full plays shown does later =
+    record {
+      slots = session-append first second plays.slots later.slots;
+      syncs = omega (arith, plays.syncs, later.syncs, more_commits xs ys, syncs-append first second);
+      idle = λ none.
+          let each = no_commits xs ys none in
+          ap (λ (l : List Op). l ++ second) (plays.idle each.0) ∙ ap (λ (l : List Op). shows_in first ++ l) (later.idle each.1) ∙ sym (shows_in-append first second);
+      stops = λ start told.
+          let mid = after first start in
+          let text : shown_by first ≡ text_in xs = text_of_lines first (lines_in xs) shown in
+          let kept = frames_at_end start start first (λ done stop left is. (plays.stops start told done stop left is).1) in
+          stops-append start first second (Leaves t load s (xs ++ ys) start)
+          (λ done stop left is.
+          let holds = plays.stops start told done stop left is in
+          (follows_before t load.section.voters s xs ys left holds.0, holds.1))
+          (λ done stop left is.
+          let holds = later.stops mid (told_after first a b start does told) done stop left is in
+          (subst (λ (l : List ℕ). Follows t load.section.voters s (xs ++ ys) (record left { shown = l ++ left.shown })) (sym text) (follows_after t load.section.voters s xs ys left full holds.0), frames_text start left (shown_by first ++ left.shown) (frames_trans start mid left kept holds.1)));
+    }
+
+shows-append : (xs ys : List (List ℕ)) → shows (xs ++ ys) ≡ shows xs ++ shows ys
+shows-append xs ys = map-append (λ (line : List ℕ). Show line) xs ys
+
+shows_of_steps : (xs ys : List Step) → shows (lines_in (xs ++ ys)) ≡ shows (lines_in xs) ++ shows (lines_in ys)
+shows_of_steps xs ys = ap shows (lines_in-append xs ys) ∙ shows-append (lines_in xs) (lines_in ys)
+
+pub put-append : (t : TablesData) (load : Load) (s : State) (xs ys : List Step) (a b c : Told) → AreFull xs → HasPut t load s xs a b → HasPut t load (state_after s xs) ys b c → HasPut t load s (xs ++ ys) a c
+put-append t load s xs ys a b c full first second =
+    record {
+      ops = first.ops ++ second.ops;
+      does = does-append first.ops second.ops a b c first.does second.does;
+      plays = plays-append t load s xs ys a b first.ops second.ops full first.plays first.shown first.does second.plays;
+      shown =
+          shows_in-append first.ops second.ops ∙ ap (λ (l : List Op). l ++ shows_in second.ops) first.shown
+          ∙ ap (λ (l : List Op). shows (lines_in xs) ++ l) second.shown ∙ sym (shows_of_steps xs ys);
+      rest = subst (λ (u : State). ForSome c.flashes (AreAtRest load u)) (sym (state_after-append s xs ys)) second.rest;
+      fine = faultless_trans a b c first.fine second.fine;
+    }
+
+-- a cut in the first steps is one in all
+cut_longer : (xs ys : List (List ℕ)) (ops : List Op) → IsCutShort xs ops → IsCutShort (xs ++ ys) ops
+cut_longer [] ys ops cut = absurd cut
+cut_longer (x ∷ xs) ys ops (inl torn) = inl torn
+cut_longer (x ∷ xs) ys ops (inr more) = inr (more.0, more.1, cut_longer xs ys more.0 more.2)
+
+cut_later : (xs ys : List (List ℕ)) (ops : List Op) → IsCutShort ys ops → IsCutShort (xs ++ ys) (shows xs ++ ops)
+cut_later [] ys ops cut = cut
+cut_later (x ∷ xs) ys ops cut = inr (shows xs ++ ops, refl, cut_later xs ys ops cut)
+
+-- the cut of a commit
+abbrev IsInCommit : List Step → List Op → Type 0
+IsInCommit steps shown =
+    (before : List Step) × (step : Step) × (behind : List Step) × (steps ≡ before ++ step ∷ behind) × IsSome step.commit × (shown ≡ shows (lines_in before))
+
+commit_before : (xs ys : List Step) (ops : List Op) → IsInCommit xs ops → IsInCommit (xs ++ ys) ops
+commit_before xs ys ops (before, step, behind, split, some, shown) =
+    (before, step, behind ++ ys, ap (λ (l : List Step). l ++ ys) split ∙ append_assoc before (step ∷ behind) ys, some, shown)
+
+commit_after : (xs ys : List Step) (ops : List Op) → IsInCommit ys ops → IsInCommit (xs ++ ys) (shows (lines_in xs) ++ ops)
+commit_after xs ys ops (before, step, behind, split, some, shown) = (
+  xs ++ before,
+  step,
+  behind,
+  ap (λ (l : List Step). xs ++ l) split ∙ sym (append_assoc xs before (step ∷ behind)),
+  some,
+  ap (λ (l : List Op). shows (lines_in xs) ++ l) shown ∙ sym (shows_of_steps xs before),
+)
+
+cut_at_before : (p : Port) (xs ys : List Step) (ops : List Op) → IsCutAt p xs ops → IsCutAt p (xs ++ ys) ops
+cut_at_before port.Internal xs ys ops cut = commit_before xs ys ops cut
+cut_at_before port.External xs ys ops cut = commit_before xs ys ops cut
+cut_at_before port.Display xs ys ops cut =
+    subst (λ (l : List (List ℕ)). IsCutShort l ops) (sym (lines_in-append xs ys)) (cut_longer (lines_in xs) (lines_in ys) ops cut)
+
+cut_at_after : (p : Port) (xs ys : List Step) (ops : List Op) → IsCutAt p ys ops → IsCutAt p (xs ++ ys) (shows (lines_in xs) ++ ops)
+cut_at_after port.Internal xs ys ops cut = commit_after xs ys ops cut
+cut_at_after port.External xs ys ops cut = commit_after xs ys ops cut
+cut_at_after port.Display xs ys ops cut =
+    subst (λ (l : List (List ℕ)). IsCutShort l (shows (lines_in xs) ++ ops)) (sym (lines_in-append xs ys)) (cut_later (lines_in xs) (lines_in ys) ops cut)
+
+-- a stop in the first steps
+pub stopped_before : (t : TablesData) (load : Load) (s : State) (xs ys : List Step) (p : Port) (a b : Told) → HasStopped t load s xs p a b → HasStopped t load s (xs ++ ys) p a b
+stopped_before t load s xs ys p a b stopped =
+    record {
+      ops = stopped.ops;
+      does = stopped.does;
+      plays = plays_before t load s xs ys a.flashes stopped.ops stopped.plays;
+      cut = cut_at_before p xs ys (shows_in stopped.ops) stopped.cut;
+      rest = λ display. let kept = stopped.rest display in (kept.0, contained_before s kept.0 xs ys kept.1, kept.2);
+      fault = stopped.fault;
+    }
+
+-- a stop in the steps behind them
+pub stopped_after : (t : TablesData) (load : Load) (s : State) (xs ys : List Step) (p : Port) (a b c : Told) → AreFull xs → HasPut t load s xs a b → HasStopped t load (state_after s xs) ys p b c → HasStopped t load s (xs ++ ys) p a c
+stopped_after t load s xs ys p a b c full first stopped =
+    let shown : shows_in (first.ops ++ stopped.ops) ≡ shows (lines_in xs) ++ shows_in stopped.ops =
+    shows_in-append first.ops stopped.ops ∙ ap (λ (l : List Op). l ++ shows_in stopped.ops) first.shown in
+    record {
+      ops = first.ops ++ stopped.ops;
+      does = does-append first.ops stopped.ops a b c first.does stopped.does;
+      plays = plays-append t load s xs ys a b first.ops stopped.ops full first.plays first.shown first.does stopped.plays;
+      cut = subst (IsCutAt p (xs ++ ys)) (sym shown) (cut_at_after p xs ys (shows_in stopped.ops) stopped.cut);
+      rest = λ display. let kept = stopped.rest display in (kept.0, contained_after s kept.0 xs ys kept.1, kept.2);
+      fault = ends_later p a b c first.fine stopped.fault;
+    }
+
+-- steps behind others, which may be stopped
+pub puts-append : {T E : Type 0} (port_in : E → Port) (result : Result T E) (t : TablesData) (load : Load) (s : State) (xs ys : List Step) (a b c : Told) → AreFull xs → HasPut t load s xs a b → Puts port_in result t load (state_after s xs) ys b c → Puts port_in result t load s (xs ++ ys) a c
+puts-append port_in (Ok x) t load s xs ys a b c full first second = put-append t load s xs ys a b c full first second
+puts-append port_in (Err e) t load s xs ys a b c full first second = stopped_after t load s xs ys (port_in e) a b c full first second
+
+-- where the call answers a fault
+pub puts_err : {T E : Type 0} (port_in : E → Port) (result : Result T E) (t : TablesData) (load : Load) (s : State) (steps : List Step) (a b : Told) → IsErr result → ((e : E) → result ≡ Err e → HasStopped t load s steps (port_in e) a b) → Puts port_in result t load s steps a b
+puts_err port_in (Ok x) t load s steps a b err stopped = absurd (cc)
+puts_err port_in (Err e) t load s steps a b err stopped = stopped e refl
+
+-- steps behind others, by what all steps come to
+pub put_to : (t : TablesData) (load : Load) (s : State) (front step all : List Step) (a b c : Told) → all ≡ front ++ step → AreFull front → HasPut t load s front a b → HasPut t load (state_after s front) step b c → HasPut t load s all a c
+put_to t load s front step all a b c e full first second =
+    subst (λ (steps : List Step). HasPut t load s steps a c) (sym e) (put-append t load s front step a b c full first second)
+
+-- a stop in the middle of all steps
+pub stopped_within : (t : TablesData) (load : Load) (s : State) (front step rest all : List Step) (p : Port) (a b c : Told) → all ≡ (front ++ step) ++ rest → AreFull front → HasPut t load s front a b → HasStopped t load (state_after s front) step p b c → HasStopped t load s all p a c
+stopped_within t load s front step rest all p a b c e full first second =
+    subst (λ (steps : List Step). HasStopped t load s steps p a c) (sym e) (stopped_before t load s (front ++ step) rest p a c (stopped_after t load s front step p a b c full first second))
+
+-- A whole call: a recovery, opening lines that tell no state, and steps behind them
+
+-- what survives the first steps survives all
+pub survives_more : (t : TablesData) (load : Load) (s : State) (xs ys : List Step) (start : Flashes) (left : Left) → Survives t load s xs start left → Survives t load s (xs ++ ys) start left
+survives_more t load s xs ys start left (before, behind, kept) =
+    (before, λ begun. follows_before t load.section.voters s xs ys left (behind begun), kept)
+
+-- what was played
+pub put_plays : (t : TablesData) (load : Load) (s : State) (steps : List Step) (a b : Told) → HasPut t load s steps a b → Runs (Plays t load s steps a.flashes) a b
+put_plays t load s steps a b put = (put.ops, put.does, put.plays)
+
+pub stopped_plays : (t : TablesData) (load : Load) (s : State) (steps : List Step) (p : Port) (a b : Told) → HasStopped t load s steps p a b → Runs (Plays t load s steps a.flashes) a b
+stopped_plays t load s steps p a b stopped = (stopped.ops, stopped.does, stopped.plays)
+
+module _ (t : TablesData) (r : RollData) (load : Load) (s : State) (line : List ℕ) (lines : List (List ℕ)) where
+  abbrev opening : List Step
+  opening = quiet (line ∷ lines)
+
+  -- while the flashes are recovered
+  while_recovered : (a : Told) (xs : List Op) (steps : List Step) → Recovers t r load.section s a xs → (start : Flashes) → a.flashes ≡ Some start → AtEachStop (after both_synced start) xs (Survives t load s steps start)
+  while_recovered a xs steps recovers start told =
+      let there = recovers.stops start told in
+      stops_both (after both_synced start) xs (λ left. (held_by_both t (length r.titles) left.internal left.external ≡ Some s) × KeepFrames start left) (λ left. left.shown ≡ []) (Survives t load s steps start)
+      there.1 (stops_silent (λ d k. IsOfTwin body_size k) (after both_synced start) xs recovers.slots.within) (λ left holds silent. (
+        λ none. ap (λ (voters : ℕ). held_by_both t voters left.internal left.external) there.0.loaded.section_fits.voters ∙ holds.0,
+        λ begun. absurd (omega (arith, ap length silent)),
+        holds.1,
+      ))
+
+  -- what the opening lines leave
+  opening_holds : (left : Left) → Follows t load.section.voters s opening left → held_by_both t load.section.voters left.internal left.external ≡ Some s
+  opening_holds left follows =
+      let reached = commits_reached opening (length left.shown) in
+      let held = held_by_both t load.section.voters left.internal left.external in
+      only_state s reached held (subst (λ (l : List State). IsStateOrNext (s ∷ l) reached held) (commits_in-quiet (line ∷ lines)) follows.both)
+
+  -- while they are shown, behind whatever kept the frames
+  while_opened : (b : Told) (ops : List Op) (start mid : Flashes) → Plays t load s opening b.flashes ops → b.flashes ≡ Some mid
+      → ((d : Dev) → KeepsFrame body_size (flash_of d start).content (flash_of d mid).content) → AtEachStop mid ops (Survives t load s opening start)
+  while_opened b ops start mid plays told kept done stop left is =
+      let holds = plays.stops mid told done stop left is in
+      (λ none. opening_holds left holds.0, λ begun. holds.0, frames_trans start mid left kept holds.1)
+
+  -- and while the steps behind them are put out
+  while_played : (left : Left) (steps : List Step) (text : List ℕ) → AreFull opening → text ≡ text_in opening → Follows t load.section.voters s steps left → (start : Flashes) → KeepFrames start left
+      → Survives t load s (opening ++ steps) start (record left { shown = text ++ left.shown })
+  while_played left steps text full same follows start keeps =
+      let now = subst (λ (u : State). Follows t load.section.voters u steps left) (sym (state_after-quiet s (line ∷ lines))) follows in
+      let some : 0 < length line = full.0 in (
+        λ none. absurd (omega (arith, some, ap length same, ap length none, length-append line (text_in (quiet lines)), length-append text left.shown)),
+        λ begun. subst (λ (l : List ℕ). Follows t load.section.voters s (opening ++ steps) (record left { shown = l ++ left.shown })) (sym same) (follows_after t load.section.voters s opening steps left full now),
+        frames_text start left (text ++ left.shown) keeps,
+      )
+
+  -- The stops of a recovery and of the opening lines.
+  pub opening_stops : (a b : Told) (xs ys : List Op) → Recovers t r load.section s a xs → Does (both_synced ++ xs) a b → Plays t load s opening b.flashes ys
+      → (start : Flashes) → a.flashes ≡ Some start → AtEachStop (after both_synced start) (xs ++ ys) (Survives t load s opening start)
+  opening_stops a b xs ys recovers does plays start told =
+      let first = while_recovered a xs opening recovers start told in
+      let kept = frames_at_end start (after both_synced start) xs (λ done stop left is. (first done stop left is).2) in
+      stops-append_silent (after both_synced start) xs ys (Survives t load s opening start) (in_shows (λ d k. IsOfTwin body_size k) xs recovers.slots.within) first
+      (while_opened b ys start (after xs (after both_synced start)) plays (told_after (both_synced ++ xs) a b start does told) kept)
+
+  -- And of the steps behind them.
+  pub whole_stops : (a b c : Told) (xs ys ops : List Op) (steps : List Step) → AreFull opening → Recovers t r load.section s a xs → Does (both_synced ++ xs) a b
+      → Plays t load s opening b.flashes ys → shows_in ys ≡ shows (lines_in opening) → Does ys b c → Plays t load s steps c.flashes ops
+      → (start : Flashes) → a.flashes ≡ Some start → AtEachStop (after both_synced start) (xs ++ (ys ++ ops)) (Survives t load s (opening ++ steps) start)
+  whole_stops a b c xs ys ops steps full recovers does plays shown opened later start told =
+      let Whole = Survives t load s (opening ++ steps) start in
+      let mid = after xs (after both_synced start) in
+      let mid_told = told_after (both_synced ++ xs) a b start does told in
+      let first = while_recovered a xs (opening ++ steps) recovers start told in
+      let kept = frames_at_end start (after both_synced start) xs (λ done stop left is. (first done stop left is).2) in
+      let second = while_opened b ys start mid plays mid_told kept in
+      let still = frames_at_end start mid ys (λ done stop left is. (second done stop left is).2) in
+      stops-append_silent (after both_synced start) xs (ys ++ ops) Whole (in_shows (λ d k. IsOfTwin body_size k) xs recovers.slots.within) first
+      (stops-append mid ys ops Whole (λ done stop left is. survives_more t load s opening steps start left (second done stop left is)) (λ done stop left is.
+      let holds = later.stops (after ys mid) (told_after ys b c mid opened mid_told) done stop left is in
+      while_played left steps (shown_by ys) full (text_of_lines ys (lines_in opening) shown) holds.0 start (frames_trans start (after ys mid) left still holds.1)))
+
+  -- A recovery, and the opening lines, all of them or up to a fault.
+  pub opening_call : (a b c : Told) → Runs (λ ops. (rest : List Op) × (ops ≡ both_synced ++ rest) × Recovers t r load.section s a rest) a b → Runs (Plays t load s opening b.flashes) b c
+      → IsSafe t load s opening a c
+  opening_call a b c (all, does, (xs, same, recovers)) (ys, showed, plays) = (
+    all ++ ys,
+    does-append all ys a b c does showed,
+    (
+      xs ++ ys,
+      ap (λ (l : List Op). l ++ ys) same,
+      opening_stops a b xs ys recovers (subst (λ (l : List Op). Does l a b) same does) plays,
+    ),
+  )
+
+  -- A recovery, the opening lines, and the steps behind them, all of them or up to a fault.
+  pub whole_call : (a b c e : Told) (steps : List Step) → AreFull opening → Runs (λ ops. (rest : List Op) × (ops ≡ both_synced ++ rest) × Recovers t r load.section s a rest) a b
+      → HasPut t load s opening b c → Runs (Plays t load s steps c.flashes) c e
+      → IsSafe t load s (opening ++ steps) a e
+  whole_call a b c e steps full (all, does, (xs, same, recovers)) put (ops, played, plays) = (
+    all ++ (put.ops ++ ops),
+    does-append all (put.ops ++ ops) a b e does (does-append put.ops ops b c e put.does played),
+    (
+      xs ++ (put.ops ++ ops),
+      ap (λ (l : List Op). l ++ (put.ops ++ ops)) same,
+      whole_stops a b c xs put.ops ops steps full recovers (subst (λ (l : List Op). Does l a b) same does) put.plays put.shown put.does plays,
+    ),
+  )

@@ -1,0 +1,138 @@
+-- A recovery: two syncs, a look at the flashes, and a heal.
+use Rattle.std.proofs.Common.{◌≡◌, inl, inr, ℕ, Option, Some, None, List, [], ◌++◌, length, option_map, option_and_then, IsSome, refl, sym, ap, subst, ◌∙◌}
+use Rattle.std.specs.Option.{ForSome}
+use Rattle.urna_outside.specs.Faults.{EndsAt, IsFaultless}
+use Rattle.urna_outside.specs.Flash.{Op, Flashes, after}
+use Rattle.urna_outside.specs.Stop.{Left}
+use Rattle.urna_outside.specs.Told.{Told, Does, Runs, port_of}
+use Rattle.urna_outside.specs.declared.device.Dev.{Dev}
+use Rattle.urna_outside.specs.declared.device.Dev.TheVariants.{Internal, External}
+use Rattle.urna_outside.proofs.Doing.{does-append, then_told, told_after}
+use Rattle.urna_outside.proofs.Faults.{ends_later, faultless_trans}
+use Rattle.urna_outside.proofs.Keeping.{synced_clean}
+use Rattle.urna_outside.specs.Told.{AreSized}
+use Rattle.twin_image.specs.Heal.{Heals}
+use Rattle.twin_image.specs.Level.{IsLevel}
+use Rattle.twin_image.specs.Held.{HoldsBody}
+use Rattle.twin_image.specs.Slots.{AreClean}
+use Rattle.election_tables.specs.Roll.{IsRoll, RollData}
+use Rattle.election_tables.specs.TablesData.{IsTables, TablesData}
+use Rattle.election_tables.specs.declared.tables.sections.Section.{Section}
+use Rattle.image_codec.specs.Decoded.{decoded, rank_in}
+use Rattle.image_codec.specs.Encoding.{IsEncoding}
+use Rattle.image_codec.specs.State.{State, rank_of}
+use Rattle.image_codec.proofs.Decoding.{decoded_back}
+use Rattle.state_store.specs.Calls.{FailsToRecover, IsSynced, KeepFrames, Recovers, both_synced}
+use Rattle.state_store.specs.Finding.{EndsFinding}
+use Rattle.state_store.specs.Held.{AreLoaded, IsForeign, held_by_both}
+use Rattle.state_store.specs.Load.{IsSectionOf, load_of}
+use Rattle.state_store.specs.Rest.{AreAtRest, body_size}
+use Rattle.state_store.specs.Store.{AreDevices}
+use Rattle.state_store.specs.declared.store.StoreError.{StoreError}
+use Rattle.state_store.specs.declared.store.StoreError.TheVariants as store
+use Rattle.state_store.proofs.Changing.{rests_after}
+use Rattle.state_store.proofs.Standing.{AreFramed}
+use Rattle.state_store.proofs.Stored.{long_state}
+
+-- after both syncs nothing is dirty
+both_clean : (start : Flashes) → AreClean (after both_synced start)
+both_clean start Internal = synced_clean start.internal
+both_clean start External = synced_clean start.external
+
+pub clean_after : (a b : Told) → Does both_synced a b → ForSome b.flashes AreClean
+clean_after a b does = then_told both_synced a b AreClean does (λ start told. both_clean start)
+
+-- the syncs change no content
+pub told_before : (a b : Told) (P : List ℕ → List ℕ → Type 0) → Does both_synced a b → ForSome b.flashes (λ fs. P fs.internal.content fs.external.content) → ForSome a.flashes (λ fs. P fs.internal.content fs.external.content)
+told_before a b P does holds start told = holds (after both_synced start) (told_after both_synced a b start does told)
+
+-- finding no poll behind the syncs
+pub fails_finding : (t : TablesData) (r : RollData) (a b c : Told) (error : StoreError) → IsSynced a b → Does [] b c → EndsFinding t r b c error → FailsToRecover t r a c error
+fails_finding t r a b c store.Memory synced done ends = absurd ends
+fails_finding t r a b c (store.Flash d) synced done ends = (
+  ends_later (port_of d) a b c synced.fine ends,
+  (both_synced, does-append both_synced [] a b c synced.does done, inr (inr ([], refl, inl refl))),
+)
+fails_finding t r a b c (store.Foreign d) synced done ends = (
+  record { does = does-append both_synced [] a b c synced.does done; fine = faultless_trans a b c synced.fine ends.0 },
+  told_before a b (λ internal external. IsForeign t r d internal external) synced.does ends.1,
+)
+fails_finding t r a b c store.NoImage synced done ends = (
+  record { does = does-append both_synced [] a b c synced.does done; fine = faultless_trans a b c synced.fine ends.0 },
+  (
+    ends.1.0,
+    ends.1.1,
+    told_before a b (λ internal external. AreLoaded t r ends.1.0 internal external × (held_by_both t (length r.titles) internal external ≡ None)) synced.does ends.1.2,
+  ),
+)
+
+-- bytes with a rank are a state
+pub ranked_state : (t : TablesData) (voters : ℕ) (body : List ℕ) → IsSome (rank_in t voters body) → (s : State) × (decoded t voters body ≡ Some s)
+ranked_state t voters body ranked = go (decoded t voters body) refl ranked
+  where
+    go : (o : Option State) → decoded t voters body ≡ o → IsSome (option_map rank_of o) → (s : State) × (decoded t voters body ≡ Some s)
+    go None is some = absurd (cc)
+    go (Some s) is some = (s, is)
+
+frames_before : (start : Flashes) (left : Left) → KeepFrames (after both_synced start) left → KeepFrames start left
+frames_before start left keeps Internal = keeps Internal
+frames_before start left keeps External = keeps External
+
+module _ (t : TablesData) (r : RollData) (section : Section) (s : State) (body : List ℕ) (known : decoded t (length r.titles) body ≡ Some s) where
+  -- what is held as a body is held as a state
+  held_state : (o : Option (List ℕ)) → o ≡ Some body → option_and_then (decoded t (length r.titles)) o ≡ Some s
+  held_state o is = ap (option_and_then (decoded t (length r.titles))) is ∙ known
+
+  module _ (a b c d : Told) (synced : Does both_synced a b) (done : Does [] b c)
+      (loaded : ForSome b.flashes (λ fs. AreLoaded t r section fs.internal.content fs.external.content))
+      (held : ForSome b.flashes (HoldsBody (rank_in t (length r.titles)) body_size body))
+      (run : Runs (Heals c body_size body) c d) where
+    -- behind the syncs the state that was found is kept
+    pub recovers : Recovers t r section s a run.0
+    recovers =
+        record {
+          slots = record { within = run.2.within; syncs = run.2.syncs };
+          stops = λ start told.
+              let mid = after both_synced start in
+              let told_b = told_after both_synced a b start synced told in
+              let told_c = told_after [] b c mid done told_b in (
+                record { loaded = loaded mid told_b; held = held_state _ (held mid told_b) },
+                λ done stop left is. (
+                  held_state _ ((run.2.stops mid told_c done stop left is).both (rank_in t (length r.titles)) (held mid told_b)),
+                  frames_before start left (run.2.frames mid told_c done stop left is),
+                ),
+              );
+        }
+
+    pub does_all : Does (both_synced ++ run.0) a d
+    does_all = does-append both_synced run.0 a c d (does-append both_synced [] a b c synced done) run.1
+
+    pub recovered : Runs (λ ops. (rest : List Op) × (ops ≡ both_synced ++ rest) × Recovers t r section s a rest) a d
+    recovered = (both_synced ++ run.0, does_all, (run.0, refl, recovers))
+
+    -- the heal failed at a device
+    pub fails_healing : (dev : Dev) → IsSectionOf t r section → IsFaultless a c → EndsAt (port_of dev) c d → FailsToRecover t r a d (store.Flash dev)
+    fails_healing dev fits fine ends = (
+      ends_later (port_of dev) a c d fine ends,
+      (both_synced ++ run.0, does_all, inr (inr (run.0, refl, inr (section, s, fits, recovers)))),
+    )
+
+-- the frames of a section's load
+framed_of : (t : TablesData) (r : RollData) (section : Section) (fs : Flashes) → AreLoaded t r section fs.internal.content fs.external.content → AreFramed (load_of t r section) fs
+framed_of t r section fs loaded Internal = loaded.internal_frame
+framed_of t r section fs loaded External = loaded.external_frame
+
+-- The bytes that both flashes hold are the encoding of a state, which the flashes are at rest with after the heal.
+module _ (t : TablesData) (r : RollData) (section : Section) (tables : IsTables t) (roll : IsRoll r) (fits : IsSectionOf t r section) (s : State) (body : List ℕ) (is : IsEncoding t (length r.titles) s body) where
+  pub found_known : decoded t (length r.titles) body ≡ Some s
+  found_known = decoded_back t (length r.titles) body s tables roll.count.1 is
+
+  pub found_encoding : IsEncoding t section.voters s body
+  found_encoding = subst (λ (n : ℕ). IsEncoding t n s body) (sym fits.voters) is
+
+  pub rests_healed : (c d : Told) → AreDevices c.sizes → ForSome c.flashes (AreSized c.sizes) → ForSome d.flashes (AreSized d.sizes) → ForSome c.flashes (λ fs. AreLoaded t r section fs.internal.content fs.external.content)
+      → Runs (Heals c body_size body) c d → ForSome d.flashes (IsLevel body_size body) → ForSome d.flashes (AreAtRest (load_of t r section) s)
+  rests_healed c d devices sized sized_d loaded run level =
+      rests_after (load_of t r section) s 12 _ c d devices sized sized_d (long_state t (length r.titles) s tables roll.count.1 is.state)
+      (λ fs told. framed_of t r section fs (loaded fs told)) run
+      (λ fs told. subst (λ (b : List ℕ). IsLevel body_size b fs) is.same (level fs told))

@@ -1,0 +1,176 @@
+-- Flashes at rest: what their images hold, and what a session leaves alone.
+use Rattle.std.proofs.Common.{◌≡◌, inl, inr, ℕ, Option, Some, List, [], ◌∷◌, ◌++◌, length, option_map, option_and_then, refl, sym, ap, subst, ◌∙◌, arith, length-append, ext_get_or}
+use Rattle.std.specs.List.{AllByRecursion}
+use Rattle.urna_outside.specs.Confined.{KeepsBut}
+use Rattle.urna_outside.specs.Flash.{Op, Put, Sync, Show, Flash, Flashes, flash_of, after_one, after, shown_by, IsImage, IsClean, part}
+use Rattle.urna_outside.specs.Stop.{IsPartOf, IsStop, Left, AtEachStop}
+use Rattle.urna_outside.specs.Told.{Told, Sizes, Does, AreSized}
+use Rattle.urna_outside.specs.declared.device.Dev.{Dev}
+use Rattle.urna_outside.specs.declared.device.Dev.TheVariants.{Internal, External}
+use Rattle.urna_outside.proofs.Frames.{course_keeps}
+use Rattle.urna_outside.proofs.Keeping.{HasPlaces, keeps_refl, keeps_trans, places_kept}
+use Rattle.urna_outside.proofs.Stages.{left_image}
+use Rattle.twin_image.specs.Frame.{device_image}
+use Rattle.twin_image.specs.Held.{IsEither as IsEitherBody, held_by_both, held_alone}
+use Rattle.twin_image.specs.Slots.{AreClean, KeepsFrame}
+use Rattle.twin_image.specs.Twin.{IsOfTwin, HoldsEither}
+use Rattle.twin_image.proofs.Holding.{leaves_either}
+use Rattle.twin_image.proofs.Laid.{device_bodies, device_gates}
+use Rattle.twin_image.proofs.Renewing.{content_image, twin_bounded}
+use Rattle.election_tables.specs.TablesData.{TablesData}
+use Rattle.image_codec.specs.Decoded.{decoded, rank_in}
+use Rattle.image_codec.specs.Encoding.{encode}
+use Rattle.image_codec.specs.State.{State, rank_of}
+use Rattle.state_store.specs.Calls.{HoldEither, KeepFrames, IsEither}
+use Rattle.state_store.specs.Load.{header}
+use Rattle.state_store.specs.Played.{IsOfSession}
+use Rattle.state_store.specs.Rest.{AreAtRest, body_size}
+use Rattle.state_store.specs.Store.{AreDevices}
+use Rattle.state_store.specs.declared.load.Load.{Load}
+
+-- reading the encoding of a state gives it back
+abbrev pub IsKnown : TablesData → ℕ → State → Type 0
+IsKnown t voters s = decoded t voters (encode s) ≡ Some s
+
+-- a state that can stand in the slots of flashes of this load
+pub record IsStored (t : TablesData) (load : Load) (s : State) : Type 0 where
+  pub known : IsKnown t load.section.voters s
+  pub long : length (encode s) ≡ body_size
+  pub headed : (d : Dev) → length (header load d) ≡ 512
+
+-- The image of a device
+
+-- both slots of a whole device stand with its body
+whole_holds : (size : ℕ) (head body : List ℕ) → length head ≡ 512 → length body ≡ size → HoldsEither size body body (device_image size head body)
+whole_holds size head body head_long body_long =
+    let gates = device_gates size head body head_long body_long in
+    let bodies = device_bodies size head body head_long body_long in
+    record { first = λ gate. inl bodies.0; second = λ gate. inl bodies.1; open_one = inl gates.0 }
+
+-- What is held
+
+-- an image of a clean flash is its content
+pub clean_image : (f : Flash) (image : List ℕ) → IsClean f → IsImage f image → image ≡ f.content
+clean_image f image clean is = ext_get_or 0 image f.content is.same_length (λ k below. is.clean k (clean k))
+
+-- each image of a device at rest has the body in its slots
+rest_image : (t : TablesData) (load : Load) (s : State) (flashes : Flashes) (d : Dev) (image : List ℕ) → IsStored t load s → AreAtRest load s flashes → IsImage (flash_of d flashes) image → HoldsEither body_size (encode s) (encode s) image
+rest_image t load s flashes d image stored rest is =
+    subst (HoldsEither body_size (encode s) (encode s)) (sym (clean_image (flash_of d flashes) image (rest.clean d) is ∙ rest.content d))
+    (whole_holds body_size (header load d) (encode s) (stored.headed d) stored.long)
+
+-- a held body of a state is the state
+held_state : (t : TablesData) (voters : ℕ) (s : State) (body : Option (List ℕ)) → IsKnown t voters s → IsEitherBody (encode s) (encode s) body → IsEither s s (option_and_then (decoded t voters) body)
+held_state t voters s body known (inl is) = inl (ap (option_and_then (decoded t voters)) is ∙ known)
+held_state t voters s body known (inr is) = inl (ap (option_and_then (decoded t voters)) is ∙ known)
+
+-- Both flashes at rest, and each alone, hold their state.
+pub rest_holds : (t : TablesData) (load : Load) (s : State) (flashes : Flashes) (left : Left) → IsStored t load s → AreAtRest load s flashes → IsImage flashes.internal left.internal → IsImage flashes.external left.external
+    → HoldEither t load.section.voters s s left
+rest_holds t load s flashes left stored rest internal external =
+    let voters = load.section.voters in
+    let rank = rank_in t voters in
+    let ranked : rank (encode s) ≡ Some (rank_of s) = ap (option_map rank_of) stored.known in
+    let leaves =
+    leaves_either rank body_size (encode s) (encode s) (rank_of s) (rank_of s) ranked ranked left
+    (rest_image t load s flashes Internal left.internal stored rest internal)
+    (rest_image t load s flashes External left.external stored rest external) in
+    record {
+      both = held_state t voters s (held_by_both rank body_size left) stored.known leaves.both;
+      internal = held_state t voters s (held_alone rank body_size left.internal) stored.known leaves.internal;
+      external = held_state t voters s (held_alone rank body_size left.external) stored.known leaves.external;
+    }
+
+-- The frames
+
+-- a stop in operations of a session is of them too
+part_of_session : (op one : Op) → IsOfSession op → IsPartOf op one → IsOfSession one
+part_of_session (Put d at bytes) one is part =
+    let size = ap length part.3 in
+    subst IsOfSession (sym part.4) (λ k low high.
+    is k (omega arith) (omega (arith, size, length-append (part.0 ++ part.1) part.2, length-append part.0 part.1)))
+part_of_session (Sync d) one is part = absurd part
+part_of_session (Show bytes) one is part = subst IsOfSession (sym part.3) tt
+
+pub stop_of_session : (ops done : List Op) → AllByRecursion IsOfSession ops → IsStop ops done → AllByRecursion IsOfSession done
+stop_of_session ops [] all stop = tt
+stop_of_session [] (one ∷ done) all stop = absurd stop
+stop_of_session (op ∷ ops) (one ∷ done) all (inl whole) =
+    (subst IsOfSession (sym whole.0) all.0, stop_of_session ops done all.1 whole.1)
+stop_of_session (op ∷ ops) (one ∷ done) all (inr part) =
+    (part_of_session op one all.0 part.0, subst (AllByRecursion IsOfSession) (sym part.1) tt)
+
+-- operations of a session keep all but the slots
+pub session_keeps : (d : Dev) (ops : List Op) (fs : Flashes) → AllByRecursion IsOfSession ops → HasPlaces (IsOfTwin body_size) (flash_of d fs) → KeepsBut (IsOfTwin body_size) (flash_of d fs) (flash_of d (after ops fs))
+session_keeps d [] fs all has = keeps_refl (IsOfTwin body_size) (flash_of d fs)
+session_keeps d (Show bytes ∷ ops) fs all has = session_keeps d ops fs all.1 has
+session_keeps d (Sync e ∷ ops) fs all has =
+    let first = course_keeps (λ x k. IsOfTwin body_size k) d (Sync e ∷ []) fs (tt, tt) has in
+    let still = places_kept (IsOfTwin body_size) (flash_of d fs) (flash_of d (after_one (Sync e) fs)) first has in
+    keeps_trans (IsOfTwin body_size) (flash_of d fs) (flash_of d (after_one (Sync e) fs)) (flash_of d (after ops (after_one (Sync e) fs))) first (session_keeps d ops (after_one (Sync e) fs) all.1 still)
+session_keeps d (Put e at bytes ∷ ops) fs all has =
+    let first = course_keeps (λ x k. IsOfTwin body_size k) d (Put e at bytes ∷ []) fs (all.0, tt) has in
+    let still = places_kept (IsOfTwin body_size) (flash_of d fs) (flash_of d (after_one (Put e at bytes) fs)) first has in
+    keeps_trans (IsOfTwin body_size) (flash_of d fs) (flash_of d (after_one (Put e at bytes) fs)) (flash_of d (after ops (after_one (Put e at bytes) fs))) first (session_keeps d ops (after_one (Put e at bytes) fs) all.1 still)
+
+-- the slots are on each device
+has_places : (sizes : Sizes) (d : Dev) (start : Flashes) → AreDevices sizes → AreSized sizes start → HasPlaces (IsOfTwin body_size) (flash_of d start)
+has_places sizes d start devices sized =
+    record {
+      even = sized.dirty d ∙ sym (sized.content d);
+      bounded = twin_bounded body_size (length (flash_of d start).content) (omega (arith, sized.content d, devices d));
+    }
+
+-- At each stop of operations of a session, from clean flashes on, the frames stay.
+pub frames : (sizes : Sizes) (start : Flashes) (ops : List Op) → AreDevices sizes → AreSized sizes start → AreClean start → AllByRecursion IsOfSession ops → AtEachStop start ops (KeepFrames start)
+frames sizes start ops devices sized clean all done stop left is d =
+    let keeps = session_keeps d done start (stop_of_session ops done all stop) (has_places sizes d start devices sized) in
+    let image = left_image d (after done start) (shown_by done) left is in
+    record {
+      same_length = image.same_length ∙ keeps.size;
+      bytes = λ k out. image.clean k (keeps.clean k out (clean d k)) ∙ keeps.content k out;
+    }
+
+-- what was done leaves the devices their size
+pub devices_stay : (ops : List Op) (a b : Told) → Does ops a b → AreDevices a.sizes → AreDevices b.sizes
+devices_stay ops a b does devices = subst AreDevices (sym does.sizes) devices
+
+-- an image of a clean flash keeps its frame
+pub frames_same : (flashes : Flashes) (left : Left) → AreClean flashes → IsImage flashes.internal left.internal → IsImage flashes.external left.external → KeepFrames flashes left
+frames_same flashes left clean internal external Internal =
+    record { same_length = internal.same_length; bytes = λ k out. internal.clean k (clean Internal k) }
+frames_same flashes left clean internal external External =
+    record { same_length = external.same_length; bytes = λ k out. external.clean k (clean External k) }
+
+-- what keeps the frames of flashes that keep those of others keeps those
+pub frames_trans : (first mid : Flashes) (left : Left) → ((d : Dev) → KeepsFrame body_size (flash_of d first).content (flash_of d mid).content) → KeepFrames mid left → KeepFrames first left
+frames_trans first mid left kept keeps d =
+    record {
+      same_length = (keeps d).same_length ∙ (kept d).same_length;
+      bytes = λ k out. (keeps d).bytes k out ∙ (kept d).bytes k out;
+    }
+
+-- the stop behind all operations
+pub whole_stop : (ops : List Op) → IsStop ops ops
+whole_stop [] = tt
+whole_stop (op ∷ ops) = inl (refl, whole_stop ops)
+
+-- What holds at each stop holds of what reads give at the end.
+pub at_end : (start : Flashes) (ops : List Op) (P : Left → Type 0) → AtEachStop start ops P
+    → P (record { internal = (after ops start).internal.content; external = (after ops start).external.content; shown = shown_by ops })
+at_end start ops P holds =
+    holds ops (whole_stop ops) (record { internal = (after ops start).internal.content; external = (after ops start).external.content; shown = shown_by ops }) (record {
+      internal = content_image (after ops start).internal;
+      external = content_image (after ops start).external;
+      shown = refl;
+    })
+
+-- so frames that stay at each stop stand at the end
+pub frames_at_end : (before start : Flashes) (ops : List Op) → AtEachStop start ops (KeepFrames before) → (d : Dev) → KeepsFrame body_size (flash_of d before).content (flash_of d (after ops start)).content
+frames_at_end before start ops holds Internal = at_end start ops (KeepFrames before) holds Internal
+frames_at_end before start ops holds External = at_end start ops (KeepFrames before) holds External
+
+-- whatever was shown
+pub frames_text : (start : Flashes) (left : Left) (text : List ℕ) → KeepFrames start left → KeepFrames start (record left { shown = text })
+frames_text start left text keeps Internal = keeps Internal
+frames_text start left text keeps External = keeps External

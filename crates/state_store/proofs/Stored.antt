@@ -1,0 +1,50 @@
+-- A state of a poll can stand in the slots of flashes that are loaded for it.
+use Rattle.std.proofs.Common.{◌≡◌, ℕ, ◌≤◌, List, ◌++◌, length, refl, ap, ◌∙◌, arith, length-append}
+use Rattle.std.specs.Prelude.{replicate}
+use Rattle.std.proofs.lemmas.List.{length-replicate}
+use Rattle.std.proofs.lemmas.List.Elements.{All-contains}
+use Rattle.urna_outside.specs.declared.device.Dev.{Dev}
+use Rattle.election_tables.specs.Roll.{RollData}
+use Rattle.election_tables.specs.TablesData.{IsSection, IsTables, TablesData}
+use Rattle.image_codec.specs.Encoding.{IsStateOf, encode}
+use Rattle.image_codec.specs.State.{State}
+use Rattle.image_codec.proofs.Decoding.{decoded_back, length-encode, room_of_state}
+use Rattle.state_store.specs.Load.{header}
+use Rattle.state_store.specs.Store.{IsLoadedWith}
+use Rattle.state_store.specs.declared.load.Load.{Load}
+use Rattle.state_store.specs.Rest.{body_size}
+use Rattle.state_store.proofs.Resting.{IsKnown, IsStored}
+
+-- the section of a load has at most 600 voters
+pub few_voters : (t : TablesData) (r : RollData) (load : Load) → IsLoadedWith t r load → load.section.voters ≤ 600
+few_voters t r load loaded =
+    let is : IsSection load.section = All-contains IsSection t.sections load.section loaded.tables.sections loaded.section.listed in
+    is.voters.1
+
+-- a header has 512 bytes
+long_header : (load : Load) (d : Dev) → length load.tables ≡ 32 → length load.roll ≡ 32 → length (header load d) ≡ 512
+unfolding header
+long_header load d tables roll =
+    let zeros : List ℕ = replicate 427 0 in
+    let few : length zeros ≡ 427 = length-replicate {A = ℕ} 427 0 in
+    omega (arith, tables, roll, length-append (load.tables ++ load.roll) zeros, length-append load.tables load.roll, few)
+
+pub header_long : (t : TablesData) (r : RollData) (load : Load) (d : Dev) → IsLoadedWith t r load → length (header load d) ≡ 512
+header_long t r load d loaded =
+    long_header load d (ap (λ (l : Load). length l.tables) loaded.same ∙ loaded.tables.digest) (ap (λ (l : Load). length l.roll) loaded.same ∙ loaded.roll.digest)
+
+-- reading the encoding of a state of a poll gives it back, and it fills a body
+pub known_state : (t : TablesData) (voters : ℕ) (s : State) → IsTables t → voters ≤ 600 → IsStateOf t voters s → IsKnown t voters s
+known_state t voters s tables few is = decoded_back t voters (encode s) s tables few (record { state = is; same = refl })
+
+pub long_state : (t : TablesData) (voters : ℕ) (s : State) → IsTables t → voters ≤ 600 → IsStateOf t voters s → length (encode s) ≡ body_size
+long_state t voters s tables few is = let room = room_of_state t voters s tables few is in length-encode s (omega (arith, room))
+
+pub stored : (t : TablesData) (r : RollData) (load : Load) (s : State) → IsLoadedWith t r load → IsStateOf t load.section.voters s → IsStored t load s
+stored t r load s loaded is =
+    let few = few_voters t r load loaded in
+    record {
+      known = known_state t load.section.voters s loaded.tables few is;
+      long = long_state t load.section.voters s loaded.tables few is;
+      headed = λ d. header_long t r load d loaded;
+    }

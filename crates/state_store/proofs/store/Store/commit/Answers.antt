@@ -1,0 +1,83 @@
+use Rattle.std.proofs.Common.{◌≡◌, ℕ, List, length, drop, refl, sym, ap, subst, ◌∙◌, arith, rules}
+use Rattle.image_codec.specs.Encoding.{encode}
+use Rattle.twin_image.specs.Level.{IsLevel, body_of}
+use Rattle.twin_image.proofs.Looking.{refilled}
+use Rattle.state_store.specs.Rest.{body_size}
+use Rattle.state_store.specs.Store.{Keeps, StoreData}
+use Rattle.state_store.specs.declared.load.Load.{Load}
+use Rattle.state_store.proofs.Changing.{followed_by, followed_commits, followed_fills, followed_outranks, followed_rests, followed_stands}
+use Rattle.state_store.proofs.store.Store.commit.Goals as goal
+
+pub commit-requires : goal.commit-requires
+commit-requires g c =
+    let t = c.args.tables.now in
+    let tables = c.of-ranks.result.tables.now in
+    let count = c.of-ranks.result.voters in
+    let voters = c.args.self.load.section.voters in
+    let s = c.requires.below.state in
+    let u = c.args.state.now in
+    let kept = c.requires.below.kept in
+    let old = body_of c.self.inside.level in
+    let new = c.deref.result.now in
+    let into = c.encode_into.new.into in
+    let long : c.self.inside.next.len ≡ length into = search rules in
+    let written : new ≡ encode u = c.deref.ensures.value ∙ refilled c.self.inside.next.len into (drop (length into) c.self.inside.next.items) long ∙ c.encode_into.ensures in
+    let is = followed_by t tables _ c.args.self count s u old new c.of-ranks.ensures.whole c.of-ranks.result.few c.of-ranks.ensures.tables (c.of-ranks.ensures.voters ∙ c.voters.ensures.count ∙ ap length c.turnout.ensures) c.requires.state written kept (ap (λ (d : StoreData). d.body) c.self.view_is) in (
+      omega arith,
+      (
+        followed_stands t tables voters count s u old new is c.self.inside.level _ c.args.self.load c.self.invariant.1 c.requires.devices (g.met.M.Machine.sized c.args.m.now) refl kept.rest,
+        (followed_fills t tables voters count s u old new is, followed_outranks t tables voters count s u old new is c.requires.below.below),
+      ),
+    )
+
+pub returns-in_err-level-clause-ran : goal.returns-in_err-level-clause-ran
+returns-in_err-level-clause-ran g c s kept =
+    let t = c.args.tables.now in
+    let tables = c.of-ranks.result.tables.now in
+    let count = c.of-ranks.result.voters in
+    let u = c.args.state.now in
+    let old = body_of c.self.inside.level in
+    let new = c.deref.result.now in
+    let into = c.encode_into.new.into in
+    let long : c.self.inside.next.len ≡ length into = search rules in
+    let written : new ≡ encode u = c.deref.ensures.value ∙ refilled c.self.inside.next.len into (drop (length into) c.self.inside.next.items) long ∙ c.encode_into.ensures in
+    let is = followed_by t tables _ c.args.self count s u old new c.of-ranks.ensures.whole c.of-ranks.result.few c.of-ranks.ensures.tables (c.of-ranks.ensures.voters ∙ c.voters.ensures.count ∙ ap length c.turnout.ensures) c.requires.state written kept (ap (λ (d : StoreData). d.body) c.self.view_is) in
+    followed_commits t tables c.args.self.load.section.voters count s u old new is _ _ c.commit.ensures.ran
+
+pub returns-clause-kept : goal.returns-clause-kept
+returns-clause-kept g c =
+    let t = c.args.tables.now in
+    let tables = c.of-ranks.result.tables.now in
+    let count = c.of-ranks.result.voters in
+    let voters = c.args.self.load.section.voters in
+    let s = c.requires.below.state in
+    let u = c.args.state.now in
+    let kept = c.requires.below.kept in
+    let old = body_of c.self.inside.level in
+    let new = c.deref.result.now in
+    let into = c.encode_into.new.into in
+    let long : c.self.inside.next.len ≡ length into = search rules in
+    let written : new ≡ encode u = c.deref.ensures.value ∙ refilled c.self.inside.next.len into (drop (length into) c.self.inside.next.items) long ∙ c.encode_into.ensures in
+    let is = followed_by t tables _ c.args.self count s u old new c.of-ranks.ensures.whole c.of-ranks.result.few c.of-ranks.ensures.tables (c.of-ranks.ensures.voters ∙ c.voters.ensures.count ∙ ap length c.turnout.ensures) c.requires.state written kept (ap (λ (d : StoreData). d.body) c.self.view_is) in
+    let moved = c.in_ok-level.ensures.body in
+    let level = c.in_ok-level.ensures.level in
+    let store : StoreData = record { load = c.args.self.load; body = body_of c.in_ok-level.level } in
+    let keeps : Keeps t (g.M.Machine.told c.commit.new.m) store u = record {
+      encoding = record { state = c.requires.state; same = moved ∙ written };
+      rest = followed_rests t tables voters count s u old new is _ _ c.commit.ensures.ran c.args.self.load c.requires.devices (g.met.M.Machine.sized c.args.m.now) (g.met.M.Machine.sized c.commit.new.m) kept.rest (λ fs told. subst (λ (body : List ℕ). IsLevel body_size body fs) moved (level.flashes fs told));
+    } in
+    subst (λ (load : Load). let there : StoreData = record { load = load; body = body_of c.in_ok-level.level } in Keeps t (g.M.Machine.told c.commit.new.m) there u) (sym (ap (λ (d : StoreData). d.load) c.self.view_is)) keeps
+
+pub returns-clause-ran : goal.returns-clause-ran
+returns-clause-ran g c s kept =
+    let t = c.args.tables.now in
+    let tables = c.of-ranks.result.tables.now in
+    let count = c.of-ranks.result.voters in
+    let u = c.args.state.now in
+    let old = body_of c.self.inside.level in
+    let new = c.deref.result.now in
+    let into = c.encode_into.new.into in
+    let long : c.self.inside.next.len ≡ length into = search rules in
+    let written : new ≡ encode u = c.deref.ensures.value ∙ refilled c.self.inside.next.len into (drop (length into) c.self.inside.next.items) long ∙ c.encode_into.ensures in
+    let is = followed_by t tables _ c.args.self count s u old new c.of-ranks.ensures.whole c.of-ranks.result.few c.of-ranks.ensures.tables (c.of-ranks.ensures.voters ∙ c.voters.ensures.count ∙ ap length c.turnout.ensures) c.requires.state written kept (ap (λ (d : StoreData). d.body) c.self.view_is) in
+    followed_commits t tables c.args.self.load.section.voters count s u old new is _ _ c.commit.ensures.ran

@@ -1,0 +1,109 @@
+-- What the calls of a store do on the flashes, also where the power goes
+use Rattle.std.specs.Prelude.{◌≡◌, ◌⊎◌, ℕ, ◌≤◌, List, [], ◌∷◌, ◌++◌, Option, Some, None, length}
+use Rattle.std.specs.Option.{ForSome}
+use Rattle.urna_outside.specs.Confined.{AreIn, count_syncs}
+use Rattle.urna_outside.specs.Faults.{EndsAt, IsFaultless}
+use Rattle.urna_outside.specs.Flash.{Op, Sync, Flashes, after, flash_of}
+use Rattle.urna_outside.specs.Stop.{AtEachStop, Left, left_on}
+use Rattle.urna_outside.specs.Told.{Told, Does, Runs, port_of}
+use Rattle.urna_outside.specs.declared.device.Dev.{Dev}
+use Rattle.urna_outside.specs.declared.device.Dev.TheVariants.{Internal, External}
+use Rattle.election_tables.specs.Roll.{RollData}
+use Rattle.election_tables.specs.TablesData.{TablesData}
+use Rattle.election_tables.specs.declared.tables.sections.Section.{Section}
+use Rattle.image_codec.specs.State.{State}
+use Rattle.twin_image.specs.Slots.{KeepsFrame}
+use Rattle.twin_image.specs.Twin.{IsOfTwin}
+use Rattle.state_store.specs.Held.{AreLoaded, IsForeign, held_alone, held_by_both}
+use Rattle.state_store.specs.Load.{IsSectionOf}
+use Rattle.state_store.specs.Rest.{IsInUse, body_size}
+use Rattle.state_store.specs.declared.store.StoreError.{StoreError}
+use Rattle.state_store.specs.declared.store.StoreError.TheVariants as store
+use Rattle.state_store.specs.declared.store.LoadError.{LoadError}
+use Rattle.state_store.specs.declared.store.LoadError.TheVariants as load
+
+-- the two syncs with which each call begins that finds out what the flashes hold
+abbrev pub both_synced : List Op
+both_synced = Sync Internal ∷ Sync External ∷ []
+
+-- both were synced, nothing else was done, and no call failed
+pub record IsSynced (old new : Told) : Type 0 where
+  pub does : Does both_synced old new
+  pub fine : IsFaultless old new
+
+-- nothing was done, and no call failed
+pub record IsUntouched (old new : Told) : Type 0 where
+  pub does : Does [] old new
+  pub fine : IsFaultless old new
+
+-- The call ended within the two syncs, or they were done first, and P is of the rest.
+abbrev pub FromSyncs : (List Op → Type 0) → List Op → Type 0
+FromSyncs P ops = (ops ≡ []) ⊎ (ops ≡ Sync Internal ∷ []) ⊎ ((rest : List Op) × (ops ≡ both_synced ++ rest) × P rest)
+
+-- each image has its device's frame
+abbrev pub KeepFrames : Flashes → Left → Type 0
+KeepFrames start left = (d : Dev) → KeepsFrame body_size (flash_of d start).content (left_on d left)
+
+abbrev pub IsEither : State → State → Option State → Type 0
+IsEither s u held = (held ≡ Some s) ⊎ (held ≡ Some u)
+
+-- both flashes, and each alone, hold the one state or the other
+pub record HoldEither (t : TablesData) (voters : ℕ) (s u : State) (left : Left) : Type 0 where
+  pub both : IsEither s u (held_by_both t voters left.internal left.external)
+  pub internal : IsEither s u (held_alone t voters left.internal)
+  pub external : IsEither s u (held_alone t voters left.external)
+
+-- writes of gates and bodies alone, and few syncs
+pub record AreInSlots (ops : List Op) : Type 0 where
+  pub within : AreIn (λ d k. IsOfTwin body_size k) ops
+  pub syncs : count_syncs ops ≤ 12
+
+-- What a commit does: at each stop both flashes, and each alone, hold the old state or the new one.
+pub record Commits (t : TablesData) (voters : ℕ) (s u : State) (told : Told) (ops : List Op) : Type 0 where
+  pub slots : AreInSlots ops
+  pub stops : ForSome told.flashes (λ start. AtEachStop start ops (λ left. HoldEither t voters s u left × KeepFrames start left))
+
+-- The state that both flashes hold together, with the frames of a section's load
+pub record AreFound (t : TablesData) (r : RollData) (section : Section) (s : State) (flashes : Flashes) : Type 0 where
+  pub loaded : AreLoaded t r section flashes.internal.content flashes.external.content
+  pub held : held_by_both t (length r.titles) flashes.internal.content flashes.external.content ≡ Some s
+
+-- what a recovery does behind the two syncs
+pub record Recovers (t : TablesData) (r : RollData) (section : Section) (s : State) (told : Told) (ops : List Op) : Type 0 where
+  pub slots : AreInSlots ops
+  pub stops : ForSome told.flashes (λ start. AreFound t r section s start
+      × AtEachStop (after both_synced start) ops (λ left. (held_by_both t (length r.titles) left.internal left.external ≡ Some s) × KeepFrames start left))
+
+-- what there is where a recovery fails
+abbrev pub FailsToRecover : TablesData → RollData → Told → Told → StoreError → Type 0
+FailsToRecover t r old new store.Memory = IsUntouched old new
+FailsToRecover t r old new (store.Flash d) =
+    EndsAt (port_of d) old new
+    × Runs (FromSyncs (λ ops. (ops ≡ []) ⊎ ((section : Section) × (s : State) × IsSectionOf t r section × Recovers t r section s old ops))) old new
+FailsToRecover t r old new (store.Foreign d) =
+    IsSynced old new × ForSome old.flashes (λ flashes. IsForeign t r d flashes.internal.content flashes.external.content)
+FailsToRecover t r old new store.NoImage =
+    IsSynced old new
+    × ((section : Section) × IsSectionOf t r section
+    × ForSome old.flashes (λ flashes. AreLoaded t r section flashes.internal.content flashes.external.content
+    × (held_by_both t (length r.titles) flashes.internal.content flashes.external.content ≡ None)))
+
+-- the device is in use, and it is the first that is
+abbrev pub IsBusy : Dev → Flashes → Type 0
+IsBusy Internal flashes = IsInUse flashes.internal.content
+IsBusy External flashes = (¬ IsInUse flashes.internal.content) × IsInUse flashes.external.content
+
+-- no device is in use
+abbrev pub AreFree : Flashes → Type 0
+AreFree flashes = (d : Dev) → ¬ IsInUse (flash_of d flashes).content
+
+-- what loading does behind the two syncs: neither device was in use, and at no stop one is
+pub record Loads (told : Told) (ops : List Op) : Type 0 where
+  pub free : ForSome told.flashes AreFree
+  pub stops : ForSome told.flashes (λ start. AtEachStop (after both_synced start) ops (λ left. (d : Dev) → ¬ IsInUse (left_on d left)))
+
+-- what there is where loading fails
+abbrev pub FailsToLoad : Told → Told → LoadError → Type 0
+FailsToLoad old new load.Memory = IsUntouched old new
+FailsToLoad old new (load.Flash d) = EndsAt (port_of d) old new × Runs (FromSyncs (λ ops. (ops ≡ []) ⊎ Loads old ops)) old new
+FailsToLoad old new (load.Busy d) = IsSynced old new × ForSome old.flashes (IsBusy d)

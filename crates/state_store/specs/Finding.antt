@@ -1,0 +1,39 @@
+-- How looking at the flashes behind the two syncs ends badly: no poll is found, or a device is in use
+use Rattle.std.specs.Prelude.{◌≡◌, ◌⊎◌, List, [], ◌∷◌, None, length}
+use Rattle.std.specs.Option.{ForSome}
+use Rattle.urna_outside.specs.Faults.{EndsAt, IsFaultless}
+use Rattle.urna_outside.specs.Flash.{Op, Sync}
+use Rattle.urna_outside.specs.Told.{Told, port_of}
+use Rattle.urna_outside.specs.declared.device.Dev.TheVariants.{Internal}
+use Rattle.election_tables.specs.Roll.{RollData}
+use Rattle.election_tables.specs.TablesData.{TablesData}
+use Rattle.election_tables.specs.declared.tables.sections.Section.{Section}
+use Rattle.state_store.specs.Calls.{IsBusy}
+use Rattle.state_store.specs.Held.{AreLoaded, IsForeign, held_by_both}
+use Rattle.state_store.specs.Load.{IsSectionOf}
+use Rattle.state_store.specs.declared.store.LoadError.{LoadError}
+use Rattle.state_store.specs.declared.store.LoadError.TheVariants as load
+use Rattle.state_store.specs.declared.store.StoreError.{StoreError}
+use Rattle.state_store.specs.declared.store.StoreError.TheVariants as store
+
+-- of the two syncs the second wasn't done
+abbrev pub IsWithinSyncs : List Op → Type 0
+IsWithinSyncs ops = (ops ≡ []) ⊎ (ops ≡ Sync Internal ∷ [])
+
+-- a device failed, has another frame, or no slot stands; memory is never wanted
+abbrev pub EndsFinding : TablesData → RollData → Told → Told → StoreError → Type 0
+EndsFinding t r old new store.Memory = ⊥
+EndsFinding t r old new (store.Flash d) = EndsAt (port_of d) old new
+EndsFinding t r old new (store.Foreign d) =
+    IsFaultless old new × ForSome old.flashes (λ flashes. IsForeign t r d flashes.internal.content flashes.external.content)
+EndsFinding t r old new store.NoImage =
+    IsFaultless old new
+    × ((section : Section) × IsSectionOf t r section
+    × ForSome old.flashes (λ flashes. AreLoaded t r section flashes.internal.content flashes.external.content
+    × (held_by_both t (length r.titles) flashes.internal.content flashes.external.content ≡ None)))
+
+-- a device failed, or is in use; memory is never wanted
+abbrev pub EndsTesting : Told → Told → LoadError → Type 0
+EndsTesting old new load.Memory = ⊥
+EndsTesting old new (load.Flash d) = EndsAt (port_of d) old new
+EndsTesting old new (load.Busy d) = IsFaultless old new × ForSome old.flashes (IsBusy d)

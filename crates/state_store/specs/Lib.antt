@@ -1,0 +1,9 @@
+pub mod Load
+pub mod Rest
+pub mod Held
+pub mod Looking
+pub mod Finding
+pub mod Store
+pub mod Calls
+pub mod Steps
+pub mod Played

@@ -1,0 +1,99 @@
+-- Putting steps out over a store: each state is committed, and then its line is shown
+use Rattle.std.specs.Prelude.{◌≡◌, ◌⊎◌, ℕ, ◌+◌, ◌*◌, ◌<◌, ◌≤◌, List, [], ◌∷◌, ◌++◌, Option, Some, Result, Ok, Err, length, slice_get, IsSome, Contains}
+use Rattle.std.specs.List.{AllByRecursion}
+use Rattle.std.specs.Option.{ForSome}
+use Rattle.urna_outside.specs.Confined.{count_syncs}
+use Rattle.urna_outside.specs.Faults.{EndsAt, IsFaultless}
+use Rattle.urna_outside.specs.Flash.{Op, Put, Sync, Show, Flashes, after}
+use Rattle.urna_outside.specs.ShownLines.{IsCutShort, shows}
+use Rattle.urna_outside.specs.Stop.{AtEachStop, Left}
+use Rattle.urna_outside.specs.Told.{Told, Does, Runs}
+use Rattle.urna_outside.specs.declared.device.Port.{Port}
+use Rattle.urna_outside.specs.declared.device.Port.TheVariants as port
+use Rattle.election_tables.specs.TablesData.{TablesData}
+use Rattle.image_codec.specs.State.{State}
+use Rattle.twin_image.specs.Twin.{IsOfTwin}
+use Rattle.state_store.specs.Calls.{KeepFrames, both_synced}
+use Rattle.state_store.specs.Held.{held_alone, held_by_both}
+use Rattle.state_store.specs.Rest.{AreAtRest, body_size}
+use Rattle.state_store.specs.Steps.{Step, commits_in, commits_reached, lines_in, state_after, text_in}
+use Rattle.state_store.specs.declared.load.Load.{Load}
+
+-- the shows among some operations, in order
+abbrev pub shows_in : List Op → List Op
+shows_in [] = []
+shows_in (Put d at bytes ∷ ops) = shows_in ops
+shows_in (Sync d ∷ ops) = shows_in ops
+shows_in (Show bytes ∷ ops) = Show bytes ∷ shows_in ops
+
+-- a write of the slots' gates and bodies alone, a sync or a show
+abbrev pub IsOfSession : Op → Type 0
+IsOfSession (Put d at bytes) = (k : ℕ) → at ≤ k → k < at + length bytes → IsOfTwin body_size k
+IsOfSession (Sync d) = Unit {0}
+IsOfSession (Show bytes) = Unit {0}
+
+-- the state of that number, or the next one if there is one
+abbrev pub IsStateOrNext : List State → ℕ → Option State → Type 0
+IsStateOrNext states c held = IsSome held × ((held ≡ slice_get states c) ⊎ (held ≡ slice_get states (c + 1)))
+
+-- What a power cut leaves while the steps are put out from a state. The shown text is a front of the whole. Where it reaches into c
+-- of the lines that tell a state, both flashes, and each alone, hold the state of number c, from the one at the start, or the next.
+pub record Follows (t : TablesData) (voters : ℕ) (s : State) (steps : List Step) (left : Left) : Type 0 where
+  pub rest : List ℕ
+  pub front : text_in steps ≡ left.shown ++ rest
+  pub both : IsStateOrNext (s ∷ commits_in steps) (commits_reached steps (length left.shown)) (held_by_both t voters left.internal left.external)
+  pub internal : IsStateOrNext (s ∷ commits_in steps) (commits_reached steps (length left.shown)) (held_alone t voters left.internal)
+  pub external : IsStateOrNext (s ∷ commits_in steps) (commits_reached steps (length left.shown)) (held_alone t voters left.external)
+
+-- what holds of the operations while the steps are put out, whole or up to a fault
+pub record Plays (t : TablesData) (load : Load) (s : State) (steps : List Step) (start : Option Flashes) (ops : List Op) : Type 0 where
+  pub slots : AllByRecursion IsOfSession ops
+  pub syncs : count_syncs ops ≤ 12 * length (commits_in steps)
+  pub idle : commits_in steps ≡ [] → ops ≡ shows_in ops
+  pub stops : ForSome start (λ flashes. AtEachStop flashes ops (λ left. Follows t load.section.voters s steps left × KeepFrames flashes left))
+
+-- All steps were put out, one show a line, and no call failed. Both flashes are at rest with the state after them.
+pub record HasPut (t : TablesData) (load : Load) (s : State) (steps : List Step) (old new : Told) : Type 0 where
+  pub ops : List Op
+  pub does : Does ops old new
+  pub plays : Plays t load s steps old.flashes ops
+  pub shown : shows_in ops ≡ shows (lines_in steps)
+  pub rest : ForSome new.flashes (AreAtRest load (state_after s steps))
+  pub fine : IsFaultless old new
+
+-- Where the call was cut off, by the port that failed: the display in one of the lines, or a flash in the commit before a line.
+abbrev pub IsCutAt : Port → List Step → List Op → Type 0
+IsCutAt port.Display steps shown = IsCutShort (lines_in steps) shown
+IsCutAt port.Internal steps shown =
+    (before : List Step) × (step : Step) × (behind : List Step) × (steps ≡ before ++ step ∷ behind) × IsSome step.commit × (shown ≡ shows (lines_in before))
+IsCutAt port.External steps shown =
+    (before : List Step) × (step : Step) × (behind : List Step) × (steps ≡ before ++ step ∷ behind) × IsSome step.commit × (shown ≡ shows (lines_in before))
+
+-- A port failed while the steps were put out, and no call of the machine was made after it. Where it was the display, both flashes
+-- are at rest with one of the states.
+pub record HasStopped (t : TablesData) (load : Load) (s : State) (steps : List Step) (at : Port) (old new : Told) : Type 0 where
+  pub ops : List Op
+  pub does : Does ops old new
+  pub plays : Plays t load s steps old.flashes ops
+  pub cut : IsCutAt at steps (shows_in ops)
+  pub rest : at ≡ port.Display → (u : State) × Contains (s ∷ commits_in steps) u × ForSome new.flashes (AreAtRest load u)
+  pub fault : EndsAt at old new
+
+-- A call puts these steps out: all of them where it is Ok, and up to a fault of the port that it answers where it isn't.
+abbrev pub Puts : {T E : Type 0} → (E → Port) → Result T E → TablesData → Load → State → List Step → Told → Told → Type 0
+Puts port_in (Ok x) t load s steps old new = HasPut t load s steps old new
+Puts port_in (Err e) t load s steps old new = HasStopped t load s steps (port_in e) old new
+
+-- What a power cut leaves of a call that puts the steps out from the state that it found: before the first byte both flashes
+-- together hold that state, and from it on they follow the text. The frames stay.
+abbrev pub Survives : TablesData → Load → State → List Step → Flashes → Left → Type 0
+Survives t load s steps start left =
+    (left.shown ≡ [] → held_by_both t load.section.voters left.internal left.external ≡ Some s)
+    × (0 < length left.shown → Follows t load.section.voters s steps left)
+    × KeepFrames start left
+
+-- A call synced both flashes, and at each stop behind that it leaves so much, wherever the power went.
+abbrev pub IsSafe : TablesData → Load → State → List Step → Told → Told → Type 0
+IsSafe t load s steps old new =
+    Runs (λ ops. (rest : List Op) × (ops ≡ both_synced ++ rest)
+    × ForSome old.flashes (λ start. AtEachStop (after both_synced start) rest (Survives t load s steps start))) old new

@@ -1,0 +1,155 @@
+//! Looking at the frame of a device: its header and the paddings behind its gates.
+ghost use Rattle.std.specs.Prelude.{◌≡◌, ◌≤◌, ◌+◌, ◌↔◌, [], length, take, drop, IsTrue, IfOk, IfErr, IfSome, IfNone, MatchResult};
+ghost use Rattle.std.specs.Int.{w32, from_be_bytes};
+ghost use Rattle.std.specs.Option.{ForSome};
+ghost use Rattle.urna_outside.specs.Faults.{FailsAt, IsFaultless};
+ghost use Rattle.urna_outside.specs.Flash.{flash_of, part};
+ghost use Rattle.urna_outside.specs.Told.{Does, port_of, size_of};
+ghost use Rattle.urna_outside.specs.declared.device.Dev.TheVariants as dev;
+ghost use Rattle.election_tables.specs.TablesData.{IsTables, section_with};
+ghost use Rattle.twin_image.specs.Frame.{HasFrame};
+ghost use Rattle.urna_outside.specs.declared.device.Dev.{Dev};
+ghost use Rattle.state_store.specs.Held.{AreLoaded, HasFrameOf, HasNoFrame, IsForeign};
+ghost use Rattle.state_store.specs.Looking.{EndsLooking};
+ghost use Rattle.state_store.specs.Load.{IsSectionOf};
+ghost use Rattle.state_store.specs.Rest.{body_size, device_size};
+
+use crate::load::{HEADER_SIZE, header};
+use election_tables::{Roll, Section, Tables};
+use urna_base::be32;
+use urna_outside::{Dev, Machine};
+
+const PADDING: [u8; 511] = [0; 511];
+
+/// Where the padding behind the gate of slot 0 begins, and that of slot 1.
+const FIRST_PADDING: u32 = 513;
+
+const SECOND_PADDING: u32 = 66_561;
+
+/// Where the zone and the section stand in a header, in four bytes each.
+const ZONE: u32 = 9;
+
+/// Whether these bytes, of which there are at most 512, stand on a device from a place on. It reads and does nothing else.
+pub(crate) fn stand_at<M: Machine>(m: &mut M, dev: Dev, at: u32, bytes: &[u8]) -> Result<bool, Dev>
+    requires range { at + length bytes.now ≤ size_of dev (M.told m.old).sizes }
+    requires short { length bytes.now ≤ 512 }
+    ensures stand { IfOk result (λ stand. ForSome (M.told m.old).flashes
+        (λ flashes. IsTrue stand ↔ (part (flash_of dev flashes).content at (length bytes.now) ≡ bytes.now))) }
+    ensures dev { IfErr result (λ failed. failed ≡ dev) }
+    ensures done { Does [] (M.told m.old) (M.told m.new) }
+    ensures fails { FailsAt port_of result (M.told m.old) (M.told m.new) }
+{
+    let mut buffer = [0; HEADER_SIZE];
+    let read = &mut buffer[..bytes.len()];
+    match m.read(dev, at, read) {
+        Ok(()) => Ok(*read == *bytes),
+        Err(_) => Err(dev),
+    }
+}
+
+/// Whether a device has this header, and zeros behind both gates. It reads and does nothing else.
+#[tactic(auto, using(crate::proofs::Looking::looked, crate::proofs::Looking::looked_twice, crate::proofs::Looking::fails_looking))]
+fn has_frame<M: Machine>(m: &mut M, dev: Dev, header: &[u8; 512]) -> Result<bool, Dev>
+    requires { size_of dev (M.told m.old).sizes ≡ device_size }
+    ensures frame { IfOk result (λ has. ForSome (M.told m.old).flashes
+        (λ flashes. IsTrue has ↔ HasFrame body_size header.now (flash_of dev flashes).content)) }
+    ensures dev { IfErr result (λ failed. failed ≡ dev) }
+    ensures done { Does [] (M.told m.old) (M.told m.new) }
+    ensures fails { FailsAt port_of result (M.told m.old) (M.told m.new) }
+{
+    if !stand_at(m, dev, 0, header)? {
+        return Ok(false);
+    }
+    if !stand_at(m, dev, FIRST_PADDING, &PADDING)? {
+        return Ok(false);
+    }
+    let padded = stand_at(m, dev, SECOND_PADDING, &PADDING)?;
+    Ok(padded)
+}
+
+/// The section of the tables whose zone and number are written in eight bytes.
+fn section_at(tables: &Tables, place: [u8; 8]) -> Option<Section>
+    ensures section { result ≡ section_with (from_be_bytes w32 (take 4 place)) (from_be_bytes w32 (drop 4 place)) tables.now.sections }
+    ensures tables { IsTables tables.now }
+{
+    let [a, b, c, d, e, f, g, h] = place;
+    tables.find_section(be32([a, b, c, d]), be32([e, f, g, h]))
+}
+
+/// The section of the tables that the internal frame names: with as many voters as the roll, and with its load's frame. It reads
+/// and does nothing else.
+fn named_section<M: Machine>(
+    tables: &Tables,
+    roll: &Roll,
+    m: &mut M,
+) -> Result<Option<Section>, Dev>
+    requires { size_of dev.Internal (M.told m.old).sizes ≡ device_size }
+    ensures section { IfOk result (λ found. IfSome found (IsSectionOf tables.now roll.now)) }
+    ensures frame { IfOk result (λ found. ForSome (M.told m.old).flashes (λ flashes.
+        IfSome found (λ section. HasFrameOf tables.now roll.now section dev.Internal flashes.internal.content))) }
+    ensures none { IfOk result (λ found. ForSome (M.told m.old).flashes (λ flashes.
+        IfNone found (HasNoFrame tables.now roll.now flashes.internal.content))) }
+    ensures dev { IfErr result (λ failed. failed ≡ dev.Internal) }
+    ensures done { Does [] (M.told m.old) (M.told m.new) }
+    ensures fails { FailsAt port_of result (M.told m.old) (M.told m.new) }
+{
+    let mut place = [0; 8];
+    let Ok(()) = m.read(Dev::Internal, ZONE, &mut place) else {
+        return Err(Dev::Internal);
+    };
+    let Some(section) = section_at(tables, place) else {
+        return Ok(None);
+    };
+    if section.voters != roll.len() {
+        return Ok(None);
+    }
+    if !has_frame(
+        m,
+        Dev::Internal,
+        &header(tables, roll, section, Dev::Internal),
+    )? {
+        return Ok(None);
+    }
+    Ok(Some(section))
+}
+
+/// Why no section's frame stands on both devices.
+#[derive(Clone, Copy, Debug, PartialEq, Eq)]
+pub(crate) enum FrameError {
+    /// The device failed.
+    Flash(Dev),
+    /// The device has another frame.
+    Foreign(Dev),
+}
+
+/// The section whose load both devices have the frame of. It reads and does nothing else.
+pub(crate) fn loaded_section<M: Machine>(
+    tables: &Tables,
+    roll: &Roll,
+    m: &mut M,
+) -> Result<Section, FrameError>
+    requires internal { size_of dev.Internal (M.told m.old).sizes ≡ device_size }
+    requires external { size_of dev.External (M.told m.old).sizes ≡ device_size }
+    ensures section { IfOk result (IsSectionOf tables.now roll.now) }
+    ensures loaded { IfOk result (λ section. ForSome (M.told m.old).flashes
+        (λ flashes. AreLoaded tables.now roll.now section flashes.internal.content flashes.external.content)) }
+    ensures foreign { IfErr result (λ error. (d : Dev) → error ≡ FrameError.Foreign d → ForSome (M.told m.old).flashes
+        (λ flashes. IsForeign tables.now roll.now d flashes.internal.content flashes.external.content)) }
+    ensures done { Does [] (M.told m.old) (M.told m.new) }
+    ensures fails { MatchResult result (λ section. IsFaultless (M.told m.old) (M.told m.new))
+        (λ error. EndsLooking error (M.told m.old) (M.told m.new)) }
+{
+    let found = match named_section(tables, roll, m) {
+        Ok(found) => found,
+        Err(dev) => return Err(FrameError::Flash(dev)),
+    };
+    let Some(section) = found else {
+        return Err(FrameError::Foreign(Dev::Internal));
+    };
+    let header = header(tables, roll, section, Dev::External);
+    match has_frame(m, Dev::External, &header) {
+        Ok(true) => Ok(section),
+        Ok(false) => Err(FrameError::Foreign(Dev::External)),
+        Err(dev) => Err(FrameError::Flash(dev)),
+    }
+}

@@ -1,0 +1,18 @@
+//! The state of a poll, kept on two flashes.
+//!
+//! `Store::format` loads both flashes with a poll before it begins, `Store::recover` finds the poll that they hold after
+//! any power cut, and `Store::commit` brings both to a state of greater rank. `specs/Held.antt` says what flashes hold,
+//! `specs/Rest.antt` when they are at rest or in use, `specs/Calls.antt` what the calls do, also where the power goes.
+#![tactic(auto)]
+
+mod find;
+mod frame;
+mod in_use;
+mod load;
+mod ranks;
+mod room;
+mod store;
+mod sync;
+
+pub use load::{Load, header};
+pub use store::{LoadError, Store, StoreError};

@@ -1,0 +1,35 @@
+//! The memory of a store.
+ghost use Rattle.std.specs.Prelude.{◌≡◌, ◌≤◌, length, IfOk};
+ghost use Rattle.image_codec.specs.Valid.{ready_state};
+
+use election_tables::Tables;
+use image_codec::State;
+use std::alloc::Global;
+use twin_image::Twin;
+use urna_base::Memory;
+
+/// The bytes of a body.
+pub(crate) const BODY_SIZE: usize = 65_536;
+
+/// All the memory that a store and its state take: the buffers of a survey, a state, and where a next body is written.
+#[derive(Drop)]
+pub(crate) struct Room {
+    pub(crate) twin: Twin<BODY_SIZE>,
+    pub(crate) state: State,
+    pub(crate) next: Vec<u8>,
+    pub(crate) ghost whole: { length next.items ≡ 65536 },
+}
+
+impl Room {
+    /// Room for a poll of these tables and so many voters, and its state before it begins.
+    pub(crate) fn new(alloc: Global, tables: &Tables, voters: u32) -> Result<Room, Memory>
+        requires { voters ≤ 600 }
+        ensures { IfOk result (λ room. room.state ≡ ready_state tables.now voters) }
+    {
+        Ok(Room {
+            twin: Twin::new(alloc)?,
+            state: State::ready(alloc, tables, voters)?,
+            next: vec![in alloc; 0; BODY_SIZE]?,
+        })
+    }
+}

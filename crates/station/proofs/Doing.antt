@@ -1,0 +1,147 @@
+-- Acts that are done one after another
+use Rattle.std.proofs.Common.{◌≡◌, ◌≤◌, ◌<◌, ◌+◌, ℕ, List, [], ◌∷◌, ◌++◌, length, map, take, drop, get_or, Result, Ok, Err, refl, sym, ap, subst, ◌∙◌, arith, add-one, drop-cons}
+use Rattle.urna_outside.specs.Told.{Told, Sizes}
+use Rattle.election_tables.specs.Roll.{RollData}
+use Rattle.election_tables.specs.TablesData.{TablesData}
+use Rattle.image_codec.specs.Encoding.{IsStateOf}
+use Rattle.image_codec.specs.State.{State}
+use Rattle.state_store.specs.Played.{HasPut}
+use Rattle.state_store.specs.Steps.{Step, state_after}
+use Rattle.state_store.specs.Store.{AreDevices, IsLoadedWith, Keeps, StoreData}
+use Rattle.state_store.specs.declared.load.Load.{Load}
+use Rattle.state_store.proofs.Counting.{state_after-append}
+use Rattle.state_store.proofs.Playing.{put_nothing, put_to}
+use Rattle.state_store.proofs.Stored.{stored}
+use Rattle.station.specs.Acts.{output_of, outputs_of}
+use Rattle.station.specs.Doing.{AreDoable, MayDo, MayDoAll, kept_after}
+use Rattle.station.specs.Text.{output_steps, session_steps}
+use Rattle.station.specs.declared.act.Act.{Act}
+use Rattle.key_script.specs.Event.{IsEvent}
+use Rattle.key_script.specs.declared.keys.Event.{Event}
+use Rattle.poll_report.specs.Counts.{count_lines}
+use Rattle.std.specs.List.{AllByRecursion}
+use Rattle.state_store.specs.Steps.{quiet}
+use Rattle.station.specs.Acts.{IsAct, act_of, last_state}
+use Rattle.station.specs.Output.{Output, Says, Commits, Reports}
+use Rattle.station.specs.Press.{Pressed, press}
+use Rattle.station.specs.Setting.{setting_of}
+use Rattle.station.specs.Station.{IsStationed, StationData}
+use Rattle.station.specs.Text.{title_text}
+use Rattle.station.proofs.Faithful.{press_faithful}
+use Rattle.station.proofs.Leading.{Leads, press_leads}
+use Rattle.station.proofs.Performing.{press_acts, tables_printable, tables_setting}
+use Rattle.station.proofs.Stepping.{press_stands}
+use Rattle.station.proofs.Steps.{acts_more, after_quiet, full_steps, kept_by_act}
+
+-- The first acts are done over a state, from what the store kept first, and the rest may be.
+pub record ActsDone (t : TablesData) (r : RollData) (u : State) (first now : StoreData) (done rest : List Act) (old new : Told) : Type 0 where
+  pub load : now.load ≡ first.load
+  pub loaded : IsLoadedWith t r now.load
+  pub state : IsStateOf t now.load.section.voters u
+  pub devices : AreDevices new.sizes
+  pub kept : (s : State) → Keeps t old first s → Keeps t new now (state_after s (session_steps t (outputs_of u done)))
+  pub put : (s : State) → Keeps t old first s → HasPut t first.load s (session_steps t (outputs_of u done)) old new
+  pub may : AreDoable t new now u rest
+
+-- before the first act
+pub acts_begin : (t : TablesData) (r : RollData) (u : State) (first : StoreData) (acts : List Act) (a : Told) → IsLoadedWith t r first.load → IsStateOf t first.load.section.voters u
+    → AreDevices a.sizes → AreDoable t a first u acts → ActsDone t r u first first [] acts a a
+acts_begin t r u first acts a loaded state devices may =
+    record {
+      load = refl;
+      loaded = loaded;
+      state = state;
+      devices = devices;
+      kept = λ s kept. kept;
+      put = λ s kept. put_nothing t first.load s a (stored t r first.load s loaded kept.encoding.state) kept.rest;
+      may = may;
+    }
+
+-- an act more
+pub acts_go_on : (t : TablesData) (r : RollData) (u : State) (first now next : StoreData) (acts : List Act) (i : ℕ) (d : Act) (a b c : Told) → i < length acts
+    → ActsDone t r u first now (take i acts) (drop i acts) a b → next.load ≡ now.load
+    → ((s : State) → Keeps t b now s → Keeps t c next (state_after s (output_steps t (output_of u (get_or acts i d)))))
+    → ((s : State) → Keeps t b now s → HasPut t now.load s (output_steps t (output_of u (get_or acts i d))) b c)
+    → ActsDone t r u first next (take (i + 1) acts) (drop (i + 1) acts) a c
+acts_go_on t r u first now next acts i d a b c below h same kept put =
+    record {
+      load = same ∙ h.load;
+      loaded = subst (λ (l : Load). IsLoadedWith t r l) (sym same) h.loaded;
+      state = subst (λ (l : Load). IsStateOf t l.section.voters u) (sym same) h.state;
+      devices = subst AreDevices (sym (put h.may.state h.may.kept).does.sizes) h.devices;
+      kept = λ s before. subst (λ (x : State). Keeps t c next x) (sym (after s)) (kept (state_after s front) (h.kept s before));
+      put = λ s before.
+          put_to t first.load s front step all a b c (acts_more t u acts i d below) (full_steps t (outputs_of u (take i acts))) (h.put s before)
+          (subst (λ (l : Load). HasPut t l (state_after s front) step b c) h.load (put (state_after s front) (h.kept s before)));
+      may =
+          record {
+            state = state_after h.may.state step;
+            kept = kept h.may.state h.may.kept;
+            may = subst (λ (x : State). MayDoAll x u (drop (i + 1) acts)) (sym (kept_by_act t h.may.state u (get_or acts i d))) now_may.1;
+          };
+    }
+  where
+    split : drop i acts ≡ get_or acts i d ∷ drop (i + 1) acts
+    split = rw (add-one, drop-cons acts i d) refl
+
+    now_may : MayDoAll h.may.state u (get_or acts i d ∷ drop (i + 1) acts)
+    now_may = subst (MayDoAll h.may.state u) split h.may.may
+
+    front : List Step
+    front = session_steps t (outputs_of u (take i acts))
+
+    step : List Step
+    step = output_steps t (output_of u (get_or acts i d))
+
+    all : List Step
+    all = session_steps t (outputs_of u (take (i + 1) acts))
+
+    after : (s : State) → state_after s all ≡ state_after (state_after s front) step
+    after s = ap (state_after s) (acts_more t u acts i d below) ∙ state_after-append s front step
+
+-- An event at a station
+
+-- the state after the steps of some outputs
+pub state_after_outputs : (t : TablesData) (s : State) (out : List Output) → state_after s (session_steps t out) ≡ last_state s out
+state_after_outputs t s [] = refl
+state_after_outputs t s (Says l ∷ out) = state_after_outputs t s out
+state_after_outputs t s (Commits u l ∷ out) = state_after_outputs t u out
+state_after_outputs t s (Reports title u ∷ out) =
+    state_after-append s (quiet (title_text title ∷ count_lines t u.bags)) (session_steps t out)
+    ∙ ap (λ (x : State). state_after x (session_steps t out)) (after_quiet s (title_text title ∷ count_lines t u.bags)) ∙ state_after_outputs t s out
+
+module _ (t : TablesData) (r : RollData) (told : Told) (x : StationData) (e : Event) (valid : IsEvent e) (is : IsStationed t r told x) where
+  abbrev pressed : Pressed
+  pressed = press (setting_of t r.titles) x.standing e
+
+  voters_are : x.store.load.section.voters ≡ length r.titles
+  voters_are = is.load.section.voters
+
+  leads : Leads t (length r.titles) x.standing.state pressed
+  leads =
+      press_leads t r.titles x.standing e (subst (λ (n : ℕ). IsStateOf t n x.standing.state) voters_are is.kept.encoding.state) valid is.stands
+
+  pub event_acts : AllByRecursion IsAct (map act_of pressed.out)
+  event_acts =
+      press_acts (setting_of t r.titles) x.standing e (tables_setting t r.titles is.load.tables) (tables_printable t r.titles is.load.tables) valid is.stands
+
+  pub event_state : IsStateOf t x.store.load.section.voters pressed.standing.state
+  event_state = subst (λ (n : ℕ). IsStateOf t n pressed.standing.state) (sym voters_are) leads.state
+
+  pub event_doable : AreDoable t told x.store pressed.standing.state (map act_of pressed.out)
+  event_doable = record { state = x.standing.state; kept = is.kept; may = leads.may }
+
+  pub event_steps : session_steps t (outputs_of pressed.standing.state (map act_of pressed.out)) ≡ session_steps t pressed.out
+  event_steps = ap (session_steps t) (press_faithful (setting_of t r.titles) x.standing e).acts
+
+  pub event_after : state_after x.standing.state (session_steps t pressed.out) ≡ pressed.standing.state
+  event_after = state_after_outputs t x.standing.state pressed.out ∙ (press_faithful (setting_of t r.titles) x.standing e).last
+
+  -- the station that stands after it
+  pub event_stationed : (new : Told) (store : StoreData) → store.load ≡ x.store.load → Keeps t new store pressed.standing.state → IsStationed t r new (record { standing = pressed.standing; store = store })
+  event_stationed new store same kept =
+      record {
+        stands = press_stands (setting_of t r.titles) x.standing e (tables_setting t r.titles is.load.tables) valid is.stands;
+        load = subst (λ (l : Load). IsLoadedWith t r l) (sym same) is.load;
+        kept = kept;
+      }

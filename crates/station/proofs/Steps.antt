@@ -1,0 +1,177 @@
+-- The steps of a session: their lines, their states, and what is kept over them
+use Rattle.std.proofs.Common.{◌≡◌, ◌≤◌, ◌<◌, ◌+◌, ℕ, zero, suc, List, [], ◌∷◌, ◌++◌, map, length, take, drop, get_or, Option, Some, None, refl, sym, ap, subst, ◌∙◌, arith, append_assoc, length-append}
+use Rattle.std.specs.Prelude.{codes}
+use Rattle.std.specs.Fmt.{decimal}
+use Rattle.std.specs.Option.{ForSome}
+use Rattle.std.specs.List.{AllByRecursion}
+use Rattle.std.proofs.lemmas.List.{map-append, take_more, take-append-drop, append-nil}
+use Rattle.std.proofs.lemmas.Grind.{flat_map-append}
+use Rattle.urna_outside.specs.ShownLines.{HasShown}
+use Rattle.urna_outside.specs.Told.{Told}
+use Rattle.election_tables.specs.Roll.{RollData}
+use Rattle.election_tables.specs.TablesData.{TablesData}
+use Rattle.image_codec.specs.State.{State}
+use Rattle.state_store.specs.Rest.{AreAtRest}
+use Rattle.state_store.specs.Steps.{AreFull, Step, lines_in, quiet, state_after, telling}
+use Rattle.state_store.specs.Store.{IsLoadedWith, Keeps, StoreData}
+use Rattle.state_store.proofs.Playing.{put_shown}
+use Rattle.state_store.proofs.Stored.{stored}
+use Rattle.election_tables.specs.declared.office.Kind.{Kind}
+use Rattle.election_tables.specs.declared.office.Kind.TheVariants as kind
+use Rattle.election_tables.specs.declared.tables.panels.Panel.{Panel}
+use Rattle.vote_kinds.specs.declared.choice.Choice.{Choice}
+use Rattle.vote_kinds.specs.declared.choice.Choice.TheVariants as choice
+use Rattle.vote_record.specs.Bag.{bag_at, count_of}
+use Rattle.turnout.specs.declared.phase.Phase.{Phase}
+use Rattle.turnout.specs.declared.phase.Phase.TheVariants as phase
+use Rattle.poll_report.specs.Counts.{candidate_line, candidate_lines, count_lines, kind_lines, lines_of_panels, panel_lines, party_line, total_lines, votes_line}
+use Rattle.station.specs.declared.line.Line.{Line}
+use Rattle.station.specs.declared.line.Line.TheVariants as line
+use Rattle.station.specs.declared.line.Title.{Title}
+use Rattle.station.specs.declared.line.Title.TheVariants as title
+use Rattle.station.specs.Acts.{act_of, output_of, outputs_of}
+use Rattle.station.specs.Doing.{MayDo, MayDoAll, kept_after}
+use Rattle.station.specs.Output.{Output, Says, Commits, Reports}
+use Rattle.station.specs.Text.{line_text, output_lines, output_steps, session_lines, session_steps, title_text}
+use Rattle.station.specs.declared.act.Act.{Act}
+use Rattle.station.specs.declared.act.Act.TheVariants.{Say, Commit, Report}
+
+-- lines that tell no state leave the state
+pub after_quiet : (s : State) (lines : List (List ℕ)) → state_after s (quiet lines) ≡ s
+after_quiet s [] = refl
+after_quiet s (line ∷ lines) = after_quiet s lines
+
+-- shown lines leave what a store keeps
+pub keeps_shown : (t : TablesData) (r : RollData) (store : StoreData) (s : State) (lines : List (List ℕ)) (a b : Told) → IsLoadedWith t r store.load → Keeps t a store s → HasShown lines a b
+    → Keeps t b store (state_after s (quiet lines))
+keeps_shown t r store s lines a b loaded kept shown =
+    let put = put_shown t store.load s lines a b (stored t r store.load s loaded kept.encoding.state) kept.rest shown in
+    let same = after_quiet s lines in
+    subst (λ (u : State). Keeps t b store u) (sym same) (record {
+      encoding = kept.encoding;
+      rest = subst (λ (u : State). ForSome b.flashes (AreAtRest store.load u)) same put.rest;
+    })
+
+-- No line is empty
+
+full_end : (xs : List ℕ) → 0 < length (xs ++ 10 ∷ [])
+full_end xs = omega (arith, length-append xs (10 ∷ []))
+
+abbrev IsFullLine : List ℕ → Type 0
+IsFullLine line = 0 < length line
+
+full_lines-append : (xs ys : List (List ℕ)) → AllByRecursion IsFullLine xs → AllByRecursion IsFullLine ys → AllByRecursion IsFullLine (xs ++ ys)
+full_lines-append [] ys first second = second
+full_lines-append (x ∷ xs) ys first second = (first.0, full_lines-append xs ys first.1 second)
+
+full_map : {A : Type 0} (f : A → List ℕ) (xs : List A) → ((x : A) → IsFullLine (f x)) → AllByRecursion IsFullLine (map f xs)
+full_map f [] all = tt
+full_map f (x ∷ xs) all = (all x, full_map f xs all)
+
+full_votes : (number votes : ℕ) → IsFullLine (votes_line number votes)
+full_votes number votes = full_end (decimal number ++ codes " " ++ decimal votes)
+
+full_kind : (k : Kind) (t : TablesData) (bag : List Choice) → AllByRecursion IsFullLine (kind_lines k t bag)
+full_kind kind.Proportional t bag = full_map (party_line bag) t.parties (λ q. full_votes q.number (count_of (choice.Party q.number) bag))
+full_kind kind.Absolute t bag = tt
+full_kind kind.Simple t bag = tt
+
+full_panels : (t : TablesData) (bags : List (List Choice)) (first : ℕ) (panels : List Panel) → AllByRecursion IsFullLine (lines_of_panels t bags first panels)
+full_panels t bags first [] = tt
+full_panels t bags first (p ∷ panels) =
+    let bag = bag_at bags first in
+    let totals : AllByRecursion IsFullLine (total_lines bag) = (omega arith, (omega arith, (omega arith, tt))) in
+    full_lines-append (panel_lines t p bag) (lines_of_panels t bags (first + 1) panels) (
+      omega arith,
+      full_lines-append (candidate_lines p.candidates bag) (kind_lines p.office.kind t bag ++ total_lines bag)
+          (full_map (candidate_line bag) p.candidates (λ c. full_votes c.number (count_of (choice.Nominal c.number) bag))) (full_lines-append (kind_lines p.office.kind t bag) (total_lines bag) (full_kind p.office.kind t bag) totals),
+    )
+    (full_panels t bags (first + 1) panels)
+
+full_counts : (t : TablesData) (bags : List (List Choice)) → AllByRecursion IsFullLine (count_lines t bags)
+unfolding count_lines
+full_counts t bags = full_panels t bags 0 t.panels
+
+full_title : (title : Title) → IsFullLine (title_text title)
+full_title title.Zeresima = omega arith
+full_title title.Boletim = omega arith
+
+full_poll : (t : TablesData) (p : Phase) (came : ℕ) → IsFullLine (line_text t (line.Poll p came))
+full_poll t phase.Ready came = omega arith
+full_poll t (phase.Polling opened) came = omega arith
+full_poll t (phase.Sealed opened closed) came = omega arith
+
+pub full_line : (t : TablesData) (l : Line) → 0 < length (line_text t l)
+full_line t (line.Poll p came) = full_poll t p came
+full_line t (line.Refused n) = omega arith
+full_line t (line.Voter number) = omega arith
+full_line t line.Released = omega arith
+full_line t line.Canceled = omega arith
+full_line t line.Suspended = omega arith
+full_line t (line.Ballot number code) = omega arith
+full_line t (line.Screen panel f chosen) = omega arith
+full_line t (line.Opened m) = omega arith
+full_line t line.Ended = omega arith
+full_line t (line.Sealed m came) = omega arith
+
+pub full_quiet : (lines : List (List ℕ)) → AllByRecursion IsFullLine lines → AreFull (quiet lines)
+full_quiet [] all = tt
+full_quiet (x ∷ xs) all = (all.0, full_quiet xs all.1)
+
+full_output : (t : TablesData) (o : Output) → AreFull (output_steps t o)
+full_output t (Says l) = (full_line t l, tt)
+full_output t (Commits s l) = (full_line t l, tt)
+full_output t (Reports title s) = full_quiet (title_text title ∷ count_lines t s.bags) (full_title title, full_counts t s.bags)
+
+full-append : (xs ys : List Step) → AreFull xs → AreFull ys → AreFull (xs ++ ys)
+full-append [] ys first second = second
+full-append (x ∷ xs) ys first second = (first.0, full-append xs ys first.1 second)
+
+pub full_steps : (t : TablesData) (out : List Output) → AreFull (session_steps t out)
+full_steps t [] = tt
+full_steps t (o ∷ out) = full-append (output_steps t o) (session_steps t out) (full_output t o) (full_steps t out)
+
+-- Acts in order
+
+outputs_of-append : (s : State) (a b : List Act) → outputs_of s (a ++ b) ≡ outputs_of s a ++ outputs_of s b
+outputs_of-append s [] b = refl
+outputs_of-append s (x ∷ a) b = ap (λ (o : List Output). output_of s x ∷ o) (outputs_of-append s a b)
+
+steps-append : (t : TablesData) (s : State) (a b : List Act) → session_steps t (outputs_of s (a ++ b)) ≡ session_steps t (outputs_of s a) ++ session_steps t (outputs_of s b)
+steps-append t s a b = ap (session_steps t) (outputs_of-append s a b) ∙ flat_map-append (output_steps t) (outputs_of s a) (outputs_of s b)
+
+-- the acts up to an index, and one more
+pub acts_more : (t : TablesData) (s : State) (acts : List Act) (i : ℕ) (d : Act) → i < length acts
+    → session_steps t (outputs_of s (take (i + 1) acts)) ≡ session_steps t (outputs_of s (take i acts)) ++ output_steps t (output_of s (get_or acts i d))
+acts_more t s acts i d h =
+    ap (λ (a : List Act). session_steps t (outputs_of s a)) (take_more acts i d h)
+    ∙ (steps-append t s (take i acts) (get_or acts i d ∷ [])
+    ∙ ap (λ (ls : List Step). session_steps t (outputs_of s (take i acts)) ++ ls) (append-nil (output_steps t (output_of s (get_or acts i d)))))
+
+pub acts_rest : (t : TablesData) (s : State) (acts : List Act) (i : ℕ) (d : Act) → i < length acts
+    → session_steps t (outputs_of s acts)
+    ≡ (session_steps t (outputs_of s (take i acts)) ++ output_steps t (output_of s (get_or acts i d))) ++ session_steps t (outputs_of s (drop (i + 1) acts))
+acts_rest t s acts i d h =
+    ap (λ (a : List Act). session_steps t (outputs_of s a)) (sym (take-append-drop (i + 1) acts))
+    ∙ (steps-append t s (take (i + 1) acts) (drop (i + 1) acts)
+    ∙ ap (λ (ls : List Step). ls ++ session_steps t (outputs_of s (drop (i + 1) acts))) (acts_more t s acts i d h))
+
+-- what is kept after an act is the state after its steps
+pub kept_by_act : (t : TablesData) (s u : State) (act : Act) → state_after s (output_steps t (output_of u act)) ≡ kept_after s u act
+kept_by_act t s u (Say l) = refl
+kept_by_act t s u (Commit l) = refl
+kept_by_act t s u (Report title) = after_quiet s (title_text title ∷ count_lines t u.bags)
+
+-- the lines of the steps are those of the session
+pub lines_of_steps : (t : TablesData) (out : List Output) → lines_in (session_steps t out) ≡ session_lines t out
+lines_of_steps t [] = refl
+lines_of_steps t (o ∷ out) = map-append (λ (x : Step). x.line) (output_steps t o) (session_steps t out) ∙ ap (λ ls. lines_in (output_steps t o) ++ ls) (lines_of_steps t out) ∙ ap (λ ls. ls ++ session_lines t out) (own o)
+  where
+    quiet_lines : (lines : List (List ℕ)) → lines_in (quiet lines) ≡ lines
+    quiet_lines [] = refl
+    quiet_lines (x ∷ xs) = ap (λ (ls : List (List ℕ)). x ∷ ls) (quiet_lines xs)
+
+    own : (o : Output) → lines_in (output_steps t o) ≡ output_lines t o
+    own (Says l) = refl
+    own (Commits s l) = refl
+    own (Reports title s) = quiet_lines (title_text title ∷ count_lines t s.bags)

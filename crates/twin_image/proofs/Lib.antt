@@ -1,0 +1,14 @@
+pub mod Best
+pub mod Committing
+pub mod Framing
+pub mod Healing
+pub mod Holding
+pub mod Laid
+pub mod Laying
+pub mod Loading
+pub mod Looking
+pub mod Mending
+pub mod Renewing
+pub mod Rows
+pub mod Turning
+pub mod Writing

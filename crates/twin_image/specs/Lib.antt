@@ -1,0 +1,11 @@
+pub mod Best
+pub mod Found
+pub mod Frame
+pub mod Heal
+pub mod Held
+pub mod Lay
+pub mod Level
+pub mod Pair
+pub mod Slots
+pub mod Survey
+pub mod Twin

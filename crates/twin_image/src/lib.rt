@@ -1,0 +1,28 @@
+//! The same body in both slots of a flash, and of two flashes.
+//!
+//! The layer above makes a `Twin`, finds by `survey` what both flashes hold, and brings all four slots to it by `heal`,
+//! or loads blank devices by `lay`. Either gives a `Level`, whose `commit` takes the four slots to the next body, so that
+//! at every stop both flashes, and each alone, hold the old body or the new one. `specs/Held.antt` says what slots hold,
+//! `specs/Level.antt` what a level says (cite `Stands` and `body_of`), `specs/Heal.antt` what a heal keeps,
+//! `specs/Frame.antt` and `specs/Lay.antt` what a whole device is and what a load leaves at each stop.
+//! `proofs/Laid.antt` and `proofs/Framing.antt` have the lemmas that tie them.
+#![tactic(auto)]
+
+mod found;
+mod law;
+mod lay;
+mod level;
+mod mend;
+mod ranked;
+mod survey;
+mod turn;
+mod twin;
+mod twins;
+
+pub use found::Found;
+pub use law::held_is_the_first_of_greatest_rank;
+pub use level::Level;
+pub use ranked::Ranked;
+pub use survey::SurveyError;
+pub use twin::Twin;
+pub use twins::renew;

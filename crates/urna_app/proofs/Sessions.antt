@@ -1,0 +1,75 @@
+-- A session over a station that started
+use Rattle.std.proofs.Common.{◌≡◌, ◌++◌, ℕ, List, [], sym, ap, subst}
+use Rattle.urna_outside.specs.Told.{Told, Runs}
+use Rattle.urna_outside.specs.declared.device.Port.{Port}
+use Rattle.election_tables.specs.Roll.{RollData}
+use Rattle.election_tables.specs.TablesData.{TablesData}
+use Rattle.key_script.specs.declared.keys.Event.{Event}
+use Rattle.turnout.specs.Turnout.{number_came}
+use Rattle.image_codec.specs.State.{State}
+use Rattle.state_store.specs.Played.{HasPut, HasStopped, IsSafe, Plays}
+use Rattle.state_store.specs.Steps.{Step}
+use Rattle.state_store.specs.Store.{AreDevices}
+use Rattle.state_store.proofs.Playing.{put_plays, stopped_plays, whole_call}
+use Rattle.station.specs.Output.{Output}
+use Rattle.station.specs.Press.{Standing}
+use Rattle.station.specs.Run.{IsRun}
+use Rattle.station.specs.Setting.{setting_of}
+use Rattle.station.specs.Start.{IsStarted, opening}
+use Rattle.station.specs.Station.{StationData}
+use Rattle.station.specs.Text.{line_text, session_steps}
+use Rattle.station.specs.declared.line.Line.TheVariants.{Poll}
+use Rattle.station.proofs.Steps.{full_line}
+use Rattle.urna_app.specs.Ending.{HasVoted, IsCutShort}
+
+module _ (t : TablesData) (r : RollData) (es : List Event) (a c e : Told) (station : StationData) (is : IsStarted t r station a c) where
+  at_state : station.standing.state ≡ is.state
+  at_state = ap (λ (x : Standing). x.state) is.idle
+
+  -- the devices are as they were
+  pub devices_after : AreDevices a.sizes → AreDevices c.sizes
+  devices_after devices =
+      let recovered = is.opens.recovered.ran.1.sizes in
+      let shown = is.opens.shown.does.sizes in
+      subst AreDevices (sym shown) (subst AreDevices (sym recovered) devices)
+
+  safe : (steps : List Step) → Runs (Plays t station.store.load is.state steps c.flashes) c e
+      → IsSafe t station.store.load is.state (opening t is.state ++ steps) a e
+  safe steps plays =
+      let line = line_text t (Poll is.state.phase (number_came is.state.came)) in
+      whole_call t r station.store.load is.state line [] a is.opens.between c e steps (full_line t (Poll is.state.phase (number_came is.state.came)), tt)
+      is.opens.recovered.ran is.opens.shown plays
+
+  pub voted : (last : State) (out : List Output) → IsRun (setting_of t r.titles) station.standing.state es last out
+      → HasPut t station.store.load station.standing.state (session_steps t out) c e → HasVoted t r es a e
+  voted last out run put =
+      let steps = session_steps t out in
+      let now : HasPut t station.store.load is.state steps c e = subst (λ (s : State). HasPut t station.store.load s steps c e) at_state put in
+      record {
+        load = station.store.load;
+        first = is.state;
+        last = last;
+        out = out;
+        between = c;
+        opens = is.opens;
+        run = subst (λ (s : State). IsRun (setting_of t r.titles) s es last out) at_state run;
+        put = now;
+        survives = safe steps (put_plays t station.store.load is.state steps c e now);
+      }
+
+  pub cut_short : (p : Port) (last : State) (out : List Output) → IsRun (setting_of t r.titles) station.standing.state es last out
+      → HasStopped t station.store.load station.standing.state (session_steps t out) p c e → IsCutShort t r es p a e
+  cut_short p last out run stopped =
+      let steps = session_steps t out in
+      let now : HasStopped t station.store.load is.state steps p c e = subst (λ (s : State). HasStopped t station.store.load s steps p c e) at_state stopped in
+      record {
+        load = station.store.load;
+        first = is.state;
+        last = last;
+        out = out;
+        between = c;
+        opens = is.opens;
+        run = subst (λ (s : State). IsRun (setting_of t r.titles) s es last out) at_state run;
+        stopped = now;
+        survives = safe steps (stopped_plays t station.store.load is.state steps p c e now);
+      }

@@ -1,0 +1,73 @@
+//! The words of a command.
+ghost use Rattle.std.specs.Prelude.{◌≡◌, IfNone, IfSome, List, None, Some, map, string_bytes, ℕ};
+ghost use Rattle.urna_app.specs.Command.{carga_of, place_of, vota_of};
+
+use urna_base::decimal;
+
+/// The names of the files of `vota`.
+#[derive(Clone, Copy)]
+pub(crate) struct VotaNames<'a> {
+    pub tables: &'a str,
+    pub roll: &'a str,
+    pub keys: &'a str,
+}
+
+/// The names of the files of `carga`, and the zone and number of the section.
+#[derive(Clone, Copy)]
+pub(crate) struct CargaNames<'a> {
+    pub tables: &'a str,
+    pub roll: &'a str,
+    pub zone: u32,
+    pub number: u32,
+}
+
+/// `vota TABLES ROLL KEYS OUT`. The last word is not used.
+pub(crate) fn vota_words(words: &[String]) -> Option<VotaNames<'_>>
+    ensures names { IfSome result (λ n. (out : List ℕ) × (vota_of (map string_bytes words.now)
+        ≡ Some (record { tables = n.tables.now; roll = n.roll.now; keys = n.keys.now; out = out }))) }
+    ensures none { IfNone result (vota_of (map string_bytes words.now) ≡ None) }
+{
+    let [command, tables, roll, keys, _] = words else {
+        return None;
+    };
+    if command.as_str() != "vota" {
+        return None;
+    }
+    Some(VotaNames {
+        tables: tables.as_str(),
+        roll: roll.as_str(),
+        keys: keys.as_str(),
+    })
+}
+
+/// `carga TABLES ROLL ZONE SECTION`.
+pub(crate) fn carga_words(words: &[String]) -> Option<CargaNames<'_>>
+    ensures names { IfSome result (λ n. carga_of (map string_bytes words.now)
+        ≡ Some (record { tables = n.tables.now; roll = n.roll.now; zone = n.zone; number = n.number })) }
+    ensures none { IfNone result (carga_of (map string_bytes words.now) ≡ None) }
+{
+    let [command, tables, roll, zone, number] = words else {
+        return None;
+    };
+    if command.as_str() != "carga" {
+        return None;
+    }
+    let zone = place(zone.as_str())?;
+    let number = place(number.as_str())?;
+    Some(CargaNames {
+        tables: tables.as_str(),
+        roll: roll.as_str(),
+        zone,
+        number,
+    })
+}
+
+/// A zone or the number of a section: a decimal from 1 to 9,999.
+fn place(word: &str) -> Option<u32>
+    ensures { result ≡ place_of word.now }
+{
+    match decimal(word.as_bytes()) {
+        Some(number) if 1 <= number && number <= 9999 => Some(number as u32),
+        _ => None,
+    }
+}

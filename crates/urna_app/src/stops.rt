@@ -1,0 +1,251 @@
+//! Power cuts: sessions that are stopped after each operation, and that go on from what is left.
+ghost use Rattle.std.specs.Prelude.{◌≤◌, length};
+ghost use Rattle.urna_outside.specs.Recorder.{trail_of};
+
+use crate::status::Status;
+use crate::tests::{
+    CARGA, Given, Images, NO_KEYS, THREE_VOTERS, TWO_OFFICES, VOTA, copied, left, loaded, run,
+    run_failing, shut,
+};
+use std::process::Abort;
+use std::test::Fail;
+use urna_outside::{Dev, Recorder, Tear};
+
+/// How many operations a commit has.
+const COMMIT: u32 = 24;
+
+/// The two syncs with which a session begins.
+const SYNCS: u32 = 2;
+
+const LOAD: Given = Given {
+    tables: Some(TWO_OFFICES),
+    roll: Some(THREE_VOTERS),
+    ..CARGA
+};
+
+const ON: Given = Given {
+    tables: Some(TWO_OFFICES),
+    roll: Some(THREE_VOTERS),
+    ..NO_KEYS
+};
+
+const OPENS: Given = Given {
+    keys: Some(b"M ABRE 20261004080000\n"),
+    ..ON
+};
+
+const FIRST_VOTER: Given = Given {
+    keys: Some(b"M TITULO 010000000001\nM LIBERA\nE 45C\nE 13C\n"),
+    ..ON
+};
+
+/// An opening and two voters, which has three commits.
+const TWO_VOTERS: Given = Given {
+    keys: Some(
+        b"M ABRE 20261004080000
+M TITULO 010000000001
+M LIBERA
+E 45C
+E 13C
+M TITULO 010000000002
+M LIBERA
+E BC
+E 45C
+",
+    ),
+    ..ON
+};
+
+/// What `vota` shows first where so many commits of that session are held.
+const HELD: [&[u8]; 4] = [
+    b"URNA PRONTA 0\n",
+    b"URNA ABERTA 0\n",
+    b"URNA ABERTA 1\n",
+    b"URNA ABERTA 2\n",
+];
+
+/// What a power cut leaves after the first operations of a machine's trail.
+fn stopped(
+    rt: &(impl Abort + AllocGlobal),
+    m: &Recorder,
+    ops: u32,
+    tear: Tear,
+) -> Result<Images, Fail> {
+    assert!(rt; ops <= m.trail_len());
+    Ok(Images {
+        internal: m.stop(rt.alloc(), Dev::Internal, ops, tear)?,
+        external: m.stop(rt.alloc(), Dev::External, ops, tear)?,
+    })
+}
+
+/// Of these images the one alone: the other device has no open slot.
+fn alone(images: Images, dev: Dev) -> Images {
+    let Images { internal, external } = images;
+    match dev {
+        Dev::Internal => Images {
+            internal,
+            external: shut(external),
+        },
+        Dev::External => Images {
+            internal: shut(internal),
+            external,
+        },
+    }
+}
+
+/// What `vota` without keys shows over some images.
+fn told(rt: &(impl Abort + AllocGlobal), images: Images) -> Result<Vec<u8>, Fail> {
+    let (status, m) = run(rt, ON, images)?;
+    assert_eq!(rt; status, Status::Done);
+    Ok(m.shown().to_vec(rt.alloc())?)
+}
+
+// The commit of the first voter is stopped in its fifth operation, the put of the first gate.
+#[test]
+fn a_commit_stopped_at_its_first_gate(rt: HostRuntime) -> Result<(), Fail> {
+    let (_, opened) = run(&rt, OPENS, loaded(&rt, LOAD)?)?;
+    let (status, voted) = run(&rt, FIRST_VOTER, left(&rt, &opened)?)?;
+    assert_eq!(rt; status, Status::Done);
+    let quiet = voted.trail_len().saturating_sub(COMMIT + 1);
+    let fifth = quiet.saturating_add(5);
+    let open = stopped(&rt, &voted, fifth, Tear::Byte(0xA5))?;
+    assert_eq!(rt; told(&rt, copied(&rt, &open)?)?.as_slice(), HELD[2]);
+    assert_eq!(rt;
+        told(&rt, alone(copied(&rt, &open)?, Dev::Internal))?.as_slice(),
+        HELD[2]
+    );
+    assert_eq!(rt; told(&rt, alone(open, Dev::External))?.as_slice(), HELD[1]);
+    let torn = stopped(&rt, &voted, fifth, Tear::Byte(0x7E))?;
+    assert_eq!(rt; told(&rt, copied(&rt, &torn)?)?.as_slice(), HELD[1]);
+    assert_eq!(rt;
+        told(&rt, alone(copied(&rt, &torn)?, Dev::Internal))?.as_slice(),
+        HELD[1]
+    );
+    assert_eq!(rt;
+        told(&rt, alone(copied(&rt, &torn)?, Dev::External))?.as_slice(),
+        HELD[1]
+    );
+    // the recovery writes the one slot back: its body, a sync, its gate, a sync, and shows its line
+    let (status, healed) = run(&rt, ON, torn)?;
+    assert_eq!(rt; status, Status::Done);
+    assert_eq!(rt; healed.shown(), HELD[1]);
+    assert_eq!(rt; healed.trail_len(), SYNCS + 4 + 1);
+    assert_eq!(rt;
+        healed.content(Dev::Internal),
+        opened.content(Dev::Internal)
+    );
+    assert_eq!(rt;
+        healed.content(Dev::External),
+        opened.content(Dev::External)
+    );
+    for ops in SYNCS..healed.trail_len() {
+        let images = stopped(&rt, &healed, ops, Tear::Byte(0x5A))?;
+        assert_eq!(rt; told(&rt, images)?.as_slice(), HELD[1], "after {ops}");
+    }
+    let (_, again) = run(&rt, ON, left(&rt, &healed)?)?;
+    assert_eq!(rt; again.trail_len(), SYNCS + 1);
+    Ok(())
+}
+
+// The first sync of the external flash in that commit fails once.
+#[test]
+fn a_commit_stopped_at_the_external_flash(rt: HostRuntime) -> Result<(), Fail> {
+    let (_, opened) = run(&rt, OPENS, loaded(&rt, LOAD)?)?;
+    // a read, a write and a sync: the third that stops it
+    let mut faults = 0u32;
+    for call in 0..200 {
+        let (status, m) = run_failing(&rt, FIRST_VOTER, left(&rt, &opened)?, &[call])?;
+        if status == Status::ExternalFlash && m.shown().len() > HELD[1].len() {
+            faults = faults.saturating_add(1);
+            if faults == 3 {
+                return goes_on_with_one_voter(&rt, left(&rt, &m)?);
+            }
+        }
+    }
+    panic!(&rt; "no such call failed");
+}
+
+// The voter has counted, both slots of the external flash are mended, and the voter can't come again.
+fn goes_on_with_one_voter(rt: &(impl Abort + AllocGlobal), images: Images) -> Result<(), Fail> {
+    let (status, healed) = run(rt, ON, images)?;
+    assert_eq!(rt; status, Status::Done);
+    assert_eq!(rt; healed.shown(), HELD[2]);
+    assert_eq!(rt; healed.trail_len(), SYNCS + 4 + 6 + 1);
+    let again = Given {
+        keys: Some(b"M TITULO 010000000001\n"),
+        ..ON
+    };
+    let (_, refused) = run(rt, again, left(rt, &healed)?)?;
+    assert_eq!(rt; refused.shown(), b"URNA ABERTA 1\nRECUSA 5\n".as_slice());
+    Ok(())
+}
+
+/// Whether a line tells a new state.
+fn tells(line: &[u8]) -> bool {
+    line == b"FIM".as_slice() || line.starts_with(b"ABERTA ")
+}
+
+/// How many lines that tell a state the first operations of a session show, and whether they show any.
+fn reached(shown: &[u8], ops: u32) -> (usize, bool) {
+    let mut at = SYNCS;
+    let mut commits = 0usize;
+    let mut any = false;
+    for line in shown.split(|byte| *byte == b'\n') {
+        if tells(line) {
+            at = at.saturating_add(COMMIT);
+        }
+        if at < ops && !line.is_empty() {
+            any = true;
+            if tells(line) {
+                commits = commits.saturating_add(1);
+            }
+        }
+        at = at.saturating_add(1);
+    }
+    (commits, any)
+}
+
+/// Whether `vota` tells over these images the state of that number, or the next.
+fn tells_one_of(
+    rt: &(impl Abort + AllocGlobal),
+    images: Images,
+    commits: usize,
+) -> Result<bool, Fail> {
+    let line = told(rt, images)?;
+    let one = HELD.get(commits).copied();
+    let next = HELD.get(commits.saturating_add(1)).copied();
+    Ok(Some(line.as_slice()) == one || Some(line.as_slice()) == next)
+}
+
+// A session of an opening and two voters, stopped after each of its operations: both flashes, and each alone, tell the state that
+// was shown last, or the next.
+fn stops_with(rt: &(impl Abort + AllocGlobal), tear: Tear) -> Result<(), Fail> {
+    let (status, m) = run(rt, TWO_VOTERS, loaded(rt, LOAD)?)?;
+    assert_eq!(rt; status, Status::Done);
+    for ops in SYNCS..=m.trail_len() {
+        let (commits, any) = reached(m.shown(), ops);
+        let images = stopped(rt, &m, ops, tear)?;
+        assert!(rt;
+            tells_one_of(rt, copied(rt, &images)?, commits)?,
+            "both after {ops}"
+        );
+        if any {
+            let internal = alone(copied(rt, &images)?, Dev::Internal);
+            assert!(rt;
+                tells_one_of(rt, internal, commits)?,
+                "internal after {ops}"
+            );
+            let external = alone(images, Dev::External);
+            assert!(rt;
+                tells_one_of(rt, external, commits)?,
+                "external after {ops}"
+            );
+        }
+    }
+    Ok(())
+}
+
+#[test]
+fn a_session_stopped_after_each_operation(rt: HostRuntime) -> Result<(), Fail> {
+    stops_with(&rt, Tear::Byte(0xA5))
+}

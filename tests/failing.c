@@ -1,0 +1,66 @@
+/* For tests/crash-trial: makes the n-th write to a flash file or the n-th sync fail, with only half of the bytes of a write put.
+   URNA_FAIL is `write N` or `sync N`, counted from 1 over files whose names end in `.flash`. */
+#define _GNU_SOURCE
+#include <dlfcn.h>
+#include <errno.h>
+#include <stdio.h>
+#include <stdlib.h>
+#include <string.h>
+#include <unistd.h>
+
+static int is_flash(int file) {
+    char link[64], name[4096];
+    snprintf(link, sizeof link, "/proc/self/fd/%d", file);
+    ssize_t length = readlink(link, name, sizeof name);
+    return length > 6 && memcmp(name + length - 6, ".flash", 6) == 0;
+}
+
+/* Whether this call of the kind is the one that fails. */
+static int fails(const char *kind, long *calls) {
+    const char *asked = getenv("URNA_FAIL");
+    size_t length = strlen(kind);
+    if (!asked || strncmp(asked, kind, length) != 0) {
+        return 0;
+    }
+    *calls += 1;
+    return *calls == atol(asked + length);
+}
+
+static ssize_t (*real_write)(int, const void *, size_t);
+static int (*real_fsync)(int);
+static int (*real_fdatasync)(int);
+static long writes, syncs;
+
+ssize_t write(int file, const void *bytes, size_t count) {
+    if (!real_write) {
+        real_write = (ssize_t (*)(int, const void *, size_t))dlsym(RTLD_NEXT, "write");
+    }
+    if (is_flash(file) && fails("write ", &writes)) {
+        real_write(file, bytes, count / 2);
+        errno = EIO;
+        return -1;
+    }
+    return real_write(file, bytes, count);
+}
+
+static int sync_or_fail(int file, int (*sync)(int)) {
+    if (is_flash(file) && fails("sync ", &syncs)) {
+        errno = EIO;
+        return -1;
+    }
+    return sync(file);
+}
+
+int fsync(int file) {
+    if (!real_fsync) {
+        real_fsync = (int (*)(int))dlsym(RTLD_NEXT, "fsync");
+    }
+    return sync_or_fail(file, real_fsync);
+}
+
+int fdatasync(int file) {
+    if (!real_fdatasync) {
+        real_fdatasync = (int (*)(int))dlsym(RTLD_NEXT, "fdatasync");
+    }
+    return sync_or_fail(file, real_fdatasync);
+}
