@@ -36,7 +36,7 @@ pub fails_testing : (a b c : Told) (error : LoadError) → IsSynced a b → Does
 fails_testing a b c load.Memory synced done ends = absurd ends
 fails_testing a b c (load.Flash d) synced done ends = (
   ends_later (port_of d) a b c synced.fine ends,
-  (both_synced, does-append both_synced [] a b c synced.does done, inr (inr ([], refl, inl refl))),
+  (both_synced, does-append both_synced [] a b c synced.does done, inr ([], refl, inl refl)),
 )
 fails_testing a b c (load.Busy d) synced done ends = (
   record { does = does-append both_synced [] a b c synced.does done; fine = faultless_trans a b c synced.fine ends.0 },
@@ -49,6 +49,8 @@ module _ (internal external body : List ℕ) (fresh : get_or body 1 0 ≡ 0) (a 
   pub loads : Loads a run.0
   loads =
       record {
+        within = run.2.within;
+        syncs = run.2.syncs;
         free = λ start told. free_before start (free (after both_synced start) (told_after both_synced a b start synced told));
         stops = λ start told.
             let mid = after both_synced start in
@@ -68,7 +70,7 @@ module _ (internal external body : List ℕ) (fresh : get_or body 1 0 ≡ 0) (a 
   pub fails_laying : (dev : Dev) → IsFaultless a c → EndsAt (port_of dev) c d → FailsToLoad a d (load.Flash dev)
   fails_laying dev fine ends = (
     ends_later (port_of dev) a c d fine ends,
-    (both_synced ++ run.0, does_all, inr (inr (run.0, refl, inr loads))),
+    (both_synced ++ run.0, does_all, inr (run.0, refl, inr loads)),
   )
 
 -- devices that are whole are at rest

@@ -14,3 +14,4 @@ pub mod Recovering
 pub mod Ready
 pub mod Unused
 pub mod Formatting
+pub mod Going

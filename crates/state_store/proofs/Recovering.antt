@@ -11,7 +11,7 @@ use Rattle.urna_outside.proofs.Doing.{does-append, then_told, told_after}
 use Rattle.urna_outside.proofs.Faults.{ends_later, faultless_trans}
 use Rattle.urna_outside.proofs.Keeping.{synced_clean}
 use Rattle.urna_outside.specs.Told.{AreSized}
-use Rattle.twin_image.specs.Heal.{Heals}
+use Rattle.twin_image.specs.Heal.{Heals, IsHeal}
 use Rattle.twin_image.specs.Level.{IsLevel}
 use Rattle.twin_image.specs.Held.{HoldsBody}
 use Rattle.twin_image.specs.Slots.{AreClean}
@@ -19,10 +19,10 @@ use Rattle.election_tables.specs.Roll.{IsRoll, RollData}
 use Rattle.election_tables.specs.TablesData.{IsTables, TablesData}
 use Rattle.election_tables.specs.declared.tables.sections.Section.{Section}
 use Rattle.image_codec.specs.Decoded.{decoded, rank_in}
-use Rattle.image_codec.specs.Encoding.{IsEncoding}
+use Rattle.image_codec.specs.Encoding.{IsEncoding, encode}
 use Rattle.image_codec.specs.State.{State, rank_of}
 use Rattle.image_codec.proofs.Decoding.{decoded_back}
-use Rattle.state_store.specs.Calls.{FailsToRecover, IsSynced, KeepFrames, Recovers, both_synced}
+use Rattle.state_store.specs.Calls.{FailsToRecover, IsRecovery, IsSynced, KeepFrames, Recovers, both_synced}
 use Rattle.state_store.specs.Finding.{EndsFinding}
 use Rattle.state_store.specs.Held.{AreLoaded, IsForeign, held_by_both}
 use Rattle.state_store.specs.Load.{IsSectionOf, load_of}
@@ -51,7 +51,7 @@ pub fails_finding : (t : TablesData) (r : RollData) (a b c : Told) (error : Stor
 fails_finding t r a b c store.Memory synced done ends = absurd ends
 fails_finding t r a b c (store.Flash d) synced done ends = (
   ends_later (port_of d) a b c synced.fine ends,
-  (both_synced, does-append both_synced [] a b c synced.does done, inr (inr ([], refl, inl refl))),
+  (both_synced, does-append both_synced [] a b c synced.does done, inr ([], refl, inl refl)),
 )
 fails_finding t r a b c (store.Foreign d) synced done ends = (
   record { does = does-append both_synced [] a b c synced.does done; fine = faultless_trans a b c synced.fine ends.0 },
@@ -114,8 +114,30 @@ module _ (t : TablesData) (r : RollData) (section : Section) (s : State) (body :
     pub fails_healing : (dev : Dev) → IsSectionOf t r section → IsFaultless a c → EndsAt (port_of dev) c d → FailsToRecover t r a d (store.Flash dev)
     fails_healing dev fits fine ends = (
       ends_later (port_of dev) a c d fine ends,
-      (both_synced ++ run.0, does_all, inr (inr (run.0, refl, inr (section, s, fits, recovers)))),
+      (both_synced ++ run.0, does_all, inr (run.0, refl, inr (section, s, fits, recovers))),
     )
+
+-- all that was done, syncs and heal
+pub healed_exactly : (s : State) (body : List ℕ) (a b c d : Told) → body ≡ encode s → Does both_synced a b → Does [] b c → ForSome c.flashes (λ start. Runs (IsHeal body_size body start) c d)
+    → ForSome a.flashes (λ start. Runs (IsRecovery s start) a d)
+healed_exactly s body a b c d is synced done exact start told =
+    let mid = after both_synced start in
+    let healed = exact mid (told_after [] b c mid done (told_after both_synced a b start synced told)) in (
+      both_synced ++ healed.0,
+      does-append both_synced healed.0 a c d (does-append both_synced [] a b c synced done) healed.1,
+      (healed.0, refl, subst (λ (bytes : List ℕ). IsHeal body_size bytes start healed.0) is (over_start healed.2)),
+    )
+  where
+    -- the syncs change no content
+    over_start : {ops : List Op} → IsHeal body_size body (after both_synced start) ops → IsHeal body_size body start ops
+    over_start heal =
+        record {
+          internal = heal.internal;
+          external = heal.external;
+          internal_is = heal.internal_is;
+          external_is = heal.external_is;
+          in_row = heal.in_row;
+        }
 
 -- the frames of a section's load
 framed_of : (t : TablesData) (r : RollData) (section : Section) (fs : Flashes) → AreLoaded t r section fs.internal.content fs.external.content → AreFramed (load_of t r section) fs

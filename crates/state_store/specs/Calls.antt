@@ -1,5 +1,5 @@
 -- What the calls of a store do on the flashes, also where the power goes
-use Rattle.std.specs.Prelude.{◌≡◌, ◌⊎◌, ℕ, ◌≤◌, List, [], ◌∷◌, ◌++◌, Option, Some, None, length}
+use Rattle.std.specs.Prelude.{◌≡◌, ◌⊎◌, ℕ, ◌<◌, ◌≤◌, List, [], ◌∷◌, ◌++◌, Option, Some, None, length}
 use Rattle.std.specs.Option.{ForSome}
 use Rattle.urna_outside.specs.Confined.{AreIn, count_syncs}
 use Rattle.urna_outside.specs.Faults.{EndsAt, IsFaultless}
@@ -11,12 +11,14 @@ use Rattle.urna_outside.specs.declared.device.Dev.TheVariants.{Internal, Externa
 use Rattle.election_tables.specs.Roll.{RollData}
 use Rattle.election_tables.specs.TablesData.{TablesData}
 use Rattle.election_tables.specs.declared.tables.sections.Section.{Section}
+use Rattle.image_codec.specs.Encoding.{encode}
 use Rattle.image_codec.specs.State.{State}
+use Rattle.twin_image.specs.Heal.{IsHeal}
 use Rattle.twin_image.specs.Slots.{KeepsFrame}
 use Rattle.twin_image.specs.Twin.{IsOfTwin}
 use Rattle.state_store.specs.Held.{AreLoaded, IsForeign, held_alone, held_by_both}
 use Rattle.state_store.specs.Load.{IsSectionOf}
-use Rattle.state_store.specs.Rest.{IsInUse, body_size}
+use Rattle.state_store.specs.Rest.{IsInUse, body_size, device_size}
 use Rattle.state_store.specs.declared.store.StoreError.{StoreError}
 use Rattle.state_store.specs.declared.store.StoreError.TheVariants as store
 use Rattle.state_store.specs.declared.store.LoadError.{LoadError}
@@ -36,9 +38,13 @@ pub record IsUntouched (old new : Told) : Type 0 where
   pub does : Does [] old new
   pub fine : IsFaultless old new
 
+-- of the two syncs the second wasn't done
+abbrev pub IsWithinSyncs : List Op → Type 0
+IsWithinSyncs ops = (ops ≡ []) ⊎ (ops ≡ Sync Internal ∷ [])
+
 -- The call ended within the two syncs, or they were done first, and P is of the rest.
 abbrev pub FromSyncs : (List Op → Type 0) → List Op → Type 0
-FromSyncs P ops = (ops ≡ []) ⊎ (ops ≡ Sync Internal ∷ []) ⊎ ((rest : List Op) × (ops ≡ both_synced ++ rest) × P rest)
+FromSyncs P ops = IsWithinSyncs ops ⊎ ((rest : List Op) × (ops ≡ both_synced ++ rest) × P rest)
 
 -- each image has its device's frame
 abbrev pub KeepFrames : Flashes → Left → Type 0
@@ -74,6 +80,11 @@ pub record Recovers (t : TablesData) (r : RollData) (section : Section) (s : Sta
   pub stops : ForSome told.flashes (λ start. AreFound t r section s start
       × AtEachStop (after both_synced start) ops (λ left. (held_by_both t (length r.titles) left.internal left.external ≡ Some s) × KeepFrames start left))
 
+-- All that a recovery does over these flashes: behind the two syncs it brings each slot that isn't open with the state to it, and
+-- touches no other.
+abbrev pub IsRecovery : State → Flashes → List Op → Type 0
+IsRecovery s start ops = (rest : List Op) × (ops ≡ both_synced ++ rest) × IsHeal body_size (encode s) start rest
+
 -- what there is where a recovery fails
 abbrev pub FailsToRecover : TablesData → RollData → Told → Told → StoreError → Type 0
 FailsToRecover t r old new store.Memory = IsUntouched old new
@@ -97,8 +108,10 @@ IsBusy External flashes = (¬ IsInUse flashes.internal.content) × IsInUse flash
 abbrev pub AreFree : Flashes → Type 0
 AreFree flashes = (d : Dev) → ¬ IsInUse (flash_of d flashes).content
 
--- what loading does behind the two syncs: neither device was in use, and at no stop one is
+-- What loading does behind the two syncs: writes and few syncs. Neither device was in use, and at no stop one is.
 pub record Loads (told : Told) (ops : List Op) : Type 0 where
+  pub within : AreIn (λ d k. k < device_size) ops
+  pub syncs : count_syncs ops ≤ 14
   pub free : ForSome told.flashes AreFree
   pub stops : ForSome told.flashes (λ start. AtEachStop (after both_synced start) ops (λ left. (d : Dev) → ¬ IsInUse (left_on d left)))
 

@@ -1,10 +1,8 @@
 -- How looking at the flashes behind the two syncs ends badly: no poll is found, or a device is in use
-use Rattle.std.specs.Prelude.{◌≡◌, ◌⊎◌, List, [], ◌∷◌, None, length}
+use Rattle.std.specs.Prelude.{◌≡◌, None, length}
 use Rattle.std.specs.Option.{ForSome}
 use Rattle.urna_outside.specs.Faults.{EndsAt, IsFaultless}
-use Rattle.urna_outside.specs.Flash.{Op, Sync}
 use Rattle.urna_outside.specs.Told.{Told, port_of}
-use Rattle.urna_outside.specs.declared.device.Dev.TheVariants.{Internal}
 use Rattle.election_tables.specs.Roll.{RollData}
 use Rattle.election_tables.specs.TablesData.{TablesData}
 use Rattle.election_tables.specs.declared.tables.sections.Section.{Section}
@@ -15,10 +13,6 @@ use Rattle.state_store.specs.declared.store.LoadError.{LoadError}
 use Rattle.state_store.specs.declared.store.LoadError.TheVariants as load
 use Rattle.state_store.specs.declared.store.StoreError.{StoreError}
 use Rattle.state_store.specs.declared.store.StoreError.TheVariants as store
-
--- of the two syncs the second wasn't done
-abbrev pub IsWithinSyncs : List Op → Type 0
-IsWithinSyncs ops = (ops ≡ []) ⊎ (ops ≡ Sync Internal ∷ [])
 
 -- a device failed, has another frame, or no slot stands; memory is never wanted
 abbrev pub EndsFinding : TablesData → RollData → Told → Told → StoreError → Type 0

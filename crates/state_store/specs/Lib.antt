@@ -7,3 +7,4 @@ pub mod Store
 pub mod Calls
 pub mod Steps
 pub mod Played
+pub mod Laws

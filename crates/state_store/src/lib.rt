@@ -8,6 +8,7 @@
 mod find;
 mod frame;
 mod in_use;
+mod laws;
 mod load;
 mod ranks;
 mod room;

@@ -7,7 +7,7 @@ ghost use Rattle.urna_outside.specs.Told.{Runs, port_of};
 ghost use Rattle.image_codec.specs.Encoding.{IsEncoding, IsStateOf, encode};
 ghost use Rattle.image_codec.specs.State.{State};
 ghost use Rattle.image_codec.specs.Valid.{ready_state};
-ghost use Rattle.state_store.specs.Calls.{Commits, FailsToLoad, FailsToRecover, Loads, Recovers, both_synced};
+ghost use Rattle.state_store.specs.Calls.{Commits, FailsToLoad, FailsToRecover, IsRecovery, Loads, Recovers, both_synced};
 ghost use Rattle.state_store.specs.Load.{IsSectionOf, load_of};
 ghost use Rattle.state_store.specs.Rest.{AreAtRest};
 ghost use Rattle.state_store.specs.Store.{AreDevices, IsBelow, IsLoadedWith, Keeps};
@@ -116,8 +116,8 @@ impl Store {
     }
 
     /// The poll that both flashes keep, whatever a power cut left of them. It takes its memory, syncs both devices, looks
-    /// at the frames and the slots, and heals the slots that don't stand with the held state, which both flashes hold at
-    /// each stop behind the syncs. No frame is written.
+    /// at the frames and the slots, and heals the slots that don't stand with the held state, and no other. Both flashes
+    /// hold that state at each stop behind the syncs. No frame is written.
     ///
     /// The caller owes that both devices have the size of a flash. `Memory` comes where an allocation failed, before any
     /// call of the machine; `Foreign(Internal)` where the internal frame is that of no section of the tables with as many
@@ -134,6 +134,7 @@ impl Store {
         ensures kept { IfOk result (λ found. Keeps tables.now (M.told m.new) found.0 found.1) }
         ensures ran { IfOk result (λ found. Runs (λ ops. (rest : List Op) × (ops ≡ both_synced ++ rest)
             × Recovers tables.now roll.now found.0.load.section found.1 (M.told m.old) rest) (M.told m.old) (M.told m.new)) }
+        ensures exact { IfOk result (λ found. ForSome (M.told m.old).flashes (λ start. Runs (IsRecovery found.1 start) (M.told m.old) (M.told m.new))) }
         ensures fine { OnOk result (IsFaultless (M.told m.old) (M.told m.new)) }
         ensures fails { IfErr result (FailsToRecover tables.now roll.now (M.told m.old) (M.told m.new)) }
     {

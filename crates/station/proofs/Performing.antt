@@ -30,7 +30,6 @@ use Rattle.station.specs.Run.{suspension}
 use Rattle.station.specs.declared.line.Line.TheVariants as line
 use Rattle.station.specs.Press.{Standing, press, typed, on_line, after_key, call, answered, title_of}
 use Rattle.station.specs.Acts.{IsAct, act_of, output_of, outputs_of}
-use Rattle.station.specs.Text.{output_lines, session_lines}
 use Rattle.station.specs.Valid.{IsStanding, IsPlaced, IsAnswer}
 use Rattle.station.specs.declared.act.Act.{Act}
 use Rattle.station.proofs.Replies.{answer_of}

@@ -11,7 +11,7 @@ use Rattle.election_tables.specs.TablesData.{TablesData}
 use Rattle.turnout.specs.Turnout.{number_came}
 use Rattle.turnout.specs.declared.phase.Phase.{Phase}
 use Rattle.image_codec.specs.State.{State}
-use Rattle.state_store.specs.Calls.{FailsToRecover, Recovers, both_synced}
+use Rattle.state_store.specs.Calls.{FailsToRecover, IsRecovery, Recovers, both_synced}
 use Rattle.state_store.specs.Store.{IsLoadedWith, Keeps, StoreData}
 use Rattle.state_store.specs.declared.store.StoreError.{StoreError}
 use Rattle.state_store.specs.declared.store.StoreError.TheVariants as store
@@ -41,12 +41,13 @@ opening_line t s p came phase count =
 
 -- A store that was recovered between a and b, with the opening line behind it
 module _ (t : TablesData) (r : RollData) (store : StoreData) (s : State) (a b c : Told) (loaded : IsLoadedWith t r store.load) (kept : Keeps t b store s)
-    (ran : Runs (λ ops. (rest : List Op) × (ops ≡ both_synced ++ rest) × Recovers t r store.load.section s a rest) a b) (fine : IsFaultless a b) where
+    (ran : Runs (λ ops. (rest : List Op) × (ops ≡ both_synced ++ rest) × Recovers t r store.load.section s a rest) a b)
+    (exact : ForSome a.flashes (λ start. Runs (IsRecovery s start) a b)) (fine : IsFaultless a b) where
   abbrev line : List ℕ
   line = line_text t (Poll s.phase (number_came s.came))
 
   recovered : IsRecovered t r store.load s a b
-  recovered = record { ran = ran; rest = kept.rest; fine = fine }
+  recovered = record { ran = ran; exact = exact; rest = kept.rest; fine = fine }
 
   pub opens : HasShown (line ∷ []) b c → Opens t r store.load s a c
   opens shown =

@@ -32,7 +32,7 @@ use Rattle.station.specs.declared.line.Title.TheVariants as title
 use Rattle.station.specs.Acts.{act_of, output_of, outputs_of}
 use Rattle.station.specs.Doing.{MayDo, MayDoAll, kept_after}
 use Rattle.station.specs.Output.{Output, Says, Commits, Reports}
-use Rattle.station.specs.Text.{line_text, output_lines, output_steps, session_lines, session_steps, title_text}
+use Rattle.station.specs.Text.{line_text, output_steps, session_steps, title_text}
 use Rattle.station.specs.declared.act.Act.{Act}
 use Rattle.station.specs.declared.act.Act.TheVariants.{Say, Commit, Report}
 
@@ -162,16 +162,3 @@ kept_by_act t s u (Say l) = refl
 kept_by_act t s u (Commit l) = refl
 kept_by_act t s u (Report title) = after_quiet s (title_text title ∷ count_lines t u.bags)
 
--- the lines of the steps are those of the session
-pub lines_of_steps : (t : TablesData) (out : List Output) → lines_in (session_steps t out) ≡ session_lines t out
-lines_of_steps t [] = refl
-lines_of_steps t (o ∷ out) = map-append (λ (x : Step). x.line) (output_steps t o) (session_steps t out) ∙ ap (λ ls. lines_in (output_steps t o) ++ ls) (lines_of_steps t out) ∙ ap (λ ls. ls ++ session_lines t out) (own o)
-  where
-    quiet_lines : (lines : List (List ℕ)) → lines_in (quiet lines) ≡ lines
-    quiet_lines [] = refl
-    quiet_lines (x ∷ xs) = ap (λ (ls : List (List ℕ)). x ∷ ls) (quiet_lines xs)
-
-    own : (o : Output) → lines_in (output_steps t o) ≡ output_lines t o
-    own (Says l) = refl
-    own (Commits s l) = refl
-    own (Reports title s) = quiet_lines (title_text title ∷ count_lines t s.bags)

@@ -13,7 +13,7 @@ use Rattle.election_tables.specs.Roll.{RollData}
 use Rattle.election_tables.specs.TablesData.{TablesData}
 use Rattle.turnout.specs.Turnout.{number_came}
 use Rattle.image_codec.specs.State.{State}
-use Rattle.state_store.specs.Calls.{FailsToRecover, IsUntouched, Recovers, both_synced}
+use Rattle.state_store.specs.Calls.{FailsToRecover, IsRecovery, IsUntouched, Recovers, both_synced}
 use Rattle.state_store.specs.Played.{HasPut, HasStopped, IsSafe}
 use Rattle.state_store.specs.Rest.{AreAtRest}
 use Rattle.state_store.specs.Steps.{Step, quiet}
@@ -31,9 +31,11 @@ use Rattle.station.specs.declared.station.StartError.TheVariants as start
 abbrev pub opening : TablesData → State → List Step
 opening t s = quiet (line_text t (Poll s.phase (number_came s.came)) ∷ [])
 
--- The flashes were synced and recovered, which left them at rest with a state of this load.
+-- The flashes were synced and recovered, which touched no slot that was right already, and left them at rest with a state of this
+-- load.
 pub record IsRecovered (t : TablesData) (r : RollData) (load : Load) (s : State) (old new : Told) : Type 0 where
   pub ran : Runs (λ ops. (rest : List Op) × (ops ≡ both_synced ++ rest) × Recovers t r load.section s old rest) old new
+  pub exact : ForSome old.flashes (λ start. Runs (IsRecovery s start) old new)
   pub rest : ForSome new.flashes (AreAtRest load s)
   pub fine : IsFaultless old new
 

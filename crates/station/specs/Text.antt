@@ -37,22 +37,13 @@ abbrev pub title_text : Title → List ℕ
 title_text title.Zeresima = codes "ZERESIMA" ++ 10 ∷ []
 title_text title.Boletim = codes "BOLETIM" ++ 10 ∷ []
 
--- the lines that an output shows, in order
-abbrev pub output_lines : TablesData → Output → List (List ℕ)
-output_lines t (Says l) = line_text t l ∷ []
-output_lines t (Commits s l) = line_text t l ∷ []
-output_lines t (Reports title s) = title_text title ∷ count_lines t s.bags
-
--- the lines of a session, in order
-abbrev pub session_lines : TablesData → List Output → List (List ℕ)
-session_lines t out = flat_map (output_lines t) out
-
--- the same with the states: each is committed just before its line
+-- what an output puts out, in order: a state that it tells is committed just before its line
 abbrev pub output_steps : TablesData → Output → List Step
 output_steps t (Says l) = quiet (line_text t l ∷ [])
 output_steps t (Commits s l) = telling s (line_text t l)
 output_steps t (Reports title s) = quiet (title_text title ∷ count_lines t s.bags)
 
+-- what a session puts out
 abbrev pub session_steps : TablesData → List Output → List Step
 session_steps t out = flat_map (output_steps t) out
 

@@ -16,7 +16,7 @@ use Rattle.state_store.specs.Rest.{body_size}
 use Rattle.state_store.specs.Store.{AreDevices, Keeps, StoreData}
 use Rattle.state_store.specs.declared.load.Load.{Load}
 use Rattle.state_store.proofs.Ready.{ready_places}
-use Rattle.state_store.proofs.Recovering.{clean_after, fails_finding, fails_healing, found_encoding, found_known, ranked_state, recovered, rests_healed}
+use Rattle.state_store.proofs.Recovering.{clean_after, fails_finding, fails_healing, found_encoding, found_known, healed_exactly, ranked_state, recovered, rests_healed}
 use Rattle.state_store.proofs.Standing.{roomy}
 use Rattle.state_store.proofs.store.Store.recover.Goals as goal
 
@@ -87,6 +87,18 @@ returns-clause-ran g c =
     let known = found_known t r section found.tables found.roll found.section s body read in
     let ran = recovered t r section s body known start (g.M.Machine.told c.sync_both.new.m) (g.M.Machine.told c.find.new.m) (g.M.Machine.told c.heal.new.m) synced.does found.done found.loaded found.held c.heal.ensures.ran in
     subst (λ (u : Section). Runs (λ ops. (rest : List Op) × (ops ≡ both_synced ++ rest) × Recovers t r u s start rest) start (g.M.Machine.told c.heal.new.m)) (sym (ap (λ (l : Load). l.section) c.of-load.ensures)) ran
+
+pub returns-clause-exact : goal.returns-clause-exact
+returns-clause-exact g c =
+    let t = c.args.tables.now in
+    let r = c.args.roll.now in
+    let found = c.in_ok-section.ensures in
+    let body = found_body c.in_ok-section.found in
+    let s = c.load-loaded.new.self in
+    let body_is : body_of c.in-Ok-heal.level ≡ body = c.in-Ok-heal.ensures.body in
+    let read : IsEncoding t (length c.in-Ok.room.state.came) s body =
+    subst (IsEncoding t (length c.in-Ok.room.state.came) s) (c.body.ensures ∙ body_is) (c.load-loaded.ensures.loaded c.if-prove.false) in
+    healed_exactly s body (g.M.Machine.told c.args.m.now) (g.M.Machine.told c.sync_both.new.m) (g.M.Machine.told c.find.new.m) (g.M.Machine.told c.heal.new.m) read.same c.in_default-sync_both.ensures.synced.does found.done c.in-Ok-heal.ensures.exact
 
 pub prove-unreachable-requires : goal.prove-unreachable-requires
 prove-unreachable-requires g c =

@@ -1,0 +1,5 @@
+use Rattle.state_store.proofs.Going.{recovery_goes_on, session_goes_on}
+use Rattle.state_store.proofs.laws.goes_on.Goals as goal
+
+pub returns : goal.returns
+returns c = record { session = session_goes_on; recovery = recovery_goes_on }

@@ -1,0 +1,16 @@
+//! Laws of what is found on two flashes (`specs/Laws.antt`). Each function here does nothing: its contract is the law.
+ghost use Rattle.state_store.specs.Laws.{ForeignOnce, LoadedOnce, LoadedOrForeign, RecoveryGoesOn, SessionGoesOn};
+
+/// Two flashes are loaded for one section, or the internal one is foreign, or the external one is, and not two of these.
+pub fn one_finding()
+    ensures loaded { LoadedOnce }
+    ensures either { LoadedOrForeign }
+    ensures foreign { ForeignOnce }
+{}
+
+/// Wherever the power stops a recovery or a session, what is left is a poll of the same section: the next call finds devices of
+/// their size, the frames of the load, and a state that both flashes hold.
+pub fn goes_on()
+    ensures session { SessionGoesOn }
+    ensures recovery { RecoveryGoesOn }
+{}
