@@ -1,12 +1,11 @@
 -- What is found on two flashes is one, and what a power cut leaves is a poll again.
-use Rattle.std.proofs.Common.{◌≡◌, inl, inr, ℕ, ◌+◌, ◌<◌, ◌≤◌, List, [], ◌∷◌, Option, Some, None, length, IsSome, refl, sym, ap, subst, ◌∙◌, arith}
+use Rattle.std.proofs.Common.{◌≡◌, inl, inr, ℕ, ◌+◌, List, [], ◌∷◌, Option, Some, None, length, refl, sym, ap, subst, ◌∙◌, arith}
 use Rattle.std.specs.Prelude.{Contains, slice_get}
 use Rattle.std.proofs.lemmas.Option.{get_or_from_slice_get, slice_get_within}
 use Rattle.std.proofs.lemmas.List.Elements.{Contains-get_or}
-use Rattle.urna_outside.specs.Flash.{Flashes, flash_of, part}
+use Rattle.urna_outside.specs.Flash.{Flashes, part}
 use Rattle.urna_outside.specs.Started.{clean_flashes}
-use Rattle.urna_outside.specs.Stop.{Left, left_on}
-use Rattle.urna_outside.specs.declared.device.Dev.{Dev}
+use Rattle.urna_outside.specs.Stop.{Left}
 use Rattle.urna_outside.specs.declared.device.Dev.TheVariants.{Internal, External}
 use Rattle.election_tables.specs.Roll.{RollData}
 use Rattle.election_tables.specs.TablesData.{IsTables, TablesData}
@@ -14,12 +13,12 @@ use Rattle.election_tables.specs.declared.tables.sections.Section.{Section}
 use Rattle.image_codec.specs.State.{State}
 use Rattle.twin_image.proofs.Laid.{frame_kept}
 use Rattle.state_store.specs.Calls.{AreFound, KeepFrames}
-use Rattle.state_store.specs.Held.{AreLoaded, HasFrameOf, IsForeign, held_by_both}
+use Rattle.state_store.specs.Held.{HasFrameOf, held_by_both}
 use Rattle.state_store.specs.Laws.{AreWhole, ForeignOnce, IsPollOf, LoadedOnce, LoadedOrForeign, RecoveryGoesOn, SessionGoesOn}
 use Rattle.state_store.specs.Load.{IsSectionOf, header, load_of}
-use Rattle.state_store.specs.Played.{IsStateOrNext, Survives}
+use Rattle.state_store.specs.Played.{IsStateOrNext}
 use Rattle.state_store.specs.Rest.{body_size}
-use Rattle.state_store.specs.Steps.{Step, commits_in}
+use Rattle.state_store.specs.Steps.{commits_in}
 use Rattle.state_store.proofs.Named.{named_there}
 
 -- the internal frame is that of one section

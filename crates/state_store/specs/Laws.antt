@@ -2,7 +2,7 @@
 use Rattle.std.specs.Prelude.{◌≡◌, ℕ, List, [], ◌∷◌, Some, length, Contains}
 use Rattle.urna_outside.specs.Flash.{Flashes, flash_of}
 use Rattle.urna_outside.specs.Started.{clean_flashes}
-use Rattle.urna_outside.specs.Stop.{Left, left_on}
+use Rattle.urna_outside.specs.Stop.{Left}
 use Rattle.urna_outside.specs.declared.device.Dev.{Dev}
 use Rattle.urna_outside.specs.declared.device.Dev.TheVariants.{Internal, External}
 use Rattle.election_tables.specs.Roll.{RollData}

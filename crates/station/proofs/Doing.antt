@@ -1,6 +1,6 @@
 -- Acts that are done one after another
-use Rattle.std.proofs.Common.{◌≡◌, ◌≤◌, ◌<◌, ◌+◌, ℕ, List, [], ◌∷◌, ◌++◌, length, map, take, drop, get_or, Result, Ok, Err, refl, sym, ap, subst, ◌∙◌, arith, add-one, drop-cons}
-use Rattle.urna_outside.specs.Told.{Told, Sizes}
+use Rattle.std.proofs.Common.{◌≡◌, ◌<◌, ◌+◌, ℕ, List, [], ◌∷◌, length, map, take, drop, get_or, refl, sym, ap, subst, ◌∙◌, add-one, drop-cons}
+use Rattle.urna_outside.specs.Told.{Told}
 use Rattle.election_tables.specs.Roll.{RollData}
 use Rattle.election_tables.specs.TablesData.{TablesData}
 use Rattle.image_codec.specs.Encoding.{IsStateOf}
@@ -13,7 +13,7 @@ use Rattle.state_store.proofs.Counting.{state_after-append}
 use Rattle.state_store.proofs.Playing.{put_nothing, put_to}
 use Rattle.state_store.proofs.Stored.{stored}
 use Rattle.station.specs.Acts.{output_of, outputs_of}
-use Rattle.station.specs.Doing.{AreDoable, MayDo, MayDoAll, kept_after}
+use Rattle.station.specs.Doing.{AreDoable, MayDoAll}
 use Rattle.station.specs.Text.{output_steps, session_steps}
 use Rattle.station.specs.declared.act.Act.{Act}
 use Rattle.key_script.specs.Event.{IsEvent}

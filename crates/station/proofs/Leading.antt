@@ -1,16 +1,16 @@
 -- A press leads to a state of the poll, of greater rank where it is committed
-use Rattle.std.proofs.Common.{◌≡◌, ◌≤◌, ◌<◌, ◌*◌, ◌++◌, ℕ, true, List, [], ◌∷◌, map, length, Option, Some, None, refl, sym, subst, ◌∙◌, arith}
+use Rattle.std.proofs.Common.{◌≡◌, ◌≤◌, ◌++◌, ℕ, true, List, [], ◌∷◌, map, length, Option, Some, None, refl, sym, subst, arith}
 use Rattle.urna_base.specs.Moment.{is_moment}
 use Rattle.key_script.specs.declared.keys.Key.{Key}
 use Rattle.key_script.specs.declared.keys.Event.{Event}
 use Rattle.key_script.specs.declared.keys.Event.TheVariants.{Clerk, Voter}
 use Rattle.key_script.specs.declared.keys.ClerkKey.{ClerkKey}
 use Rattle.key_script.specs.declared.keys.ClerkKey.TheVariants as clerk
-use Rattle.key_script.specs.Event.{IsClerkKey, IsEvent, IsKey}
+use Rattle.key_script.specs.Event.{IsClerkKey, IsEvent}
 use Rattle.election_tables.specs.TablesData.{TablesData}
 use Rattle.vote_kinds.specs.declared.choice.Choice.{Choice}
 use Rattle.vote_kinds.specs.declared.choice.Field.{Field}
-use Rattle.vote_kinds.specs.Ballot.{BallotLine, IsField, ballot_lines}
+use Rattle.vote_kinds.specs.Ballot.{BallotLine, ballot_lines}
 use Rattle.voter_term.specs.declared.panel.Shown.{Shown}
 use Rattle.voter_term.specs.declared.panel.Shown.TheVariants as shown
 use Rattle.voter_term.specs.Panel.{next_shown}
@@ -30,7 +30,7 @@ use Rattle.station.specs.Acts.{act_of}
 use Rattle.station.specs.Doing.{MayDoAll}
 use Rattle.station.specs.Output.{line_at, earlier_for}
 use Rattle.station.specs.Press.{Pressed, Standing, after_key, answered, call, on_line, press, typed}
-use Rattle.station.specs.Setting.{IsSetting, Setting, reply_at, setting_of}
+use Rattle.station.specs.Setting.{reply_at, setting_of}
 use Rattle.station.specs.Valid.{IsAnswer, IsPlaced, IsStanding}
 use Rattle.station.proofs.Choosing.{first_all, first_filled, first_more, voted_is}
 use Rattle.station.proofs.Replies.{answer_of}

@@ -1,7 +1,5 @@
 -- The lines of acts, some after others
-use Rattle.std.proofs.Common.{◌≡◌, ◌≤◌, ◌<◌, ◌^◌, ◌+◌, ℕ, zero, suc, List, [], ◌∷◌, ◌++◌, map, length, take, drop, get_or, slice_get, lit<, Option, Some, None, refl, sym, ap, subst, ◌∙◌, arith}
-use Rattle.std.proofs.lemmas.List.{take_more, take-append-drop, append-nil}
-use Rattle.std.proofs.lemmas.Grind.{flat_map-append}
+use Rattle.std.proofs.Common.{◌≡◌, ◌≤◌, ◌<◌, ◌^◌, ℕ, zero, suc, List, [], ◌∷◌, ◌++◌, map, length, get_or, slice_get, lit<, Option, Some, None, subst, arith}
 use Rattle.std.specs.List.{AllByRecursion}
 use Rattle.urna_base.proofs.MomentLaws.{is_moment-below}
 use Rattle.key_script.specs.declared.keys.Key.{Key}
@@ -25,11 +23,11 @@ use Rattle.clerk_term.specs.declared.replies.ClerkAnswer.{ClerkAnswer}
 use Rattle.clerk_term.specs.declared.replies.ClerkAnswer.TheVariants as answer
 use Rattle.image_codec.specs.State.{State}
 use Rattle.station.specs.Setting.{Setting, IsSetting, setting_of, reply_at}
-use Rattle.station.specs.Output.{Output, Says, line_at, earlier_for}
+use Rattle.station.specs.Output.{Says, line_at, earlier_for}
 use Rattle.station.specs.Run.{suspension}
 use Rattle.station.specs.declared.line.Line.TheVariants as line
 use Rattle.station.specs.Press.{Standing, press, typed, on_line, after_key, call, answered, title_of}
-use Rattle.station.specs.Acts.{IsAct, act_of, output_of, outputs_of}
+use Rattle.station.specs.Acts.{IsAct, act_of}
 use Rattle.station.specs.Valid.{IsStanding, IsPlaced, IsAnswer}
 use Rattle.station.specs.declared.act.Act.{Act}
 use Rattle.station.proofs.Replies.{answer_of}

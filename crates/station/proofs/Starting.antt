@@ -1,5 +1,5 @@
 -- A station that starts
-use Rattle.std.proofs.Common.{◌≡◌, ◌++◌, ℕ, List, [], ◌∷◌, refl, sym, ap, subst, ◌∙◌}
+use Rattle.std.proofs.Common.{◌≡◌, ◌++◌, ℕ, List, [], ◌∷◌, ap, ◌∙◌}
 use Rattle.std.specs.Option.{ForSome}
 use Rattle.urna_outside.specs.Faults.{IsFaultless}
 use Rattle.urna_outside.specs.Flash.{Op}
@@ -19,7 +19,7 @@ use Rattle.state_store.proofs.Playing.{opening_call, put_shown, stopped_shown}
 use Rattle.state_store.proofs.Stored.{stored}
 use Rattle.station.specs.Press.{idle_at}
 use Rattle.station.specs.Setting.{setting_of}
-use Rattle.station.specs.Start.{FailsToStart, IsCutAtOpening, IsRecovered, Opens, opening, start_error}
+use Rattle.station.specs.Start.{FailsToStart, IsCutAtOpening, IsRecovered, Opens, start_error}
 use Rattle.station.specs.Station.{IsStationed}
 use Rattle.station.specs.Text.{line_text}
 use Rattle.station.specs.declared.line.Line.TheVariants.{Poll}

@@ -1,10 +1,10 @@
 -- The steps of a session: their lines, their states, and what is kept over them
-use Rattle.std.proofs.Common.{◌≡◌, ◌≤◌, ◌<◌, ◌+◌, ℕ, zero, suc, List, [], ◌∷◌, ◌++◌, map, length, take, drop, get_or, Option, Some, None, refl, sym, ap, subst, ◌∙◌, arith, append_assoc, length-append}
+use Rattle.std.proofs.Common.{◌≡◌, ◌<◌, ◌+◌, ℕ, List, [], ◌∷◌, ◌++◌, map, length, take, drop, get_or, refl, sym, ap, subst, ◌∙◌, arith, length-append}
 use Rattle.std.specs.Prelude.{codes}
 use Rattle.std.specs.Fmt.{decimal}
 use Rattle.std.specs.Option.{ForSome}
 use Rattle.std.specs.List.{AllByRecursion}
-use Rattle.std.proofs.lemmas.List.{map-append, take_more, take-append-drop, append-nil}
+use Rattle.std.proofs.lemmas.List.{take_more, take-append-drop, append-nil}
 use Rattle.std.proofs.lemmas.Grind.{flat_map-append}
 use Rattle.urna_outside.specs.ShownLines.{HasShown}
 use Rattle.urna_outside.specs.Told.{Told}
@@ -12,7 +12,7 @@ use Rattle.election_tables.specs.Roll.{RollData}
 use Rattle.election_tables.specs.TablesData.{TablesData}
 use Rattle.image_codec.specs.State.{State}
 use Rattle.state_store.specs.Rest.{AreAtRest}
-use Rattle.state_store.specs.Steps.{AreFull, Step, lines_in, quiet, state_after, telling}
+use Rattle.state_store.specs.Steps.{AreFull, Step, quiet, state_after}
 use Rattle.state_store.specs.Store.{IsLoadedWith, Keeps, StoreData}
 use Rattle.state_store.proofs.Playing.{put_shown}
 use Rattle.state_store.proofs.Stored.{stored}
@@ -29,8 +29,8 @@ use Rattle.station.specs.declared.line.Line.{Line}
 use Rattle.station.specs.declared.line.Line.TheVariants as line
 use Rattle.station.specs.declared.line.Title.{Title}
 use Rattle.station.specs.declared.line.Title.TheVariants as title
-use Rattle.station.specs.Acts.{act_of, output_of, outputs_of}
-use Rattle.station.specs.Doing.{MayDo, MayDoAll, kept_after}
+use Rattle.station.specs.Acts.{output_of, outputs_of}
+use Rattle.station.specs.Doing.{kept_after}
 use Rattle.station.specs.Output.{Output, Says, Commits, Reports}
 use Rattle.station.specs.Text.{line_text, output_steps, session_steps, title_text}
 use Rattle.station.specs.declared.act.Act.{Act}
@@ -161,4 +161,3 @@ pub kept_by_act : (t : TablesData) (s u : State) (act : Act) → state_after s (
 kept_by_act t s u (Say l) = refl
 kept_by_act t s u (Commit l) = refl
 kept_by_act t s u (Report title) = after_quiet s (title_text title ∷ count_lines t u.bags)
-

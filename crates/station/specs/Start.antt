@@ -1,19 +1,16 @@
 -- How a station starts
-use Rattle.std.specs.Prelude.{◌≡◌, ◌++◌, List, [], ◌∷◌, length}
+use Rattle.std.specs.Prelude.{◌≡◌, ◌++◌, List, [], ◌∷◌}
 use Rattle.std.specs.Option.{ForSome}
 use Rattle.urna_outside.specs.Faults.{IsFaultless}
 use Rattle.urna_outside.specs.Flash.{Op}
-use Rattle.urna_outside.specs.ShownLines.{HasShown, IsCutOff}
 use Rattle.urna_outside.specs.Told.{Told, Runs, port_of}
-use Rattle.urna_outside.specs.declared.device.Dev.{Dev}
-use Rattle.urna_outside.specs.declared.device.Port.{Port}
 use Rattle.urna_outside.specs.declared.device.Port.TheVariants.{Internal, External, Display}
 use Rattle.urna_outside.specs.declared.device.Dev.TheVariants as dev
 use Rattle.election_tables.specs.Roll.{RollData}
 use Rattle.election_tables.specs.TablesData.{TablesData}
 use Rattle.turnout.specs.Turnout.{number_came}
 use Rattle.image_codec.specs.State.{State}
-use Rattle.state_store.specs.Calls.{FailsToRecover, IsRecovery, IsUntouched, Recovers, both_synced}
+use Rattle.state_store.specs.Calls.{FailsToRecover, IsRecovery, Recovers, both_synced}
 use Rattle.state_store.specs.Played.{HasPut, HasStopped, IsSafe}
 use Rattle.state_store.specs.Rest.{AreAtRest}
 use Rattle.state_store.specs.Steps.{Step, quiet}

@@ -1,9 +1,7 @@
 -- What a station is, beside a machine
-use Rattle.std.specs.Prelude.{◌≡◌, List, length}
 use Rattle.urna_outside.specs.Told.{Told}
 use Rattle.election_tables.specs.Roll.{RollData}
 use Rattle.election_tables.specs.TablesData.{TablesData}
-use Rattle.image_codec.specs.Encoding.{IsStateOf}
 use Rattle.state_store.specs.Store.{IsLoadedWith, Keeps, StoreData}
 use Rattle.station.specs.Press.{Standing}
 use Rattle.station.specs.Setting.{setting_of}

@@ -1,5 +1,5 @@
 -- A session over a station that started
-use Rattle.std.proofs.Common.{◌≡◌, ◌++◌, ℕ, List, [], sym, ap, subst}
+use Rattle.std.proofs.Common.{◌≡◌, ◌++◌, List, [], sym, ap, subst}
 use Rattle.urna_outside.specs.Told.{Told, Runs}
 use Rattle.urna_outside.specs.declared.device.Port.{Port}
 use Rattle.election_tables.specs.Roll.{RollData}

@@ -1,11 +1,10 @@
-use Rattle.std.proofs.Common.{◌≡◌, ◌∷◌, [], ℕ, List, sym, ap, subst, ◌∙◌}
-use Rattle.std.specs.Option.{ForSome}
+use Rattle.std.proofs.Common.{◌∷◌, [], ℕ, List, sym, ap, subst, ◌∙◌}
 use Rattle.urna_outside.specs.ShownLines.{HasShown, IsCutOff}
 use Rattle.urna_outside.specs.declared.device.Port.TheVariants.{Display}
 use Rattle.vote_kinds.specs.declared.choice.Choice.{Choice}
 use Rattle.image_codec.specs.State.{State}
 use Rattle.state_store.specs.Played.{HasPut, HasStopped}
-use Rattle.state_store.specs.Steps.{quiet, state_after}
+use Rattle.state_store.specs.Steps.{state_after}
 use Rattle.state_store.specs.Store.{Keeps}
 use Rattle.state_store.proofs.Playing.{put_shown, stopped_shown}
 use Rattle.state_store.proofs.Stored.{stored}

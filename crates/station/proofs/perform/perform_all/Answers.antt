@@ -1,7 +1,6 @@
-use Rattle.std.proofs.Common.{◌≡◌, ◌+◌, ℕ, List, take, drop, get_or, length, arith, sym, subst}
+use Rattle.std.proofs.Common.{◌+◌, List, take, drop, get_or, arith, subst}
 use Rattle.std.proofs.lemmas.List.{take_all}
 use Rattle.turnout.specs.declared.phase.Phase.TheVariants as phase
-use Rattle.image_codec.specs.State.{State}
 use Rattle.state_store.specs.Played.{HasPut, HasStopped}
 use Rattle.state_store.specs.Steps.{state_after}
 use Rattle.state_store.specs.Store.{Keeps}

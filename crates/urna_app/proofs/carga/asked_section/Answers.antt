@@ -1,4 +1,4 @@
-use Rattle.std.proofs.Common.{◌≡◌, Some, sym, ap, ◌∙◌}
+use Rattle.std.proofs.Common.{◌≡◌, sym, ap, ◌∙◌}
 use Rattle.election_tables.specs.declared.tables.sections.Section.{Section}
 use Rattle.state_store.proofs.Sections.{found_listed}
 use Rattle.urna_app.proofs.Asked.{if_none, named, only_one}

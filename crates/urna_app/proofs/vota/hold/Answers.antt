@@ -1,4 +1,4 @@
-use Rattle.std.proofs.Common.{◌≡◌, ap}
+use Rattle.std.proofs.Common.{ap}
 use Rattle.station.specs.Press.{Standing}
 use Rattle.urna_app.proofs.Sessions.{cut_short, devices_after, voted}
 use Rattle.urna_app.proofs.vota.hold.Goals as goal

@@ -1,6 +1,5 @@
-use Rattle.std.proofs.Common.{◌≡◌, ℕ, List, map, sym, ap, subst, ◌∙◌}
+use Rattle.std.proofs.Common.{◌≡◌, List, map, sym, ap, subst, ◌∙◌}
 use Rattle.std.specs.List.{AllByRecursion}
-use Rattle.urna_outside.specs.Told.{Told}
 use Rattle.image_codec.specs.Encoding.{IsStateOf}
 use Rattle.image_codec.specs.State.{State}
 use Rattle.state_store.specs.Played.{HasPut, HasStopped}

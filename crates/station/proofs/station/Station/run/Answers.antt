@@ -1,16 +1,14 @@
 use Rattle.std.proofs.Common.{◌≡◌, ◌++◌, ◌∷◌, [], List, sym, ap, subst, ◌∙◌, refl}
 use Rattle.std.proofs.lemmas.List.{append-nil}
-use Rattle.urna_outside.specs.Told.{Told}
 use Rattle.key_script.specs.declared.keys.Event.{Event}
 use Rattle.key_script.proofs.EventLaws.{yielded_more, event_valid}
 use Rattle.image_codec.specs.State.{State}
 use Rattle.state_store.specs.Played.{HasPut, HasStopped}
-use Rattle.state_store.specs.Steps.{Step}
 use Rattle.state_store.specs.Store.{AreDevices}
 use Rattle.state_store.specs.declared.load.Load.{Load}
 use Rattle.state_store.proofs.Playing.{put_nothing, put_to, stopped_within}
 use Rattle.state_store.proofs.Stored.{stored}
-use Rattle.station.specs.Setting.{Setting, setting_of}
+use Rattle.station.specs.Setting.{setting_of}
 use Rattle.station.specs.Press.{Standing, press, after, outputs, idle_at}
 use Rattle.station.specs.Text.{session_steps}
 use Rattle.station.proofs.Performing.{tables_setting}

@@ -1,13 +1,9 @@
-use Rattle.std.proofs.Common.{◌≡◌, ◌∷◌, [], ℕ, List, sym, ap, subst, ◌∙◌, refl}
+use Rattle.std.proofs.Common.{◌∷◌, [], ℕ, List, sym, ap, subst, ◌∙◌}
 use Rattle.urna_outside.specs.ShownLines.{HasShown, IsCutOff}
 use Rattle.turnout.specs.Turnout.{number_came}
-use Rattle.turnout.specs.declared.phase.Phase.{Phase}
-use Rattle.station.specs.Press.{Standing, idle_at}
-use Rattle.station.specs.Start.{FailsToStart, IsStarted}
+use Rattle.station.specs.Press.{Standing}
+use Rattle.station.specs.Start.{FailsToStart}
 use Rattle.station.specs.Station.{IsStationed}
-use Rattle.station.specs.Text.{line_text}
-use Rattle.station.specs.declared.station.StartError.{StartError}
-use Rattle.station.specs.declared.line.Line.TheVariants.{Poll}
 use Rattle.station.proofs.Starting.{cut_at_opening, fails_as, opening_line, opens, stationed}
 use Rattle.station.proofs.station.Station.start.Goals as goal
 
