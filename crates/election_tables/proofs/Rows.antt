@@ -1,10 +1,9 @@
 -- Worked rows: documents, and the first rule that each breaks.
-use Rattle.std.proofs.Common.{◌≡◌, ℕ, List, ◌++◌, refl, codes, Option, Some, None, option_map, true, false}
+use Rattle.std.proofs.Common.{◌≡◌, ℕ, List, ◌++◌, refl, codes, Option, Some, None, option_map}
 use Rattle.toml.specs.Parse.{parse_document}
 use Rattle.toml.proofs.OnLiterals.{toml_on_literals}
 use Rattle.urna_base.specs.Moment.{is_date}
 use Rattle.election_tables.specs.Shape.{is_key}
-use Rattle.election_tables.specs.Entries.{document_of}
 use Rattle.election_tables.specs.Rules.{broken_rule, rules, shape_rules, typed_rules}
 
 -- the first rule that the document breaks, where the bytes are one

@@ -1,5 +1,5 @@
 -- Rules 4 to 14, over the typed lists of a document, and the number of the first rule that doesn't hold.
-use Rattle.std.specs.Prelude.{ℕ, ◌+◌, ℤ, pos, List, [], ◌∷◌, ◌++◌, length, map, Option, Some, None, is_some, option_and_then, Bool, true, false, not, ◌&&◌, ◌||◌, nat_le, ◌==◌}
+use Rattle.std.specs.Prelude.{ℕ, ◌+◌, ℤ, pos, List, [], ◌∷◌, ◌++◌, length, map, Option, Some, None, is_some, option_and_then, Bool, true, false, not, ◌&&◌, nat_le}
 use Rattle.std.specs.List.{list_all, list_any}
 use Rattle.std.specs.Ordering.{int_eq}
 use Rattle.std.specs.Option.{option_map_or}
