@@ -8,6 +8,8 @@
 
 mod law;
 mod slot;
+#[cfg(test)]
+mod tests;
 mod write;
 
 pub use law::facts_survive;
