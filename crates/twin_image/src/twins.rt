@@ -19,7 +19,7 @@ use urna_outside::Machine;
 /// The caller owes that the tokens are those of slots 0 and 1 of one device with no dirty byte, and that both bodies
 /// are `old`, where the machine tells its content; both bodies have SIZE bytes. At every stop each slot whose gate is
 /// open has the body `old` or `new`, and at least one slot is open. It writes nothing but the gates and bodies of these
-/// two slots. `Torn` names the slot and the step, and comes only where the device's count rose.
+/// two slots. `Torn` comes only where the device's count rose, and its step says what holds of its slot.
 pub fn renew<M: Machine, const SIZE: usize>(
     m: &mut M,
     first: Live<SIZE>,
