@@ -14,6 +14,8 @@ mod command;
 mod documents;
 mod fault;
 mod laws;
+#[cfg(test)]
+mod scripts;
 mod status;
 #[cfg(test)]
 mod stops;

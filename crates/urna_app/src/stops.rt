@@ -3,10 +3,7 @@ ghost use Rattle.std.specs.Prelude.{◌≤◌, length};
 ghost use Rattle.urna_outside.specs.Recorder.{trail_of};
 
 use crate::status::Status;
-use crate::tests::{
-    CARGA, Given, Images, NO_KEYS, THREE_VOTERS, TWO_OFFICES, VOTA, copied, left, loaded, run,
-    run_failing, shut,
-};
+use crate::tests::{Given, Images, LOAD, ON, copied, left, loaded, run, run_failing, shut};
 use std::process::Abort;
 use std::test::Fail;
 use urna_outside::{Dev, Recorder, Tear};
@@ -16,18 +13,6 @@ const COMMIT: u32 = 24;
 
 /// The two syncs with which a session begins.
 const SYNCS: u32 = 2;
-
-const LOAD: Given = Given {
-    tables: Some(TWO_OFFICES),
-    roll: Some(THREE_VOTERS),
-    ..CARGA
-};
-
-const ON: Given = Given {
-    tables: Some(TWO_OFFICES),
-    roll: Some(THREE_VOTERS),
-    ..NO_KEYS
-};
 
 const OPENS: Given = Given {
     keys: Some(b"M ABRE 20261004080000\n"),

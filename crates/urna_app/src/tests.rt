@@ -6,6 +6,7 @@ ghost use Rattle.state_store.specs.Store.{AreDevices};
 use crate::status::{Doc, Status};
 use crate::urna;
 use std::process::Abort;
+use std::str;
 use std::test::Fail;
 use urna_base::Memory;
 use urna_outside::{Dev, Recorder, Shelf};
@@ -100,11 +101,11 @@ pub(crate) struct Images {
 
 /// What one command is given: its words, its files, and the numbers of the calls that fail.
 #[derive(Clone, Copy)]
-pub(crate) struct Given {
+pub(crate) struct Given<'a> {
     pub words: &'static [&'static str],
-    pub tables: Option<&'static [u8]>,
+    pub tables: Option<&'a [u8]>,
     pub roll: Option<&'static [u8]>,
-    pub keys: Option<&'static [u8]>,
+    pub keys: Option<&'a [u8]>,
     pub failing: &'static [u32],
     pub failing_takes: &'static [u32],
 }
@@ -127,6 +128,19 @@ pub(crate) const VOTA: Given = Given {
 pub(crate) const NO_KEYS: Given = Given {
     keys: Some(b""),
     ..VOTA
+};
+
+/// The load of a section with two offices and three voters, and a session of it.
+pub(crate) const LOAD: Given = Given {
+    tables: Some(TWO_OFFICES),
+    roll: Some(THREE_VOTERS),
+    ..CARGA
+};
+
+pub(crate) const ON: Given = Given {
+    tables: Some(TWO_OFFICES),
+    roll: Some(THREE_VOTERS),
+    ..NO_KEYS
 };
 
 pub(crate) fn blank(rt: &impl AllocGlobal) -> Result<Images, Memory> {
@@ -183,7 +197,7 @@ fn place(shelf: &mut Shelf, name: &str, bytes: Option<&[u8]>) -> Result<(), Memo
 /// The status of a command over these images, and the machine that it was run on.
 pub(crate) fn run(
     rt: &(impl Abort + AllocGlobal),
-    given: Given,
+    given: Given<'_>,
     images: Images,
 ) -> Result<(Status, Recorder), Fail> {
     run_failing(rt, given, images, given.failing)
@@ -192,7 +206,7 @@ pub(crate) fn run(
 /// The same where the calls of these numbers fail.
 pub(crate) fn run_failing(
     rt: &(impl Abort + AllocGlobal),
-    given: Given,
+    given: Given<'_>,
     images: Images,
     failing: &[u32],
 ) -> Result<(Status, Recorder), Fail> {
@@ -213,7 +227,7 @@ pub(crate) fn run_failing(
 /// What a command leaves, which has to end with this status and number and show this text.
 fn step(
     rt: &(impl Abort + AllocGlobal),
-    given: Given,
+    given: Given<'_>,
     images: Images,
     status: Status,
     code: u8,
@@ -227,7 +241,7 @@ fn step(
 }
 
 /// Flashes that are loaded for a section.
-pub(crate) fn loaded(rt: &(impl Abort + AllocGlobal), given: Given) -> Result<Images, Fail> {
+pub(crate) fn loaded(rt: &(impl Abort + AllocGlobal), given: Given<'_>) -> Result<Images, Fail> {
     let (status, m) = run(rt, given, blank(rt)?)?;
     assert_eq!(rt; status, Status::Done);
     Ok(left(rt, &m)?)
@@ -236,7 +250,7 @@ pub(crate) fn loaded(rt: &(impl Abort + AllocGlobal), given: Given) -> Result<Im
 #[test]
 fn statuses_and_what_is_shown(rt: HostRuntime) -> Result<(), Fail> {
     let flashes = loaded(&rt, CARGA)?;
-    let rows: [(Given, Status, u8, &[u8]); 12] = [
+    let rows: [(Given, Status, u8, &[u8]); 7] = [
         (VOTA, Status::Done, 0, VISIT_SHOWN),
         (
             Given {
@@ -249,27 +263,12 @@ fn statuses_and_what_is_shown(rt: HostRuntime) -> Result<(), Fail> {
         ),
         (
             Given {
-                keys: Some(b"E 1X\n"),
-                ..VOTA
-            },
-            Status::Line(1),
-            4,
-            b"ERRO LINHA 1\n",
-        ),
-        (
-            Given {
                 tables: Some(b"processo"),
                 ..VOTA
             },
             Status::TablesNotToml,
             3,
             b"ERRO TABELAS TOML\n",
-        ),
-        (
-            Given { roll: None, ..VOTA },
-            Status::Missing(Doc::Roll),
-            12,
-            b"ERRO FALTA ROL\n",
         ),
         (
             Given {
@@ -279,33 +278,6 @@ fn statuses_and_what_is_shown(rt: HostRuntime) -> Result<(), Fail> {
             Status::TooLong(Doc::Roll),
             5,
             b"ERRO TAMANHO ROL\n",
-        ),
-        (
-            Given {
-                roll: Some(b"010000000001\n010000000001\n"),
-                ..VOTA
-            },
-            Status::RollLine(2),
-            3,
-            b"ERRO ROL LINHA 2\n",
-        ),
-        (
-            Given {
-                roll: Some(b""),
-                ..VOTA
-            },
-            Status::RollCount,
-            3,
-            b"ERRO ROL CONTAGEM\n",
-        ),
-        (
-            Given {
-                words: &["vota", "t", "r", "k"],
-                ..VOTA
-            },
-            Status::Usage,
-            2,
-            b"ERRO USO\n",
         ),
         (
             Given {
@@ -338,6 +310,137 @@ fn statuses_and_what_is_shown(rt: HostRuntime) -> Result<(), Fail> {
     ];
     for (given, status, code, shown) in rows {
         step(&rt, given, copied(&rt, &flashes)?, status, code, shown)?;
+    }
+    Ok(())
+}
+
+#[test]
+fn words_that_are_no_command(rt: HostRuntime) -> Result<(), Fail> {
+    let rows: [Given; 5] = [
+        Given { words: &[], ..ON },
+        Given {
+            words: &["vota", "t", "r", "k"],
+            ..ON
+        },
+        Given {
+            words: &["carga", "t", "r", "01", "42"],
+            ..ON
+        },
+        Given {
+            words: &["ensaio", "0"],
+            ..ON
+        },
+        Given {
+            words: &["ensaio", "601"],
+            ..ON
+        },
+    ];
+    for given in rows {
+        step(&rt, given, blank(&rt)?, Status::Usage, 2, b"ERRO USO\n")?;
+    }
+    Ok(())
+}
+
+#[test]
+fn documents_at_fault(rt: HostRuntime) -> Result<(), Fail> {
+    let rows: [(Given, Status, u8, &[u8]); 4] = [
+        (
+            Given { roll: None, ..ON },
+            Status::Missing(Doc::Roll),
+            12,
+            b"ERRO FALTA ROL\n",
+        ),
+        (
+            Given {
+                roll: Some(b"010000000001\n010000000001\n010000000003\n"),
+                ..ON
+            },
+            Status::RollLine(2),
+            3,
+            b"ERRO ROL LINHA 2\n",
+        ),
+        (
+            Given {
+                roll: Some(b""),
+                ..ON
+            },
+            Status::RollCount,
+            3,
+            b"ERRO ROL CONTAGEM\n",
+        ),
+        (
+            Given {
+                keys: Some(b"E 12\nE 1X\n"),
+                ..ON
+            },
+            Status::Line(2),
+            4,
+            b"ERRO LINHA 2\n",
+        ),
+    ];
+    for (given, status, code, shown) in rows {
+        step(&rt, given, blank(&rt)?, status, code, shown)?;
+    }
+    Ok(())
+}
+
+#[test]
+fn keys_of_one_byte_too_many(rt: HostRuntime) -> Result<(), Fail> {
+    let keys = vec![in rt.alloc(); b'E'; 16_777_217]?;
+    let given = Given {
+        keys: Some(keys.as_slice()),
+        ..ON
+    };
+    step(
+        &rt,
+        given,
+        blank(&rt)?,
+        Status::TooLong(Doc::Keys),
+        5,
+        b"ERRO TAMANHO TECLAS\n",
+    )?;
+    Ok(())
+}
+
+// Tables in which one piece of text stands in the place of another break this rule first.
+#[test]
+fn tables_at_fault(rt: HostRuntime) -> Result<(), Fail> {
+    let rows = [
+        ("turno = 1\n", "", 1),
+        ("turno = 1", "turno = true", 2),
+        ("turno = 1", "turno = 1\nvice = 1", 3),
+        ("turno = 1", "turno = 3", 4),
+        ("codigo = 11", "codigo = 12", 5),
+        ("absoluta", "proporcional", 6),
+        ("{numero = 13", "{numero = 9", 7),
+        ("{numero = 13", "{numero = 45", 8),
+        ("45001", "45", 9),
+        ("45001", "46001", 10),
+        ("45001", "13001", 11),
+        ("19650520", "19651320", 12),
+        (
+            "secao = [",
+            "secao = [{zona = 1, secao = 42, eleitores = 600}, ",
+            13,
+        ),
+        ("cadeiras = 5", "cadeiras = 201", 14),
+    ];
+    let tables = str::from_utf8(TWO_OFFICES)?;
+    for (old, new, rule) in rows {
+        let edited = tables.replace(rt.alloc(), old, new)?;
+        let told = format!(in rt.alloc(); "ERRO TABELAS REGRA {rule}\n")?;
+        let given = Given {
+            tables: Some(edited.as_bytes()),
+            ..ON
+        };
+        step(
+            &rt,
+            given,
+            blank(&rt)?,
+            Status::TablesRule(rule),
+            3,
+            told.as_bytes(),
+        )?;
     }
     Ok(())
 }
