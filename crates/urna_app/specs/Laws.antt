@@ -1,10 +1,9 @@
 -- Laws of endings
-use Rattle.std.specs.Prelude.{◌≡◌, Some}
+use Rattle.std.specs.Prelude.{◌≡◌, List, Some}
 use Rattle.urna_outside.specs.Cabinet.{Files}
 use Rattle.election_tables.specs.Roll.{RollData}
 use Rattle.election_tables.specs.TablesData.{TablesData}
 use Rattle.key_script.specs.declared.keys.Event.{Event}
-use Rattle.std.specs.Prelude.{List}
 use Rattle.urna_app.specs.Command.{Carga, Vota}
 use Rattle.urna_app.specs.Ending.{IsGiven, IsGivenLoad, IsRefused, IsRefusedLoad}
 use Rattle.urna_app.specs.declared.status.Status.{Status}

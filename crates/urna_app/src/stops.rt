@@ -6,6 +6,7 @@ use crate::status::Status;
 use crate::tests::{Given, Images, LOAD, ON, copied, left, loaded, run, run_failing, shut};
 use std::process::Abort;
 use std::test::Fail;
+use urna_base::Memory;
 use urna_outside::{Dev, Recorder, Tear};
 
 /// How many operations a commit has.
@@ -24,7 +25,7 @@ const FIRST_VOTER: Given = Given {
     ..ON
 };
 
-/// An opening and two voters, which has three commits.
+/// An opening and two voters, which have three commits.
 const TWO_VOTERS: Given = Given {
     keys: Some(
         b"M ABRE 20261004080000
@@ -202,35 +203,135 @@ fn tells_one_of(
     Ok(Some(line.as_slice()) == one || Some(line.as_slice()) == next)
 }
 
-// A session of an opening and two voters, stopped after each of its operations: both flashes, and each alone, tell the state that
-// was shown last, or the next.
-fn stops_with(rt: &(impl Abort + AllocGlobal), tear: Tear) -> Result<(), Fail> {
+/// What is left after some operations of a session: both flashes, and each alone where something is shown, tell the state that was
+/// shown last, or the next.
+fn check_left(
+    rt: &(impl Abort + AllocGlobal),
+    images: Images,
+    shown: &[u8],
+    ops: u32,
+) -> Result<(), Fail> {
+    let (commits, any) = reached(shown, ops);
+    assert!(rt;
+        tells_one_of(rt, copied(rt, &images)?, commits)?,
+        "both after {ops}"
+    );
+    if any {
+        let internal = alone(copied(rt, &images)?, Dev::Internal);
+        assert!(rt;
+            tells_one_of(rt, internal, commits)?,
+            "internal after {ops}"
+        );
+        let external = alone(images, Dev::External);
+        assert!(rt;
+            tells_one_of(rt, external, commits)?,
+            "external after {ops}"
+        );
+    }
+    Ok(())
+}
+
+/// A session of an opening and two voters.
+fn two_voters(rt: &(impl Abort + AllocGlobal)) -> Result<Recorder, Fail> {
     let (status, m) = run(rt, TWO_VOTERS, loaded(rt, LOAD)?)?;
     assert_eq!(rt; status, Status::Done);
+    Ok(m)
+}
+
+/// What stands in dirty bytes.
+const TEARS: [Tear; 4] = [
+    Tear::AsPut,
+    Tear::Byte(0),
+    Tear::Byte(0x5A),
+    Tear::Byte(0xA5),
+];
+
+#[test]
+fn a_session_stopped_after_each_operation(rt: HostRuntime) -> Result<(), Fail> {
+    let m = two_voters(&rt)?;
     for ops in SYNCS..=m.trail_len() {
-        let (commits, any) = reached(m.shown(), ops);
-        let images = stopped(rt, &m, ops, tear)?;
-        assert!(rt;
-            tells_one_of(rt, copied(rt, &images)?, commits)?,
-            "both after {ops}"
-        );
-        if any {
-            let internal = alone(copied(rt, &images)?, Dev::Internal);
-            assert!(rt;
-                tells_one_of(rt, internal, commits)?,
-                "internal after {ops}"
-            );
-            let external = alone(images, Dev::External);
-            assert!(rt;
-                tells_one_of(rt, external, commits)?,
-                "external after {ops}"
-            );
+        for tear in TEARS {
+            check_left(&rt, stopped(&rt, &m, ops, tear)?, m.shown(), ops)?;
         }
     }
     Ok(())
 }
 
+/// The third voter comes, and the poll is sealed, in a state of greater rank than each of that session.
+const SEALED: Given = Given {
+    keys: Some(
+        b"M TITULO 010000000003
+M LIBERA
+E 13001C
+E 99C
+M ENCERRA 20261004170000
+",
+    ),
+    ..ON
+};
+
+/// An image with the bytes of another one wherever two tears differ, which is where it is dirty.
+fn filled(
+    rt: &impl AllocGlobal,
+    zeros: &[u8],
+    ones: &[u8],
+    other: &[u8],
+) -> Result<Vec<u8>, Memory> {
+    let bytes = zeros.iter().zip(ones.iter()).zip(other.iter());
+    Ok(
+        bytes
+            .map(|((zero, one), byte)| if zero == one { *zero } else { *byte })
+            .collect(rt.alloc())?,
+    )
+}
+
+// Dirty bytes are those of flashes at rest with a state of greater rank.
 #[test]
-fn a_session_stopped_after_each_operation(rt: HostRuntime) -> Result<(), Fail> {
-    stops_with(&rt, Tear::Byte(0xA5))
+fn a_session_stopped_over_a_later_state(rt: HostRuntime) -> Result<(), Fail> {
+    let m = two_voters(&rt)?;
+    let (status, sealed) = run(&rt, SEALED, left(&rt, &m)?)?;
+    assert_eq!(&rt; status, Status::Done);
+    for ops in SYNCS..=m.trail_len() {
+        let zeros = stopped(&rt, &m, ops, Tear::Byte(0))?;
+        let ones = stopped(&rt, &m, ops, Tear::Byte(1))?;
+        let internal = sealed.content(Dev::Internal);
+        let external = sealed.content(Dev::External);
+        let images = Images {
+            internal: filled(&rt, &zeros.internal, &ones.internal, internal)?,
+            external: filled(&rt, &zeros.external, &ones.external, external)?,
+        };
+        check_left(&rt, images, m.shown(), ops)?;
+    }
+    Ok(())
+}
+
+/// Where a write of a body is torn: behind its phase, behind the number who came and behind their marks, in either slot.
+const PLACES: [usize; 6] = [1_026, 1_046, 1_121, 67_074, 67_094, 67_169];
+
+/// The front of one image and the rest of another.
+fn torn_at(rt: &impl AllocGlobal, new: &[u8], old: &[u8], at: usize) -> Result<Vec<u8>, Memory> {
+    let bytes = new.iter().zip(old.iter()).enumerate();
+    Ok(
+        bytes
+            .map(|(place, (new, old))| if place < at { *new } else { *old })
+            .collect(rt.alloc())?,
+    )
+}
+
+// The next operation is stopped where it has put the bytes up to a place.
+#[test]
+fn a_session_stopped_inside_each_body(rt: HostRuntime) -> Result<(), Fail> {
+    let m = two_voters(&rt)?;
+    for ops in SYNCS..m.trail_len() {
+        let old = stopped(&rt, &m, ops, Tear::AsPut)?;
+        let new = stopped(&rt, &m, ops.saturating_add(1), Tear::AsPut)?;
+        for at in PLACES {
+            let images = Images {
+                internal: torn_at(&rt, &new.internal, &old.internal, at)?,
+                external: torn_at(&rt, &new.external, &old.external, at)?,
+            };
+            check_left(&rt, images, m.shown(), ops)?;
+        }
+    }
+    Ok(())
 }

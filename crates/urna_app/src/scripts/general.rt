@@ -1,0 +1,217 @@
+//! A general election, and transcripts of it.
+use crate::tests::{CARGA, Given, NO_KEYS};
+
+/// The five offices of a general election: numbers of four, five, three, two and two digits, and a name of 70 bytes.
+const GENERAL_ELECTION: &[u8] = br#"
+processo = 2022
+data = 20221002
+turno = 1
+cargo = [
+  {codigo = 6, regra = "proporcional", cadeiras = 8},
+  {codigo = 7, regra = "proporcional", cadeiras = 24},
+  {codigo = 5, regra = "simples", cadeiras = 1},
+  {codigo = 3, regra = "absoluta", cadeiras = 1},
+  {codigo = 1, regra = "absoluta", cadeiras = 1},
+]
+partido = [
+  {numero = 45, nome = "PB"},
+  {numero = 20, nome = "PC"},
+  {numero = 13, nome = "PA"},
+]
+candidato = [
+  {cargo = 1, numero = 45, nascimento = 19600303, nome = "EDITE"},
+  {cargo = 1, numero = 13, nascimento = 19551212, nome = "FABIO"},
+  {cargo = 3, numero = 13, nascimento = 19620101, nome = "GILDA"},
+  {cargo = 3, numero = 20, nascimento = 19701130, nome = "HUGO"},
+  {cargo = 5, numero = 451, nascimento = 19580815, nome = "IRENE"},
+  {cargo = 5, numero = 130, nascimento = 19490709, nome = "JO\u00C3O"},
+  {cargo = 7, numero = 20123, nascimento = 19800229, nome = "KARINA"},
+  {cargo = 6, numero = 4510, nascimento = 19770431, nome = "LUIS"},
+  {cargo = 6, numero = 1300, nascimento = 19690620, nome = """MARIA APARECIDA DA CONCEICAO \
+    DOS SANTOS FERREIRA DE OLIVEIRA LIMA NETA"""},
+]
+secao = [
+  {zona = 2, secao = 7, eleitores = 3},
+  {zona = 1, secao = 42, eleitores = 2},
+]
+"#;
+
+/// The least and the greatest title.
+const TWO_VOTERS: &[u8] = b"000000000000\n999999999999\n";
+
+pub(super) const GENERAL_LOAD: Given = Given {
+    tables: Some(GENERAL_ELECTION),
+    roll: Some(TWO_VOTERS),
+    ..CARGA
+};
+
+pub(super) const GENERAL_ON: Given = Given {
+    tables: Some(GENERAL_ELECTION),
+    roll: Some(TWO_VOTERS),
+    ..NO_KEYS
+};
+
+/// The general election before the opening.
+pub(super) const GENERAL_READY: &str = "\
+URNA PRONTA 0
+
+# the zero report of five offices
+M ABRE 20221002080000
+ZERESIMA
+CARGO 6 / 1300 0 / 4510 0 / 13 0 / 20 0 / 45 0 / BRANCO 0 / NULO 0 / TOTAL 0
+CARGO 7 / 20123 0 / 13 0 / 20 0 / 45 0 / BRANCO 0 / NULO 0 / TOTAL 0
+CARGO 5 / 130 0 / 451 0 / BRANCO 0 / NULO 0 / TOTAL 0
+CARGO 3 / 13 0 / 20 0 / BRANCO 0 / NULO 0 / TOTAL 0
+CARGO 1 / 13 0 / 45 0 / BRANCO 0 / NULO 0 / TOTAL 0
+ABERTA 20221002080000
+M TITULO 000000000001
+RECUSA 4
+M TITULO 999999999998
+RECUSA 4
+M TITULO 999999999999
+ELEITOR 999999999999
+";
+
+/// A voter of the general election is released.
+pub(super) const GENERAL_PANELS: &str = "\
+URNA ABERTA 0
+M TITULO 000000000000
+ELEITOR 000000000000
+M LIBERA
+LIBERADO / VOTO 1 CARGO 6
+
+# a candidate on each panel
+E 4510C
+TELA 4 / TELA 45 LEGENDA PB / TELA 451 LEGENDA PB / TELA 4510 CANDIDATO LUIS / VOTO 2 CARGO 7
+E 20123C
+TELA 2 / TELA 20 LEGENDA PC / TELA 201 LEGENDA PC / TELA 2012 LEGENDA PC / TELA 20123 CANDIDATO KARINA
+VOTO 3 CARGO 5
+E 451C
+TELA 4 / TELA 45 / TELA 451 CANDIDATO IRENE / VOTO 4 CARGO 3
+E 13C
+TELA 1 / TELA 13 CANDIDATO GILDA / VOTO 5 CARGO 1
+E 13C
+TELA 1 / TELA 13 CANDIDATO FABIO / FIM
+M ENCERRA 20221002170000
+ENCERRADA 20221002170000 1 / BOLETIM
+CARGO 6 / 1300 0 / 4510 1 / 13 0 / 20 0 / 45 0 / BRANCO 0 / NULO 0 / TOTAL 1
+CARGO 7 / 20123 1 / 13 0 / 20 0 / 45 0 / BRANCO 0 / NULO 0 / TOTAL 1
+CARGO 5 / 130 0 / 451 1 / BRANCO 0 / NULO 0 / TOTAL 1
+CARGO 3 / 13 1 / 20 0 / BRANCO 0 / NULO 0 / TOTAL 1
+CARGO 1 / 13 1 / 45 0 / BRANCO 0 / NULO 0 / TOTAL 1
+
+# parties and numbers of nobody, and then the other voter
+E 20C
+TELA 2 / TELA 20 LEGENDA PC / VOTO 2 CARGO 7
+E 1399C
+TELA 1 / TELA 13 LEGENDA PA / TELA 139 LEGENDA PA / TELA 1399 LEGENDA PA / VOTO 3 CARGO 5
+E 450C
+TELA 4 / TELA 45 / TELA 450 NULO / VOTO 4 CARGO 3
+E 45C
+TELA 4 / TELA 45 NULO / VOTO 5 CARGO 1
+E 20C
+TELA 2 / TELA 20 NULO / FIM
+M TITULO 999999999999
+ELEITOR 999999999999
+M LIBERA
+LIBERADO / VOTO 1 CARGO 6
+E 1300C
+TELA 1 / TELA 13 LEGENDA PA / TELA 130 LEGENDA PA
+TELA 1300 CANDIDATO MARIA APARECIDA DA CONCEICAO DOS SANTOS FERREIRA DE OLIVEIRA LIMA NETA
+VOTO 2 CARGO 7
+E 4510C
+TELA 4 / TELA 45 LEGENDA PB / TELA 451 LEGENDA PB / TELA 4510 LEGENDA PB / VOTO 3 CARGO 5
+E 130C
+TELA 1 / TELA 13 / TELA 130 CANDIDATO JOÃO / VOTO 4 CARGO 3
+E 20C
+TELA 2 / TELA 20 CANDIDATO HUGO / VOTO 5 CARGO 1
+E 45C
+TELA 4 / TELA 45 CANDIDATO EDITE / FIM
+M ENCERRA 20221002170000
+ENCERRADA 20221002170000 2 / BOLETIM
+CARGO 6 / 1300 1 / 4510 0 / 13 0 / 20 1 / 45 0 / BRANCO 0 / NULO 0 / TOTAL 2
+CARGO 7 / 20123 0 / 13 1 / 20 0 / 45 1 / BRANCO 0 / NULO 0 / TOTAL 2
+CARGO 5 / 130 1 / 451 0 / BRANCO 0 / NULO 1 / TOTAL 2
+CARGO 3 / 13 0 / 20 1 / BRANCO 0 / NULO 1 / TOTAL 2
+CARGO 1 / 13 0 / 45 1 / BRANCO 0 / NULO 1 / TOTAL 2
+
+# BRANCO on every panel, in one line of keys
+E BCBCBCBCBC
+TELA BRANCO / VOTO 2 CARGO 7 / TELA BRANCO / VOTO 3 CARGO 5 / TELA BRANCO / VOTO 4 CARGO 3
+TELA BRANCO / VOTO 5 CARGO 1 / TELA BRANCO / FIM
+M ENCERRA 20221002170000
+ENCERRADA 20221002170000 1 / BOLETIM
+CARGO 6 / 1300 0 / 4510 0 / 13 0 / 20 0 / 45 0 / BRANCO 1 / NULO 0 / TOTAL 1
+CARGO 7 / 20123 0 / 13 0 / 20 0 / 45 0 / BRANCO 1 / NULO 0 / TOTAL 1
+CARGO 5 / 130 0 / 451 0 / BRANCO 1 / NULO 0 / TOTAL 1
+CARGO 3 / 13 0 / 20 0 / BRANCO 1 / NULO 0 / TOTAL 1
+CARGO 1 / 13 0 / 45 0 / BRANCO 1 / NULO 0 / TOTAL 1
+
+# suspended after two panels: the other three are null
+E 45C
+TELA 4 / TELA 45 LEGENDA PB / VOTO 2 CARGO 7
+E BC
+TELA BRANCO / VOTO 3 CARGO 5
+E 451
+TELA 4 / TELA 45 / TELA 451 CANDIDATO IRENE
+M SUSPENDE
+FIM
+M ENCERRA 20221002170000
+ENCERRADA 20221002170000 1 / BOLETIM
+CARGO 6 / 1300 0 / 4510 0 / 13 0 / 20 0 / 45 1 / BRANCO 0 / NULO 0 / TOTAL 1
+CARGO 7 / 20123 0 / 13 0 / 20 0 / 45 0 / BRANCO 1 / NULO 0 / TOTAL 1
+CARGO 5 / 130 0 / 451 0 / BRANCO 0 / NULO 1 / TOTAL 1
+CARGO 3 / 13 0 / 20 0 / BRANCO 0 / NULO 1 / TOTAL 1
+CARGO 1 / 13 0 / 45 0 / BRANCO 0 / NULO 1 / TOTAL 1
+
+# suspended on the last panel
+E BCBCBCBC
+TELA BRANCO / VOTO 2 CARGO 7 / TELA BRANCO / VOTO 3 CARGO 5 / TELA BRANCO / VOTO 4 CARGO 3
+TELA BRANCO / VOTO 5 CARGO 1
+M SUSPENDE
+FIM
+URNA ABERTA 1
+M TITULO 000000000000
+RECUSA 5
+
+# one digit of a deputy isn't confirmed, and a fifth digit of four is ignored
+E 4C
+TELA 4
+E 5109C
+TELA 45 LEGENDA PB / TELA 451 LEGENDA PB / TELA 4510 CANDIDATO LUIS / VOTO 2 CARGO 7
+
+# two digits of a senator aren't confirmed, and a fourth digit is ignored
+E BCBC
+TELA BRANCO / VOTO 2 CARGO 7 / TELA BRANCO / VOTO 3 CARGO 5
+E 45C
+TELA 4 / TELA 45
+E 19C
+TELA 451 CANDIDATO IRENE / VOTO 4 CARGO 3
+
+# a corrected senator
+E BCBC
+TELA BRANCO / VOTO 2 CARGO 7 / TELA BRANCO / VOTO 3 CARGO 5
+E 999R130C
+TELA 9 / TELA 99 / TELA 999 NULO / TELA VAZIA / TELA 1 / TELA 13 / TELA 130 CANDIDATO JOÃO / VOTO 4 CARGO 3
+
+# the clerk is refused on the fourth panel, and the voter goes on
+E BCBCBC
+TELA BRANCO / VOTO 2 CARGO 7 / TELA BRANCO / VOTO 3 CARGO 5 / TELA BRANCO / VOTO 4 CARGO 3
+M LIBERA
+RECUSA 6
+M CANCELA
+RECUSA 6
+M TITULO 999999999999
+RECUSA 6
+E 20C
+TELA 2 / TELA 20 CANDIDATO HUGO / VOTO 5 CARGO 1
+
+# the presses end when four panels are confirmed
+E BCBCBCBC
+TELA BRANCO / VOTO 2 CARGO 7 / TELA BRANCO / VOTO 3 CARGO 5 / TELA BRANCO / VOTO 4 CARGO 3
+TELA BRANCO / VOTO 5 CARGO 1
+URNA ABERTA 0
+E BC
+M TITULO 000000000000
+ELEITOR 000000000000
+";
