@@ -1,7 +1,7 @@
 -- Steps that are put out over a store, some after others.
-use Rattle.std.proofs.Common.{◌≡◌, inl, inr, ℕ, ◌+◌, ◌<◌, ◌≤◌, Option, Some, IsSome, Result, Ok, Err, IsErr, List, [], ◌∷◌, ◌++◌, length, slice_get, is_some, refl, sym, ap, subst, ◌∙◌, arith, append_assoc, length-append}
+use Rattle.std.proofs.Common.{◌≡◌, inl, inr, ℕ, ◌+◌, ◌<◌, ◌≤◌, Option, Some, None, IsSome, Result, Ok, Err, IsErr, List, [], ◌∷◌, ◌++◌, length, slice_get, is_some, refl, sym, ap, subst, ◌∙◌, arith, append_assoc, length-append}
 use Rattle.std.proofs.lemmas.Bool.{cases_lt}
-use Rattle.std.proofs.lemmas.List.{map-append}
+use Rattle.std.proofs.lemmas.List.{append-nil, map-append}
 use Rattle.std.specs.List.{concat}
 use Rattle.std.specs.Option.{ForSome}
 use Rattle.urna_outside.specs.Faults.{EndsAt, IsFaultless}
@@ -28,7 +28,7 @@ use Rattle.election_tables.specs.TablesData.{TablesData}
 use Rattle.image_codec.specs.State.{State}
 use Rattle.state_store.specs.Calls.{Commits, HoldEither, IsEither, KeepFrames, Recovers, both_synced}
 use Rattle.state_store.specs.Held.{held_alone, held_by_both}
-use Rattle.state_store.specs.Played.{Follows, HasPut, HasStopped, IsCutAt, IsSafe, IsStateOrNext, Plays, Puts, Survives, shows_in}
+use Rattle.state_store.specs.Played.{AreInOrder, AreInOrderTo, IsCommitOf, Follows, HasPut, HasStopped, IsCutAt, IsSafe, IsStateOrNext, Plays, Puts, Survives, shows_in}
 use Rattle.state_store.specs.Rest.{AreAtRest, body_size}
 use Rattle.state_store.specs.Steps.{AreFull, Step, commits_in, commits_reached, lines_in, quiet, state_after, telling, text_in}
 use Rattle.state_store.specs.declared.load.Load.{Load}
@@ -68,6 +68,41 @@ plays_quiet t load s lines start ops stored rest part =
           ));
     }
 
+-- steps in order, and others behind them
+order-append : (xs ys : List Step) (first second : List Op) → AreInOrder xs first → AreInOrder ys second → AreInOrder (xs ++ ys) (first ++ second)
+order-append [] ys first second none after = subst (λ (l : List Op). AreInOrder ys (l ++ second)) (sym none) after
+order-append (x ∷ xs) ys first second (commit, rest, of, is, more) after =
+    (commit, rest ++ second, of, ap (λ (l : List Op). l ++ second) is ∙ append_assoc commit (Show x.line ∷ rest) second, order-append xs ys rest second more after)
+
+-- a fault in the first steps, and one in the steps behind them
+order_before : (xs ys : List Step) (ops : List Op) → AreInOrderTo xs ops → AreInOrderTo (xs ++ ys) ops
+order_before [] ys ops to = absurd to
+order_before (x ∷ xs) ys ops (commit, rest, of, is, inl torn) = (commit, rest, of, is, inl torn)
+order_before (x ∷ xs) ys ops (commit, rest, of, is, inr (more, split, next)) = (commit, rest, of, is, inr (more, split, order_before xs ys more next))
+
+order_after : (xs ys : List Step) (first second : List Op) → AreInOrder xs first → AreInOrderTo ys second → AreInOrderTo (xs ++ ys) (first ++ second)
+order_after [] ys first second none after = subst (λ (l : List Op). AreInOrderTo ys (l ++ second)) (sym none) after
+order_after (x ∷ xs) ys first second (commit, rest, of, is, more) after = (
+  commit,
+  Show x.line ∷ (rest ++ second),
+  of,
+  ap (λ (l : List Op). l ++ second) is ∙ append_assoc commit (Show x.line ∷ rest) second,
+  inr (rest ++ second, refl, order_after xs ys rest second more after),
+)
+
+-- a line that tells no state
+commits_none : (line : List ℕ) → IsCommitOf (record { line = line; commit = None }) []
+commits_none line = record { silent = refl; syncs = omega arith; none = λ none. refl }
+
+order_quiet : (lines : List (List ℕ)) → AreInOrder (quiet lines) (shows lines)
+order_quiet [] = refl
+order_quiet (line ∷ lines) = ([], shows lines, commits_none line, refl, order_quiet lines)
+
+order_cut : (lines : List (List ℕ)) (ops : List Op) → IsCutShort lines ops → AreInOrderTo (quiet lines) ops
+order_cut [] ops cut = absurd cut
+order_cut (line ∷ lines) ops (inl torn) = ([], ops, commits_none line, refl, inl torn)
+order_cut (line ∷ lines) ops (inr (rest, is, cut)) = ([], ops, commits_none line, refl, inr (rest, is, order_cut lines rest cut))
+
 -- no step
 pub put_nothing : (t : TablesData) (load : Load) (s : State) (a : Told) → IsStored t load s → ForSome a.flashes (AreAtRest load s) → HasPut t load s [] a a
 put_nothing t load s a stored rest =
@@ -76,6 +111,7 @@ put_nothing t load s a stored rest =
       does = does_nothing a;
       plays = plays_quiet t load s [] a.flashes [] stored rest (record { shows = tt; back = []; front = refl });
       shown = refl;
+      order = refl;
       rest = rest;
       fine = faultless_none a;
     }
@@ -90,6 +126,7 @@ put_shown t load s lines a b stored rest showed =
       does = showed.does;
       plays = plays_quiet t load s lines a.flashes (shows lines) stored rest (front_of_text (concat lines) (shows lines) text);
       shown = shows_in_shows (shows lines) text.shows ∙ ap shows (sym (lines_in-quiet lines));
+      order = order_quiet lines;
       rest = subst (λ (u : State). ForSome b.flashes (AreAtRest load u)) (sym (state_after-quiet s lines)) (subst (λ (o : Option Flashes). ForSome o (AreAtRest load s)) (sym kept) rest);
       fine = record { faults = showed.faults; calls = showed.calls };
     }
@@ -105,6 +142,7 @@ stopped_shown t load s lines a b stored rest off =
       plays = plays_quiet t load s lines a.flashes off.ops stored rest part;
       cut =
           subst (λ (l : List (List ℕ)). IsCutShort l (shows_in off.ops)) (sym (lines_in-quiet lines)) (subst (IsCutShort lines) (sym (shows_in_shows off.ops part.shows)) off.cut);
+      order = order_cut lines off.ops off.cut;
       rest = λ display. (s, (0, omega arith, refl), subst (λ (o : Option Flashes). ForSome o (AreAtRest load s)) (sym kept) rest);
       fault = record { faults = off.faults; calls = off.calls };
     }
@@ -181,6 +219,16 @@ module _ (t : TablesData) (load : Load) (s u : State) (line : List ℕ) where
             )));
       }
 
+  -- the commit of the state
+  commits_state : (a : Told) (ops : List Op) → Commits t load.section.voters s u a ops → IsCommitOf (record { line = line; commit = Some u }) ops
+  commits_state a ops commits =
+      record { silent = shows_in_silent (λ d k. IsOfTwin body_size k) ops commits.slots.within; syncs = commits.slots.syncs; none = λ none. absurd (cc) }
+
+  -- a fault in its line
+  order_in_line : (a : Told) (xs ys : List Op) → Commits t load.section.voters s u a xs → IsCutShort (line ∷ []) ys → AreInOrderTo (telling u line) (xs ++ ys)
+  order_in_line a xs ys commits (inl torn) = (xs, ys, commits_state a xs commits, refl, inl torn)
+  order_in_line a xs ys commits (inr (rest, is, cut)) = absurd cut
+
   -- the state was committed and its line shown
   pub put_told : (a b c : Told) → IsStored t load u → Runs (Commits t load.section.voters s u a) a b → IsFaultless a b → ForSome b.flashes (AreAtRest load u) → HasShown (line ∷ []) b c → HasPut t load s (telling u line) a c
   put_told a b c stored run fine rest showed =
@@ -192,6 +240,7 @@ module _ (t : TablesData) (load : Load) (s u : State) (line : List ℕ) where
         plays = plays_told a b run.0 (Show line ∷ []) stored run.2 run.1 rest (front_of_text (line ++ []) (Show line ∷ []) text);
         shown =
             shows_in-append run.0 (Show line ∷ []) ∙ ap (λ (l : List Op). l ++ Show line ∷ []) (shows_in_silent (λ d k. IsOfTwin body_size k) run.0 run.2.slots.within);
+        order = (run.0, [], commits_state a run.0 run.2, refl, refl);
         rest = subst (λ (o : Option Flashes). ForSome o (AreAtRest load u)) (sym kept) rest;
         fine = faultless_trans a b c fine (record { faults = showed.faults; calls = showed.calls });
       }
@@ -208,6 +257,7 @@ module _ (t : TablesData) (load : Load) (s u : State) (line : List ℕ) where
         does = does-append run.0 off.ops a b c run.1 off.does;
         plays = plays_told a b run.0 off.ops stored run.2 run.1 rest part;
         cut = subst (IsCutShort (line ∷ [])) (sym shown) off.cut;
+        order = order_in_line a run.0 off.ops run.2 off.cut;
         rest = λ display. (u, (1, omega arith, refl), subst (λ (o : Option Flashes). ForSome o (AreAtRest load u)) (sym kept) rest);
         fault = ends_later port.Display a b c fine (record { faults = off.faults; calls = off.calls });
       }
@@ -228,6 +278,7 @@ module _ (t : TablesData) (load : Load) (s u : State) (line : List ℕ) where
         does = run.1;
         plays = plays_commit a run.0 run.2;
         cut = cut_in_commit d run.0 (shows_in_silent (λ x k. IsOfTwin body_size k) run.0 run.2.slots.within);
+        order = (run.0, [], commits_state a run.0 run.2, sym (append-nil run.0), inl (inl refl));
         rest = λ display. absurd (no_display d display);
         fault = fault;
       }
@@ -327,6 +378,7 @@ put-append t load s xs ys a b c full first second =
       shown =
           shows_in-append first.ops second.ops ∙ ap (λ (l : List Op). l ++ shows_in second.ops) first.shown
           ∙ ap (λ (l : List Op). shows (lines_in xs) ++ l) second.shown ∙ sym (shows_of_steps xs ys);
+      order = order-append xs ys first.ops second.ops first.order second.order;
       rest = subst (λ (u : State). ForSome c.flashes (AreAtRest load u)) (sym (state_after-append s xs ys)) second.rest;
       fine = faultless_trans a b c first.fine second.fine;
     }
@@ -380,6 +432,7 @@ stopped_before t load s xs ys p a b stopped =
       does = stopped.does;
       plays = plays_before t load s xs ys a.flashes stopped.ops stopped.plays;
       cut = cut_at_before p xs ys (shows_in stopped.ops) stopped.cut;
+      order = order_before xs ys stopped.ops stopped.order;
       rest = λ display. let kept = stopped.rest display in (kept.0, contained_before s kept.0 xs ys kept.1, kept.2);
       fault = stopped.fault;
     }
@@ -394,6 +447,7 @@ stopped_after t load s xs ys p a b c full first stopped =
       does = does-append first.ops stopped.ops a b c first.does stopped.does;
       plays = plays-append t load s xs ys a b first.ops stopped.ops full first.plays first.shown first.does stopped.plays;
       cut = subst (IsCutAt p (xs ++ ys)) (sym shown) (cut_at_after p xs ys (shows_in stopped.ops) stopped.cut);
+      order = order_after xs ys first.ops stopped.ops first.order stopped.order;
       rest = λ display. let kept = stopped.rest display in (kept.0, contained_after s kept.0 xs ys kept.1, kept.2);
       fault = ends_later p a b c first.fine stopped.fault;
     }

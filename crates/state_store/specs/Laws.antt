@@ -16,7 +16,7 @@ use Rattle.state_store.specs.Played.{Survives}
 use Rattle.state_store.specs.Rest.{device_size}
 use Rattle.state_store.specs.Steps.{Step, commits_in}
 
--- two flashes are loaded for one section
+-- two flashes are loaded for one section at most
 abbrev pub LoadedOnce : Type 0
 LoadedOnce =
     (t : TablesData) (r : RollData) (section other : Section) (internal external : List ℕ) → IsTables t

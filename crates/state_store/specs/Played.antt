@@ -1,5 +1,5 @@
 -- Putting steps out over a store: each state is committed, and then its line is shown
-use Rattle.std.specs.Prelude.{◌≡◌, ◌⊎◌, ℕ, ◌+◌, ◌*◌, ◌<◌, ◌≤◌, List, [], ◌∷◌, ◌++◌, Option, Some, Result, Ok, Err, length, slice_get, IsSome, Contains}
+use Rattle.std.specs.Prelude.{◌≡◌, ◌⊎◌, ℕ, ◌+◌, ◌*◌, ◌<◌, ◌≤◌, List, [], ◌∷◌, ◌++◌, Option, Some, None, Result, Ok, Err, length, slice_get, IsSome, Contains}
 use Rattle.std.specs.List.{AllByRecursion}
 use Rattle.std.specs.Option.{ForSome}
 use Rattle.urna_outside.specs.Confined.{count_syncs}
@@ -7,7 +7,7 @@ use Rattle.urna_outside.specs.Faults.{EndsAt, IsFaultless}
 use Rattle.urna_outside.specs.Flash.{Op, Put, Sync, Show, Flashes, after}
 use Rattle.urna_outside.specs.ShownLines.{IsCutShort, shows}
 use Rattle.urna_outside.specs.Stop.{AtEachStop, Left}
-use Rattle.urna_outside.specs.Told.{Told, Does, Runs}
+use Rattle.urna_outside.specs.Told.{Told, Does, IsTornShow, Runs}
 use Rattle.urna_outside.specs.declared.device.Port.{Port}
 use Rattle.urna_outside.specs.declared.device.Port.TheVariants as port
 use Rattle.election_tables.specs.TablesData.{TablesData}
@@ -52,12 +52,32 @@ pub record Plays (t : TablesData) (load : Load) (s : State) (steps : List Step) 
   pub idle : commits_in steps ≡ [] → ops ≡ shows_in ops
   pub stops : ForSome start (λ flashes. AtEachStop flashes ops (λ left. Follows t load.section.voters s steps left × KeepFrames flashes left))
 
--- All steps were put out, one show a line, and no call failed. Both flashes are at rest with the state after them.
+-- what a step does before its line: the commit of the state that it tells, with at most 12 syncs; where it tells none, nothing
+pub record IsCommitOf (step : Step) (ops : List Op) : Type 0 where
+  pub silent : shows_in ops ≡ []
+  pub syncs : count_syncs ops ≤ 12
+  pub none : step.commit ≡ None → ops ≡ []
+
+-- each line is one show, just behind the commit of its step
+abbrev pub AreInOrder : List Step → List Op → Type 0
+AreInOrder [] ops = ops ≡ []
+AreInOrder (step ∷ steps) ops =
+    (commit : List Op) × (rest : List Op) × IsCommitOf step commit × (ops ≡ commit ++ Show step.line ∷ rest) × AreInOrder steps rest
+
+-- the same up to a fault in the commit of a step, or in its line
+abbrev pub AreInOrderTo : List Step → List Op → Type 0
+AreInOrderTo [] ops = ⊥
+AreInOrderTo (step ∷ steps) ops =
+    (commit : List Op) × (rest : List Op) × IsCommitOf step commit × (ops ≡ commit ++ rest)
+    × (IsTornShow step.line rest ⊎ ((more : List Op) × (rest ≡ Show step.line ∷ more) × AreInOrderTo steps more))
+
+-- All steps were put out in order, and no call failed. Both flashes are at rest with the state after them.
 pub record HasPut (t : TablesData) (load : Load) (s : State) (steps : List Step) (old new : Told) : Type 0 where
   pub ops : List Op
   pub does : Does ops old new
   pub plays : Plays t load s steps old.flashes ops
   pub shown : shows_in ops ≡ shows (lines_in steps)
+  pub order : AreInOrder steps ops
   pub rest : ForSome new.flashes (AreAtRest load (state_after s steps))
   pub fine : IsFaultless old new
 
@@ -76,6 +96,7 @@ pub record HasStopped (t : TablesData) (load : Load) (s : State) (steps : List S
   pub does : Does ops old new
   pub plays : Plays t load s steps old.flashes ops
   pub cut : IsCutAt at steps (shows_in ops)
+  pub order : AreInOrderTo steps ops
   pub rest : at ≡ port.Display → (u : State) × Contains (s ∷ commits_in steps) u × ForSome new.flashes (AreAtRest load u)
   pub fault : EndsAt at old new
 

@@ -1,7 +1,7 @@
 //! Laws of what is found on two flashes (`specs/Laws.antt`). Each function here does nothing: its contract is the law.
 ghost use Rattle.state_store.specs.Laws.{ForeignOnce, LoadedOnce, LoadedOrForeign, RecoveryGoesOn, SessionGoesOn};
 
-/// Two flashes are loaded for one section, or the internal one is foreign, or the external one is, and not two of these.
+/// Two flashes are loaded for one section at most; loaded flashes are not foreign; and not both sides are.
 pub fn one_finding()
     ensures loaded { LoadedOnce }
     ensures either { LoadedOrForeign }

@@ -8,7 +8,7 @@
 mod find;
 mod frame;
 mod in_use;
-mod laws;
+pub mod laws;
 mod load;
 mod ranks;
 mod room;

@@ -10,7 +10,7 @@
 #![tactic(auto)]
 
 mod act;
-mod laws;
+pub mod laws;
 mod line;
 mod perform;
 mod session;

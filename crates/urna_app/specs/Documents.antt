@@ -5,7 +5,7 @@ use Rattle.urna_base.specs.Lines.{lines_of}
 use Rattle.urna_outside.specs.Cabinet.{Files, Holds, HoldsLonger, Lacks}
 use Rattle.election_tables.specs.Roll.{IsRollOf, RollData, HasBadLine, has_count}
 use Rattle.election_tables.specs.Tables.{IsReadAs, IsNoDocument, BreaksFirst}
-use Rattle.election_tables.specs.TablesData.{TablesData}
+use Rattle.election_tables.specs.TablesData.{IsTables, TablesData}
 use Rattle.key_script.specs.Script.{events_of, first_bad}
 use Rattle.key_script.specs.declared.keys.Event.{Event}
 use Rattle.urna_app.specs.declared.status.Doc.{Doc}
@@ -43,6 +43,7 @@ pub record HasTables (files : Option Files) (name : List ℕ) (t : TablesData) :
   pub bytes : List ℕ
   pub taken : IsTaken files doc.Tables name bytes
   pub read : IsReadAs bytes t
+  pub valid : IsTables t
 
 pub record HasRoll (files : Option Files) (name : List ℕ) (r : RollData) : Type 0 where
   pub bytes : List ℕ

@@ -1,11 +1,10 @@
 -- The lines that tell why a command was refused (docs/FORMATS.md, "Fault lines")
-use Rattle.std.specs.Prelude.{ℕ, List, [], ◌∷◌, ◌++◌, Option, Some, None, ◌⊎◌, codes}
+use Rattle.std.specs.Prelude.{◌≡◌, ℕ, List, [], ◌∷◌, ◌++◌, Option, Some, None, ◌⊎◌, codes}
 use Rattle.std.specs.Fmt.{decimal}
 use Rattle.urna_outside.specs.ShownLines.{HasShown, IsCutOff}
 use Rattle.urna_outside.specs.Told.{Told}
 use Rattle.urna_outside.specs.declared.device.Dev.{Dev}
 use Rattle.urna_outside.specs.declared.device.Dev.TheVariants.{Internal, External}
-use Rattle.state_store.specs.Calls.{IsUntouched}
 use Rattle.urna_app.specs.declared.status.Doc.{Doc}
 use Rattle.urna_app.specs.declared.status.Doc.TheVariants as doc
 use Rattle.urna_app.specs.declared.status.Status.{Status}
@@ -44,7 +43,7 @@ fault_text status.NoSection = Some (codes "SECAO")
 abbrev pub fault_line : List ℕ → List ℕ
 fault_line text = codes "ERRO " ++ text ++ 10 ∷ []
 
--- The line was shown, whole unless the display failed; where there is none, nothing was done.
+-- The line was shown, whole unless the display failed; where there is none, no call was made.
 abbrev pub Tells : Option (List ℕ) → Told → Told → Type 0
-Tells None old new = IsUntouched old new
+Tells None old new = new ≡ old
 Tells (Some text) old new = HasShown (fault_line text ∷ []) old new ⊎ IsCutOff (fault_line text ∷ []) old new

@@ -81,10 +81,15 @@ fn run_command<M: Machine, C: Cabinet>(
     Err(Status::Usage)
 }
 
-/// The words after the program's name.
+/// The words after the program's name. A word that isn't UTF-8 is in no command; there are none then.
 fn words(rt: &HostRuntime) -> io::Result<Vec<String>> {
     let mut words = Vec::new(rt.alloc());
-    for word in env::args(rt)?.skip(1) {
+    let args = match env::args(rt) {
+        Ok(args) => args,
+        Err(error) if error.kind() == io::ErrorKind::InvalidData => return Ok(words),
+        Err(error) => return Err(error),
+    };
+    for word in args.skip(1) {
         words.push(word)?;
     }
     Ok(words)

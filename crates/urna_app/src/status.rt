@@ -22,7 +22,7 @@ pub enum Status {
     Usage,
     /// The tables are no TOML document.
     TablesNotToml,
-    /// The first rule that the tables break; 0 where they keep every rule and the station doesn't serve their offices.
+    /// The first rule that the tables break, 1 to 14.
     TablesRule(u8),
     /// The roll hasn't 1 to 600 lines.
     RollCount,

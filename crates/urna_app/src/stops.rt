@@ -25,6 +25,18 @@ const FIRST_VOTER: Given = Given {
     ..ON
 };
 
+/// What that session shows before the voter's FIM.
+const VOTING: &[u8] = b"URNA ABERTA 0
+ELEITOR 010000000001
+LIBERADO
+VOTO 1 CARGO 13
+TELA 4
+TELA 45 LEGENDA PB
+VOTO 2 CARGO 11
+TELA 1
+TELA 13 CANDIDATO CARLA
+";
+
 /// An opening and two voters, which have three commits.
 const TWO_VOTERS: Given = Given {
     keys: Some(
@@ -142,6 +154,7 @@ fn a_commit_stopped_at_the_external_flash(rt: HostRuntime) -> Result<(), Fail> {
     for call in 0..200 {
         let (status, m) = run_failing(&rt, FIRST_VOTER, left(&rt, &opened)?, &[call])?;
         if status == Status::ExternalFlash && m.shown().len() > HELD[1].len() {
+            assert_eq!(&rt; m.shown(), VOTING);
             faults = faults.saturating_add(1);
             if faults == 3 {
                 return goes_on_with_one_voter(&rt, left(&rt, &m)?);
@@ -203,6 +216,28 @@ fn tells_one_of(
     Ok(Some(line.as_slice()) == one || Some(line.as_slice()) == next)
 }
 
+// Each call of a session fails once. A port is answered then, never one of the causes that are said in a line, and what is shown is
+// a front of the session's text: one that answers want of memory, or a fault that didn't come, is refused here.
+#[test]
+fn each_call_of_a_session_fails_once(rt: HostRuntime) -> Result<(), Fail> {
+    let (done, whole) = run(&rt, TWO_VOTERS, loaded(&rt, LOAD)?)?;
+    assert_eq!(&rt; done, Status::Done);
+    for call in 0..1_000 {
+        let (status, m) = run_failing(&rt, TWO_VOTERS, loaded(&rt, LOAD)?, &[call])?;
+        if status == Status::Done {
+            assert_eq!(&rt; m.shown(), whole.shown());
+            return Ok(());
+        }
+        let is_port = matches!(
+            status,
+            Status::InternalFlash | Status::ExternalFlash | Status::Display
+        );
+        assert!(&rt; is_port, "call {call}: {status:?}");
+        assert!(&rt; whole.shown().starts_with(m.shown()), "call {call}");
+    }
+    panic!(&rt; "a call always failed");
+}
+
 /// What is left after some operations of a session: both flashes, and each alone where something is shown, tell the state that was
 /// shown last, or the next.
 fn check_left(
@@ -246,6 +281,7 @@ const TEARS: [Tear; 4] = [
     Tear::Byte(0xA5),
 ];
 
+// A session that commits but once at its end, or shows FIM after one flash, is refused here.
 #[test]
 fn a_session_stopped_after_each_operation(rt: HostRuntime) -> Result<(), Fail> {
     let m = two_voters(&rt)?;
