@@ -216,8 +216,8 @@ fn tells_one_of(
     Ok(Some(line.as_slice()) == one || Some(line.as_slice()) == next)
 }
 
-// Each call of a session fails once. A port is answered then, never one of the causes that are said in a line, and what is shown is
-// a front of the session's text: one that answers want of memory, or a fault that didn't come, is refused here.
+// Each call of a session fails once. Its port is answered then, and what is shown is a front of the session's text.
+// One that always answers want of memory is refused here.
 #[test]
 fn each_call_of_a_session_fails_once(rt: HostRuntime) -> Result<(), Fail> {
     let (done, whole) = run(&rt, TWO_VOTERS, loaded(&rt, LOAD)?)?;
@@ -238,8 +238,8 @@ fn each_call_of_a_session_fails_once(rt: HostRuntime) -> Result<(), Fail> {
     panic!(&rt; "a call always failed");
 }
 
-/// What is left after some operations of a session: both flashes, and each alone where something is shown, tell the state that was
-/// shown last, or the next.
+/// What is left after some operations of a session: both flashes, and each alone where something is shown, tell the
+/// state that was shown last, or the next.
 fn check_left(
     rt: &(impl Abort + AllocGlobal),
     images: Images,
