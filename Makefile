@@ -22,5 +22,5 @@ crash-trial: urna
 # The program, proved and built where something has changed. No command has this word, so that its run touches no flash and
 # ends with the status 2.
 urna:
-	@echo "proving and building urna where something has changed (from nothing this takes a quarter of an hour)" >&2
+	@echo "proving and building urna where something has changed (from nothing this takes a quarter of an hour and more)" >&2
 	@cd crates/urna_app && { said=$$(rt run -- nada 2>&1); [ $$? -eq 2 ] || { echo "$$said" >&2; exit 1; }; }

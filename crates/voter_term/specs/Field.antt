@@ -78,6 +78,18 @@ shown_by line earlier w k =
     if is_confirm k then (if is_confirmable line (field_after line.digits w) then shown.Voted (choice_of line earlier (field_after line.digits w)) else shown.Nothing)
     else (if same_field (field_after line.digits (w ++ k ∷ [])) (field_after line.digits w) then shown.Nothing else shown.Screen)
 
+-- the field on the screen that a key shows, if it shows one
+abbrev pub screen_in : Shown → Field → List Field
+screen_in shown.Nothing f = []
+screen_in shown.Screen f = f ∷ []
+screen_in (shown.Voted choice) f = []
+
+-- the fields on the screens that some keys show behind a word, in order
+abbrev pub screens_behind : BallotLine → Option Choice → List Key → List Key → List Field
+screens_behind line earlier w [] = []
+screens_behind line earlier w (k ∷ keys) =
+    screen_in (shown_by line earlier w k) (field_after line.digits (w ++ k ∷ [])) ++ screens_behind line earlier (w ++ k ∷ []) keys
+
 -- What a key says of the word that it ends: Voted, that the word is a panel word with this choice; anything else, that no
 -- panel word stands at the word's front.
 abbrev pub Reads : BallotLine → Option Choice → List Key → Shown → Type 0
