@@ -15,3 +15,4 @@ pub mod Ready
 pub mod Unused
 pub mod Formatting
 pub mod Going
+mod Costs

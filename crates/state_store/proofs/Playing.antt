@@ -17,7 +17,6 @@ use Rattle.urna_outside.specs.declared.device.Port.TheVariants as port
 use Rattle.urna_outside.proofs.Courses.{in_shows, stops_silent}
 use Rattle.urna_outside.proofs.Doing.{does-append, does_nothing, told_after}
 use Rattle.urna_outside.proofs.Faults.{ends_later, faultless_none, faultless_trans}
-use Rattle.urna_outside.proofs.Runs.{syncs-append}
 use Rattle.urna_outside.proofs.Showing.{shows_keep}
 use Rattle.urna_outside.proofs.ShowingLines.{cut_front, shows_lines}
 use Rattle.urna_outside.proofs.Stops.{stops-append, stops-append_silent, stops_both}
@@ -32,9 +31,9 @@ use Rattle.state_store.specs.Played.{AreInOrder, AreInOrderTo, IsCommitOf, Follo
 use Rattle.state_store.specs.Rest.{AreAtRest, body_size}
 use Rattle.state_store.specs.Steps.{AreFull, Step, commits_in, commits_reached, lines_in, quiet, state_after, telling, text_in}
 use Rattle.state_store.specs.declared.load.Load.{Load}
-use Rattle.state_store.proofs.Counting.{commits_in-append, commits_in-quiet, contained_after, contained_before, lines_in-append, lines_in-quiet, only_state, reached-quiet, reached-telling, reached_after, reached_before, state_after-append, state_after-quiet, state_or_next_after, state_or_next_before, text_in-append, text_in-quiet}
+use Rattle.state_store.proofs.Counting.{commits_in-quiet, contained_after, contained_before, lines_in-append, lines_in-quiet, only_state, reached-quiet, reached-telling, reached_after, reached_before, state_after-append, state_after-quiet, state_or_next_after, state_or_next_before, text_in-append, text_in-quiet}
 use Rattle.state_store.proofs.Resting.{IsStored, frames_at_end, frames_same, frames_text, frames_trans, rest_holds}
-use Rattle.state_store.proofs.ShowStops.{front_of_text, session-append, session_shows, session_slots, shows_in-append, shows_in_shows, shows_in_silent, stops_of_shows, syncs_shows, text_of_lines}
+use Rattle.state_store.proofs.ShowStops.{front_of_text, session-append, session_shows, session_slots, shows_in-append, shows_in_shows, shows_in_silent, stops_of_shows, text_of_lines}
 
 -- what is left at a stop of the steps
 abbrev Leaves : TablesData → Load → State → List Step → Flashes → Left → Type 0
@@ -51,8 +50,6 @@ plays_quiet : (t : TablesData) (load : Load) (s : State) (lines : List (List ℕ
 plays_quiet t load s lines start ops stored rest part =
     record {
       slots = session_shows ops part.shows;
-      syncs = omega (arith, syncs_shows ops part.shows);
-      idle = λ none. sym (shows_in_shows ops part.shows);
       stops = λ flashes told.
           let resting = rest flashes told in
           stops_of_shows flashes ops (Leaves t load s (quiet lines) flashes) part.shows (λ left internal external more split.
@@ -189,8 +186,6 @@ module _ (t : TablesData) (load : Load) (s u : State) (line : List ℕ) where
   plays_commit a ops commits =
       record {
         slots = session_slots ops commits.slots.within;
-        syncs = commits.slots.syncs;
-        idle = λ none. absurd (cc);
         stops = while_committed a ops commits;
       }
 
@@ -199,8 +194,6 @@ module _ (t : TablesData) (load : Load) (s u : State) (line : List ℕ) where
   plays_told a b xs ys stored commits does rest part =
       record {
         slots = session-append xs ys (session_slots xs commits.slots.within) (session_shows ys part.shows);
-        syncs = omega (arith, commits.slots.syncs, syncs-append xs ys, syncs_shows ys part.shows);
-        idle = λ none. absurd (cc);
         stops = λ start told.
             let mid = after xs start in
             let resting = rest mid (told_after xs a b start does told) in
@@ -318,23 +311,10 @@ follows_after t voters s xs ys left full follows =
     each held is =
         subst (λ (n : ℕ). IsStateOrNext (s ∷ commits_in (xs ++ ys)) n held) (sym (reached_after xs ys left.shown full)) (state_or_next_after s xs ys (commits_reached ys (length left.shown)) held is)
 
--- no state is told by either, where none is told by both
-no_commits : (xs ys : List Step) → commits_in (xs ++ ys) ≡ [] → (commits_in xs ≡ []) × (commits_in ys ≡ [])
-no_commits xs ys none = go (commits_in xs) (commits_in ys) (sym (commits_in-append xs ys) ∙ none)
-  where
-    go : (first second : List State) → first ++ second ≡ [] → (first ≡ []) × (second ≡ [])
-    go [] second same = (refl, same)
-    go (u ∷ first) second same = absurd (cc)
-
-more_commits : (xs ys : List Step) → length (commits_in (xs ++ ys)) ≡ length (commits_in xs) + length (commits_in ys)
-more_commits xs ys = ap length (commits_in-append xs ys) ∙ length-append (commits_in xs) (commits_in ys)
-
 plays_before : (t : TablesData) (load : Load) (s : State) (xs ys : List Step) (start : Option Flashes) (ops : List Op) → Plays t load s xs start ops → Plays t load s (xs ++ ys) start ops
 plays_before t load s xs ys start ops plays =
     record {
       slots = plays.slots;
-      syncs = omega (arith, plays.syncs, more_commits xs ys);
-      idle = λ none. plays.idle (no_commits xs ys none).0;
       stops = λ flashes told done stop left is.
           let holds = plays.stops flashes told done stop left is in
           (follows_before t load.section.voters s xs ys left holds.0, holds.1);
@@ -346,10 +326,6 @@ plays-append : (t : TablesData) (load : Load) (s : State) (xs ys : List Step) (a
 plays-append t load s xs ys a b first second full plays shown does later =
     record {
       slots = session-append first second plays.slots later.slots;
-      syncs = omega (arith, plays.syncs, later.syncs, more_commits xs ys, syncs-append first second);
-      idle = λ none.
-          let each = no_commits xs ys none in
-          ap (λ (l : List Op). l ++ second) (plays.idle each.0) ∙ ap (λ (l : List Op). shows_in first ++ l) (later.idle each.1) ∙ sym (shows_in-append first second);
       stops = λ start told.
           let mid = after first start in
           let text : shown_by first ≡ text_in xs = text_of_lines first (lines_in xs) shown in

@@ -1,7 +1,7 @@
 -- The shows among operations, and the stops of shows.
 use Rattle.std.proofs.Common.{◌≡◌, inl, inr, ℕ, List, [], ◌∷◌, ◌++◌, refl, sym, ap, subst, ◌∙◌, append_assoc, append-nil}
 use Rattle.std.specs.List.{AllByRecursion, concat}
-use Rattle.urna_outside.specs.Confined.{AreIn, count_syncs}
+use Rattle.urna_outside.specs.Confined.{AreIn}
 use Rattle.urna_outside.specs.Flash.{Op, Put, Sync, Show, Flashes, shown_by, IsImage}
 use Rattle.urna_outside.specs.ShownLines.{shows}
 use Rattle.urna_outside.specs.Shows.{IsShow, AreShows, ShowsFront, ShowsText}
@@ -68,12 +68,6 @@ session_slots [] all = tt
 session_slots (Put d at bytes ∷ ops) all = (all.0, session_slots ops all.1)
 session_slots (Sync d ∷ ops) all = (tt, session_slots ops all.1)
 session_slots (Show bytes ∷ ops) all = absurd all.0
-
-pub syncs_shows : (ops : List Op) → AreShows ops → count_syncs ops ≡ 0
-syncs_shows [] all = refl
-syncs_shows (Put d at bytes ∷ ops) all = absurd all.0
-syncs_shows (Sync d ∷ ops) all = absurd all.0
-syncs_shows (Show bytes ∷ ops) all = syncs_shows ops all.1
 
 -- The stops of shows
 

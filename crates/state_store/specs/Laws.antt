@@ -1,6 +1,7 @@
--- Laws of what is found on two flashes, and of what a power cut leaves to the next call
-use Rattle.std.specs.Prelude.{◌≡◌, ℕ, List, [], ◌∷◌, Some, length, Contains}
-use Rattle.urna_outside.specs.Flash.{Flashes, flash_of}
+-- Laws of what is found on two flashes, of what a session costs, and of what a power cut leaves to the next call
+use Rattle.std.specs.Prelude.{◌≡◌, ◌⊎◌, ◌≤◌, ◌*◌, ℕ, List, [], ◌∷◌, Some, length, Contains}
+use Rattle.urna_outside.specs.Confined.{count_syncs}
+use Rattle.urna_outside.specs.Flash.{Flashes, Op, flash_of}
 use Rattle.urna_outside.specs.Started.{clean_flashes}
 use Rattle.urna_outside.specs.Stop.{Left}
 use Rattle.urna_outside.specs.declared.device.Dev.{Dev}
@@ -12,7 +13,7 @@ use Rattle.image_codec.specs.State.{State}
 use Rattle.state_store.specs.Calls.{AreFound, KeepFrames}
 use Rattle.state_store.specs.Held.{AreLoaded, IsForeign, held_by_both}
 use Rattle.state_store.specs.Load.{load_of}
-use Rattle.state_store.specs.Played.{Survives}
+use Rattle.state_store.specs.Played.{AreInOrder, AreInOrderTo, Survives, shows_in}
 use Rattle.state_store.specs.Rest.{device_size}
 use Rattle.state_store.specs.Steps.{Step, commits_in}
 
@@ -45,11 +46,18 @@ pub record IsPollOf (t : TablesData) (r : RollData) (section : Section) (states 
   pub one : Contains states state
   pub found : AreFound t r section state (clean_flashes left.internal left.external)
 
--- What a power cut leaves of a session is a poll in the state that the session found or in one that it committed.
+-- What a power cut leaves of a session is a poll in the state that the session found or in one of those that its steps tell.
 abbrev pub SessionGoesOn : Type 0
 SessionGoesOn =
     (t : TablesData) (r : RollData) (section : Section) (s : State) (steps : List Step) (start : Flashes) (left : Left) → AreWhole start
     → AreFound t r section s start → Survives t (load_of t r section) s steps start left → IsPollOf t r section (s ∷ commits_in steps) left
+
+-- Steps that were put out in order cost at most 12 syncs for each state that they tell, and where they tell none they are shows
+-- alone, whether all of them were put out or a fault cut them off.
+abbrev pub CostsAreBounded : Type 0
+CostsAreBounded =
+    (steps : List Step) (ops : List Op) → AreInOrder steps ops ⊎ AreInOrderTo steps ops
+    → (count_syncs ops ≤ 12 * length (commits_in steps)) × (commits_in steps ≡ [] → ops ≡ shows_in ops)
 
 -- What one leaves of a recovery is a poll in the state that the recovery found.
 abbrev pub RecoveryGoesOn : Type 0

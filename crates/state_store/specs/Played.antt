@@ -1,5 +1,5 @@
 -- Putting steps out over a store: each state is committed, and then its line is shown
-use Rattle.std.specs.Prelude.{◌≡◌, ◌⊎◌, ℕ, ◌+◌, ◌*◌, ◌<◌, ◌≤◌, List, [], ◌∷◌, ◌++◌, Option, Some, None, Result, Ok, Err, length, slice_get, IsSome, Contains}
+use Rattle.std.specs.Prelude.{◌≡◌, ◌⊎◌, ℕ, ◌+◌, ◌<◌, ◌≤◌, List, [], ◌∷◌, ◌++◌, Option, Some, None, Result, Ok, Err, length, slice_get, IsSome, Contains}
 use Rattle.std.specs.List.{AllByRecursion}
 use Rattle.std.specs.Option.{ForSome}
 use Rattle.urna_outside.specs.Confined.{count_syncs}
@@ -48,8 +48,6 @@ pub record Follows (t : TablesData) (voters : ℕ) (s : State) (steps : List Ste
 -- what holds of the operations while the steps are put out, whole or up to a fault
 pub record Plays (t : TablesData) (load : Load) (s : State) (steps : List Step) (start : Option Flashes) (ops : List Op) : Type 0 where
   pub slots : AllByRecursion IsOfSession ops
-  pub syncs : count_syncs ops ≤ 12 * length (commits_in steps)
-  pub idle : commits_in steps ≡ [] → ops ≡ shows_in ops
   pub stops : ForSome start (λ flashes. AtEachStop flashes ops (λ left. Follows t load.section.voters s steps left × KeepFrames flashes left))
 
 -- what a step does before its line: the commit of the state that it tells, with at most 12 syncs; where it tells none, nothing

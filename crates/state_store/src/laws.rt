@@ -1,5 +1,5 @@
-//! Laws of what is found on two flashes (`specs/Laws.antt`). Each function here does nothing: its contract is the law.
-ghost use Rattle.state_store.specs.Laws.{ForeignOnce, LoadedOnce, LoadedOrForeign, RecoveryGoesOn, SessionGoesOn};
+//! Laws of what is found on two flashes, and of sessions over them (`specs/Laws.antt`). Each function here does nothing: its contract is the law.
+ghost use Rattle.state_store.specs.Laws.{CostsAreBounded, ForeignOnce, LoadedOnce, LoadedOrForeign, RecoveryGoesOn, SessionGoesOn};
 
 /// Two flashes are loaded for one section at most; loaded flashes are not foreign; and not both sides are.
 pub fn one_finding()
@@ -13,4 +13,9 @@ pub fn one_finding()
 pub fn goes_on()
     ensures session { SessionGoesOn }
     ensures recovery { RecoveryGoesOn }
+{}
+
+/// What a session does is bounded: at most 12 syncs for each state that its lines tell, and nothing but shows where they tell none.
+pub fn commit_cost()
+    ensures { CostsAreBounded }
 {}
