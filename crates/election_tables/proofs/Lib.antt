@@ -13,4 +13,5 @@ mod Reading
 mod Determined
 pub mod Named
 pub mod Places
+pub mod PlacesOfPanels
 mod Numbers

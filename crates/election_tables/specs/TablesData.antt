@@ -1,5 +1,5 @@
 -- What contracts see of the tables, and what is so of all tables that were read.
-use Rattle.std.specs.Prelude.{◌≡◌, ◌≢◌, ℕ, ◌≤◌, List, [], length, map, slice_get, Option, Some, option_map, IsTrue, ◌==◌, ◌&&◌}
+use Rattle.std.specs.Prelude.{◌≡◌, ◌≢◌, ℕ, ◌≤◌, List, [], length, map, slice_get, slice_index, Option, Some, option_map, IsTrue, ◌==◌, ◌&&◌}
 use Rattle.std.specs.List.{All, AllPairs, find, list_any}
 use Rattle.std.specs.List.Sorted.{IsStrictlyIncreasing, IsStrictlySortedBy}
 use Rattle.std.specs.Option.{option_map_or}
@@ -32,8 +32,15 @@ abbrev pub candidates_at : ℕ → TablesData → List NamedCandidate
 candidates_at panel t = option_map_or (λ p. p.candidates) (slice_get t.panels panel) []
 
 -- how many votes each voter has in a panel
+abbrev pub places_in : Panel → ℕ
+places_in p = 1
+
+-- the same of each panel of the tables, and of the panel of a number, 0 where there is no such panel
+abbrev pub places_of : TablesData → List ℕ
+places_of t = map places_in t.panels
+
 abbrev pub places_at : TablesData → ℕ → ℕ
-places_at t panel = 1
+places_at t panel = slice_index (places_of t) panel
 
 -- what `candidate` tells of a candidate
 abbrev pub without_name : NamedCandidate → Candidate

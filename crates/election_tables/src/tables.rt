@@ -182,7 +182,8 @@ impl Tables {
     /// How many votes each voter has in a panel.
     pub fn places(&self, panel: u32) -> u32
         requires { panel < length self.now.panels }
-        ensures { result ≡ places_at self.now panel }
+        ensures places { result ≡ places_at self.now panel }
+        ensures few { (1 ≤ result) × (result ≤ 2) }
     {
         1
     }

@@ -1,15 +1,16 @@
 -- One voter's choices, added panel by panel
-use Rattle.std.proofs.Common.{◌≡◌, ◌≢◌, ℕ, suc, ◌+◌, ◌≤◌, ◌<◌, List, ◌∷◌, length, drop, get_or, refl, sym, ap, subst, ◌∙◌, arith, add-one}
+use Rattle.std.proofs.Common.{◌≡◌, ◌≢◌, ℕ, suc, ◌+◌, ◌≤◌, ◌<◌, List, ◌∷◌, length, drop, get_or, slice_index, refl, sym, ap, subst, ◌∙◌, arith, add-one}
 use Rattle.std.proofs.Math.ListN.{drop_of_length-le}
 use Rattle.std.proofs.Math.Seq.{drop-cons}
-use Rattle.election_tables.specs.TablesData.{TablesData}
+use Rattle.election_tables.specs.TablesData.{TablesData, places_of}
+use Rattle.election_tables.proofs.PlacesOfPanels.{one_place}
 use Rattle.vote_kinds.specs.declared.choice.Choice.{Choice}
 use Rattle.vote_kinds.specs.Ballot.{BallotLine, ballot_lines}
 use Rattle.vote_record.specs.Bag.{bag_at, with_vote}
 use Rattle.vote_record.specs.RdvData.{RdvData, room_at, with_vote_in}
 use Rattle.vote_record.proofs.Bags.{length-with_vote, bag_at-with_vote_other}
 use Rattle.image_codec.specs.State.{with_votes}
-use Rattle.image_codec.specs.Valid.{HasRoom}
+use Rattle.image_codec.specs.Valid.{HasRoomForVoter}
 use Rattle.image_codec.proofs.Ballots.{drop-ballot_lines}
 
 -- the choices of the first n panels are added: those that are left lead to the bags with all of them
@@ -20,13 +21,17 @@ pub record AreAdded (lines : List BallotLine) (choices : List Choice) (before no
   pub same_places : now.places ≡ before.places
   pub room : (panel : ℕ) → n ≤ panel → panel < length now.bags → length (bag_at now.bags panel) < room_at now panel
 
-pub added_none : (lines : List BallotLine) (choices : List Choice) (before : RdvData) → HasRoom before → AreAdded lines choices before before 0
-added_none lines choices before has = record {
+pub added_none : (t : TablesData) (lines : List BallotLine) (choices : List Choice) (before : RdvData) → length before.bags ≡ length t.panels → before.places ≡ places_of t → HasRoomForVoter before
+    → AreAdded lines choices before before 0
+added_none t lines choices before many places has = record {
   rest = refl;
   as_many = refl;
   same_voters = refl;
   same_places = refl;
-  room = λ panel ge lt. has panel lt;
+  room = λ panel ge lt.
+      let one : slice_index before.places panel ≡ 1 = ap (λ (p : List ℕ). slice_index p panel) places ∙ one_place t panel (omega arith) in
+      let free = has panel lt in
+      omega arith;
 }
 
 one_more : (t : TablesData) (choices : List Choice) (bags : List (List Choice)) (n : ℕ) (d : Choice) → n < length choices → n < length t.panels

@@ -22,7 +22,7 @@ after lines s b = with_ballot lines s b.place b.choices
 
 after-swap : (lines : List BallotLine) (s : State) (a b : Ballot) → after lines (after lines s a) b ≡ after lines (after lines s b) a
 after-swap lines s a b =
-    let of_parts : List Bool → List (List Choice) → State = λ m v. record { phase = s.phase; came = m; bags = v } in
+    let of_parts : List Bool → List (List Choice) → State = λ m v. record { phase = s.phase; came = m; places = s.places; bags = v } in
     ap (λ (m : List Bool). of_parts m (with_votes lines b.choices (with_votes lines a.choices s.bags))) (marks-swap s.came a.place b.place)
     ∙ ap (of_parts (slice_set (slice_set s.came b.place true) a.place true)) (with_votes-swap lines lines b.choices a.choices s.bags)
 

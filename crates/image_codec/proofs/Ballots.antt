@@ -1,28 +1,21 @@
 -- The bags after one voter's choices
-use Rattle.std.proofs.Common.{◌≡◌, ℕ, zero, suc, ◌+◌, ◌<◌, true, false, List, [], ◌∷◌, length, drop, get_or, slice_get, IsSomeAnd, Bool, cond, replicate, refl, sym, ap, subst, ◌∙◌, arith, add-one}
+use Rattle.std.proofs.Common.{◌≡◌, ℕ, zero, suc, ◌+◌, ◌*◌, ◌<◌, true, false, List, [], ◌∷◌, length, map, drop, get_or, slice_get, IsSomeAnd, Bool, cond, replicate, refl, sym, ap, subst, ◌∙◌, arith, add-one}
 use Rattle.std.specs.List.{AllByRecursion}
-use Rattle.election_tables.specs.TablesData.{TablesData}
+use Rattle.election_tables.specs.TablesData.{TablesData, places_in, places_of}
 use Rattle.election_tables.specs.declared.tables.panels.Panel.{Panel}
 use Rattle.vote_kinds.specs.declared.choice.Choice.{Choice}
 use Rattle.vote_kinds.specs.declared.choice.Choice.TheVariants as choice
 use Rattle.vote_kinds.specs.Choice.{choice_le}
-use Rattle.vote_kinds.specs.Ballot.{BallotLine, ballot_lines, lines_from, line_for, is_choice}
+use Rattle.vote_kinds.specs.Ballot.{BallotLine, ballot_lines, lines_by_panel, lines_from, line_for, is_choice}
+use Rattle.vote_kinds.proofs.Lookups.{lines_length, one_line}
 use Rattle.vote_record.specs.Bag.{IsInOrder, with_choice, bag_at, with_vote}
 use Rattle.vote_record.proofs.Bags.{with_vote-swap, length-with_vote, length-with_choice, in_order-with_choice}
 use Rattle.vote_record.proofs.Empty.{bag_at-replicate}
 use Rattle.image_codec.specs.State.{with_votes, AreFirst}
-use Rattle.image_codec.specs.Valid.{AreFull, HasChoices}
+use Rattle.image_codec.specs.Valid.{AllHaveVoted, HasChoices}
+use Rattle.image_codec.proofs.Full.{full_cons, full_head, full_tail}
 
 -- The lines of a ballot
-
-length-lines_from : (t : TablesData) (first : ℕ) (panels : List Panel) → length (lines_from t first panels) ≡ length panels
-length-lines_from t first [] = refl
-length-lines_from t first (p ∷ panels) = ap suc (length-lines_from t (first + 1) panels)
-
--- one line for each panel
-pub length-ballot_lines : (t : TablesData) → length (ballot_lines t) ≡ length t.panels
-unfolding ballot_lines
-length-ballot_lines t = length-lines_from t 0 t.panels
 
 -- the line of a panel, and those after it
 pub record LineAt (lines : List BallotLine) (panel : ℕ) (n : ℕ) : Type 0 where
@@ -37,11 +30,14 @@ drop-lines_from t first (p ∷ panels) (suc n) lt =
     let more = drop-lines_from t (first + 1) panels n (omega arith) in
     record { line = more.line; front = more.front; of_panel = omega (arith, more.of_panel) }
 
-pub drop-ballot_lines : (t : TablesData) (n : ℕ) → n < length t.panels → LineAt (ballot_lines t) n n
-unfolding ballot_lines
-drop-ballot_lines t n lt =
+drop-lines_by_panel : (t : TablesData) (n : ℕ) → n < length t.panels → LineAt (lines_by_panel t) n n
+unfolding lines_by_panel
+drop-lines_by_panel t n lt =
     let found = drop-lines_from t 0 t.panels n lt in
     record { line = found.line; front = found.front; of_panel = omega (arith, found.of_panel) }
+
+pub drop-ballot_lines : (t : TablesData) (n : ℕ) → n < length t.panels → LineAt (ballot_lines t) n n
+drop-ballot_lines t n lt = subst (λ (lines : List BallotLine). LineAt lines n n) (sym (one_line t)) (drop-lines_by_panel t n lt)
 
 -- of choices of the first lines, each is a choice of its line
 pub choice_at : (lines : List BallotLine) (choices : List Choice) (k : ℕ) (d : Choice) → AreFirst lines choices → k < length choices
@@ -84,14 +80,16 @@ with_votes-after t first (p ∷ panels) (c ∷ choices) b bags =
     ap (with_votes (lines_from t (first + 1 + 1) panels) choices) (with_vote-after first c b bags) ∙ with_votes-after t (first + 1) panels choices b (with_vote first c bags)
 
 full_from : (t : TablesData) (panels : List Panel) (choices : List Choice) (bags : List (List Choice)) (n : ℕ)
-    → length choices ≡ length panels → length bags ≡ length panels → AreFull n bags → AreFull (n + 1) (with_votes (lines_from t 0 panels) choices bags)
-full_from t [] choices [] n k m full = tt
-full_from t [] choices (b ∷ bags) n k m full = absurd (omega arith)
-full_from t (p ∷ panels) [] bags n k m full = absurd (omega arith)
-full_from t (p ∷ panels) (c ∷ choices) [] n k m full = absurd (omega arith)
-full_from t (p ∷ panels) (c ∷ choices) (b ∷ bags) n k m full =
-    subst (AreFull (n + 1)) (sym (with_votes-after t 0 panels choices (with_choice c b) bags))
-    (omega (arith, length-with_choice c b, full.0), full_from t panels choices bags n (omega arith) (omega arith) full.1)
+    → length choices ≡ length panels → AllHaveVoted n (map places_in panels) bags → AllHaveVoted (n + 1) (map places_in panels) (with_votes (lines_from t 0 panels) choices bags)
+full_from t [] choices [] n k full = refl
+full_from t [] choices (b ∷ bags) n k full = absurd (cc)
+full_from t (p ∷ panels) [] bags n k full = absurd (omega arith)
+full_from t (p ∷ panels) (c ∷ choices) [] n k full = absurd (cc)
+full_from t (p ∷ panels) (c ∷ choices) (b ∷ bags) n k full =
+    let rest = full_from t panels choices bags n (omega arith) (full_tail n (places_in p) (map places_in panels) b bags full) in
+    let first : length (with_choice c b) ≡ (n + 1) * places_in p = omega (arith, length-with_choice c b, full_head n (places_in p) (map places_in panels) b bags full) in
+    subst (AllHaveVoted (n + 1) (map places_in (p ∷ panels))) (sym (with_votes-after t 0 panels choices (with_choice c b) bags))
+    (full_cons (n + 1) (places_in p) (map places_in panels) (with_choice c b) (with_votes (lines_from t 0 panels) choices bags) first rest)
 
 in_order_from : (t : TablesData) (panels : List Panel) (choices : List Choice) (bags : List (List Choice))
     → length bags ≡ length panels → AllByRecursion IsInOrder bags → AllByRecursion IsInOrder (with_votes (lines_from t 0 panels) choices bags)
@@ -102,15 +100,25 @@ in_order_from t (p ∷ panels) (c ∷ choices) (b ∷ bags) m order =
     subst (AllByRecursion IsInOrder) (sym (with_votes-after t 0 panels choices (with_choice c b) bags))
     (in_order-with_choice c b order.0, in_order_from t panels choices bags (omega arith) order.1)
 
+full_panels : (t : TablesData) (choices : List Choice) (bags : List (List Choice)) (n : ℕ)
+    → length choices ≡ length t.panels → AllHaveVoted n (places_of t) bags → AllHaveVoted (n + 1) (places_of t) (with_votes (lines_by_panel t) choices bags)
+unfolding lines_by_panel
+full_panels t choices bags n k full = full_from t t.panels choices bags n k full
+
 pub full-with_votes : (t : TablesData) (choices : List Choice) (bags : List (List Choice)) (n : ℕ)
-    → length choices ≡ length (ballot_lines t) → length bags ≡ length t.panels → AreFull n bags → AreFull (n + 1) (with_votes (ballot_lines t) choices bags)
-unfolding ballot_lines
-full-with_votes t choices bags n k m full = full_from t t.panels choices bags n (omega (arith, length-ballot_lines t)) m full
+    → length choices ≡ length (ballot_lines t) → AllHaveVoted n (places_of t) bags → AllHaveVoted (n + 1) (places_of t) (with_votes (ballot_lines t) choices bags)
+full-with_votes t choices bags n k full =
+    subst (λ (lines : List BallotLine). AllHaveVoted (n + 1) (places_of t) (with_votes lines choices bags)) (sym (one_line t)) (full_panels t choices bags n (k ∙ lines_length t) full)
+
+in_order_panels : (t : TablesData) (choices : List Choice) (bags : List (List Choice))
+    → length bags ≡ length t.panels → AllByRecursion IsInOrder bags → AllByRecursion IsInOrder (with_votes (lines_by_panel t) choices bags)
+unfolding lines_by_panel
+in_order_panels t choices bags m order = in_order_from t t.panels choices bags m order
 
 pub in_order-with_votes : (t : TablesData) (choices : List Choice) (bags : List (List Choice))
     → length bags ≡ length t.panels → AllByRecursion IsInOrder bags → AllByRecursion IsInOrder (with_votes (ballot_lines t) choices bags)
-unfolding ballot_lines
-in_order-with_votes t choices bags m order = in_order_from t t.panels choices bags m order
+in_order-with_votes t choices bags m order =
+    subst (λ (lines : List BallotLine). AllByRecursion IsInOrder (with_votes lines choices bags)) (sym (one_line t)) (in_order_panels t choices bags m order)
 
 -- Each vote is a choice of its panel
 
@@ -164,10 +172,16 @@ choices_from t first (p ∷ panels) (c ∷ choices) (b ∷ bags) m of has =
       choices_after t 0 panels (with_choice c b) rest (choices_from t (first + 1) panels choices bags (omega arith) of.1 (choices_below t 0 panels b bags has.1)),
     )
 
+choices_panels : (t : TablesData) (choices : List Choice) (bags : List (List Choice)) → length bags ≡ length t.panels
+    → AreFirst (lines_by_panel t) choices → HasChoices (lines_by_panel t) bags → HasChoices (lines_by_panel t) (with_votes (lines_by_panel t) choices bags)
+unfolding lines_by_panel
+choices_panels t choices bags m of has = choices_from t 0 t.panels choices bags m of has
+
 pub choices-with_votes : (t : TablesData) (choices : List Choice) (bags : List (List Choice)) → length bags ≡ length t.panels
-    → AreFirst (ballot_lines t) choices → HasChoices (ballot_lines t) bags → HasChoices (ballot_lines t) (with_votes (ballot_lines t) choices bags)
-unfolding ballot_lines
-choices-with_votes t choices bags m of has = choices_from t 0 t.panels choices bags m of has
+    → AreFirst (ballot_lines t) choices → HasChoices (lines_by_panel t) bags → HasChoices (lines_by_panel t) (with_votes (ballot_lines t) choices bags)
+choices-with_votes t choices bags m of has =
+    subst (λ (lines : List BallotLine). HasChoices (lines_by_panel t) (with_votes lines choices bags)) (sym (one_line t))
+    (choices_panels t choices bags m (subst (λ (lines : List BallotLine). AreFirst lines choices) (one_line t) of) has)
 
 -- a record with no votes has none that may not be
 pub choices-empty : (lines : List BallotLine) (n : ℕ) → HasChoices lines (replicate n [])

@@ -4,28 +4,28 @@ use Rattle.std.specs.Int.{w32, w64, to_be_bytes}
 use Rattle.std.specs.List.{flat_map, AllByRecursion, list_all, range_with_len}
 use Rattle.std.proofs.lemmas.Bool.{eqb-true, eq-eqb, lt-ltb, and_from, and_parts}
 use Rattle.std.proofs.lemmas.List.{length-append, length-take, length-drop, length-replicate}
-use Rattle.election_tables.specs.TablesData.{TablesData, IsTables}
+use Rattle.election_tables.specs.TablesData.{TablesData, IsTables, places_of}
 use Rattle.vote_kinds.specs.declared.choice.Choice.{Choice}
 use Rattle.vote_kinds.specs.declared.choice.Choice.TheVariants as choice
-use Rattle.vote_kinds.specs.Ballot.{ballot_lines}
-use Rattle.vote_kinds.proofs.Lookups.{lines_length}
+use Rattle.vote_kinds.specs.Ballot.{lines_by_panel}
+use Rattle.vote_kinds.proofs.Lookups.{panel_lines_length, panel_places}
 use Rattle.turnout.specs.Turnout.{number_came}
 use Rattle.turnout.specs.declared.phase.Phase.{Phase}
 use Rattle.turnout.specs.declared.phase.Phase.TheVariants as phase
 use Rattle.turnout.proofs.Marks.{number_came-le-length}
 use Rattle.image_codec.specs.State.{State}
-use Rattle.image_codec.specs.Valid.{AreFull}
+use Rattle.image_codec.specs.Valid.{AllHaveVoted}
 use Rattle.image_codec.specs.Encoding.{IsStateOf, IsEncoding, IsNoEncoding, vote_bytes, bag_bytes, phase_byte, opening_in, closing_in, eight_places, turnout_bytes, head_bytes, written, encode}
 use Rattle.image_codec.specs.Decoded.{marks_in, turnout_of, bags_in, phase_in, is_body, decoded}
 use Rattle.image_codec.proofs.Bits.{eight_small, turnout_back}
-use Rattle.image_codec.proofs.ReadBags.{TakesBags, bags_take, bags_back, votes_of_lines, choices_of_lines}
+use Rattle.image_codec.proofs.ReadBags.{TakesBags, bags_take, bags_back, panels_few, votes_of_lines, choices_of_lines}
 use Rattle.image_codec.proofs.ReadHead.{fields_of, TakesHead, head_takes, head_of_state, head_found, head_is_fields, marks_found, rest_found}
 use Rattle.image_codec.proofs.ReadParts.{length-marks_in, few_marked}
 use Rattle.image_codec.proofs.ReadVotes.{bytes_drop, bytes_take, bind_some, map_some, test_some}
-use Rattle.image_codec.proofs.SmallNumbers.{ballot_small}
-use Rattle.image_codec.proofs.Valid.{full_at}
+use Rattle.image_codec.proofs.SmallNumbers.{panels_small}
+use Rattle.image_codec.proofs.Valid.{bags_many}
 use Rattle.image_codec.proofs.WholeBody.{AreBytes, bytes_are, state_with, bags_of, rest_of, decoded_body}
-use Rattle.image_codec.proofs.Written.{written_is, written_parts, fits_body, few_written}
+use Rattle.image_codec.proofs.Written.{written_is, written_parts, fits_body}
 
 -- how long an encoding is
 pub length-encode : (s : State) → length (written s) ≤ 65536 → length (encode s) ≡ 65536
@@ -35,7 +35,7 @@ length-encode s fits = omega (arith, length-append (written s) (replicate (65536
 -- the room of a state of a poll
 pub room_of_state : (t : TablesData) (voters : ℕ) (s : State) → IsTables t → voters ≤ 600 → IsStateOf t voters s → length (written s) ≤ 24130
 room_of_state t voters s is few of =
-    fits_body s (length t.panels) of.valid.full of.panels is.panel_count.1 (omega (arith, number_came-le-length s.came, of.roll))
+    fits_body t s of.valid.full of.places is.panel_count.1 (omega (arith, number_came-le-length s.came, of.roll))
 
 -- the fields, and what is behind them, are what stands before the bags, and these
 regroup : (o k n m : List ℕ) (p : ℕ) (r : List ℕ) → (o ++ k ++ n ++ m ++ p ∷ []) ++ r ≡ o ++ (k ++ (n ++ (m ++ p ∷ r)))
@@ -51,32 +51,38 @@ unfolding encode
 encode_parts s =
     ap (λ (r : List ℕ). r ++ replicate (65536 - length (written s)) 0) (written_is s) ∙ append_assoc (head_bytes s) (flat_map bag_bytes s.bags) (replicate (65536 - length (written s)) 0)
 
+-- the bags of eight panels have room, with two votes of each of 600 voters
+pub room_for_bags : (panels n : ℕ) → panels ≤ 8 → n ≤ 600 → panels * (4 + 10 * n) ≤ 65536 - 98
+room_for_bags panels n few most =
+    let size : 4 + 10 * n ≤ 6004 = omega arith in
+    let all : panels * (4 + 10 * n) ≤ panels * 6004 = grind arith in
+    omega arith
+
 -- What is read is an encoding
 
 -- the state that is read is one of a poll of the tables
 read_state : (t : TablesData) (voters : ℕ) (bytes : List ℕ) (p : Phase) (bags : List (List Choice)) (n : ℕ) (rest : List ℕ)
-    → n ≡ number_came (marks_in voters (turnout_of bytes)) → TakesHead voters (length t.panels) bytes p → TakesBags (ballot_lines t) n rest bags → IsStateOf t voters (state_with voters bytes p bags)
+    → n ≡ number_came (marks_in voters (turnout_of bytes)) → TakesHead voters (length t.panels) bytes p → TakesBags (lines_by_panel t) n rest bags → IsStateOf t voters (state_with t voters bytes p bags)
 read_state t voters bytes p bags n rest same head body = record {
   valid = record {
     moments = head.moments;
     started = head.started;
-    full = subst (λ (k : ℕ). AreFull k bags) same body.full;
+    full = subst (λ (k : ℕ). AllHaveVoted k (places_of t) bags) same (subst (λ (p : List ℕ). AllHaveVoted n p bags) (panel_places t) body.full);
     in_order = body.in_order;
   };
   roll = length-marks_in voters (turnout_of bytes);
-  panels = body.as_many ∙ lines_length t;
-  full = λ panel lt. let one = full_at n bags panel body.full (omega (arith, body.as_many, lines_length t)) in omega arith;
+  places = refl;
   choices = choices_of_lines t bags body.votes;
 }
 
 -- the bytes that are read are its encoding
 read_text : (t : TablesData) (voters : ℕ) (bytes : List ℕ) (p : Phase) (bags : List (List Choice)) → AreBytes bytes → length bytes ≡ 65536
-    → TakesHead voters (length t.panels) bytes p → TakesBags (ballot_lines t) (number_came (marks_in voters (turnout_of bytes))) (drop 98 bytes) bags
-    → bytes ≡ encode (state_with voters bytes p bags)
+    → TakesHead voters (length t.panels) bytes p → TakesBags (lines_by_panel t) (number_came (marks_in voters (turnout_of bytes))) (drop 98 bytes) bags
+    → bytes ≡ encode (state_with t voters bytes p bags)
 read_text t voters bytes p bags are whole head body =
-    let s : State = state_with voters bytes p bags in
+    let s : State = state_with t voters bytes p bags in
     let marks : List ℕ = turnout_of bytes in
-    let panels : length t.panels ≡ length bags = sym (body.as_many ∙ lines_length t) in
+    let panels : length t.panels ≡ length bags = sym (body.as_many ∙ panel_lines_length t) in
     let turnout : turnout_bytes s.came ≡ marks = turnout_back voters marks (omega (arith, length-take 75 (drop 22 bytes), length-drop 22 bytes)) (bytes_take 75 (drop 22 bytes) (bytes_drop 22 bytes are)) head.none_past in
     let zeros : length (drop 98 bytes) - length (flat_map bag_bytes bags) ≡ 65536 - length (written s) = omega (arith, length-drop 98 bytes, written_parts s) in
     let fields : List ℕ → ℕ → List ℕ → List ℕ = λ m k r. fields_of 1 (phase_byte p) (to_be_bytes w64 (opening_in p)) (to_be_bytes w64 (closing_in p)) (to_be_bytes w32 (number_came s.came)) m k r in
@@ -93,17 +99,17 @@ decoded_takes t voters bytes s is few e =
     let marks : List Bool = marks_in voters (turnout_of bytes) in
     let n : ℕ = number_came marks in
     let whole = test_some (is_body bytes) (rest_of t voters bytes (phase_in voters (length t.panels) bytes)) s e in
-    let a = bind_some (λ q. option_map (state_with voters bytes q) (bags_of t voters bytes)) (phase_in voters (length t.panels) bytes) s whole.1 in
+    let a = bind_some (λ q. option_map (state_with t voters bytes q) (bags_of t voters bytes)) (phase_in voters (length t.panels) bytes) s whole.1 in
     let p : Phase = a.0 in
-    let b = map_some (state_with voters bytes p) (bags_of t voters bytes) s a.2 in
+    let b = map_some (state_with t voters bytes p) (bags_of t voters bytes) s a.2 in
     let parts = and_parts (length bytes == 65536) (list_all (λ c. nat_lt c 256) bytes) whole.0 in
     let long : length bytes ≡ 65536 = eqb-true (length bytes) 65536 parts.0 in
     let are : AreBytes bytes = bytes_are bytes parts.1 in
     let head = head_takes voters (length t.panels) bytes p are (omega arith) a.1 in
     let many = few_marked voters (turnout_of bytes) in
-    let room = few_written (length (ballot_lines t)) n (omega (arith, lines_length t, is.panel_count.1)) (omega arith) in
-    let body = bags_take (ballot_lines t) n (drop 98 bytes) b.0 (bytes_drop 98 bytes are) (omega (arith, length-drop 98 bytes)) b.1 in
-    let made : IsEncoding t voters (state_with voters bytes p b.0) bytes = record {
+    let room = room_for_bags (length (lines_by_panel t)) n (omega (arith, panel_lines_length t, is.panel_count.1)) (omega arith) in
+    let body = bags_take (lines_by_panel t) n (drop 98 bytes) b.0 (bytes_drop 98 bytes are) (panels_few t) (omega (arith, length-drop 98 bytes)) b.1 in
+    let made : IsEncoding t voters (state_with t voters bytes p b.0) bytes = record {
       state = read_state t voters bytes p b.0 n (drop 98 bytes) refl head body;
       same = read_text t voters bytes p b.0 are long head body;
     } in
@@ -175,21 +181,24 @@ pass_small : (bytes : List ℕ) → ByteWise bytes → list_all (λ b. nat_lt b 
 pass_small [] small = refl
 pass_small (b ∷ bytes) small = and_from (nat_lt b 256) (list_all (λ c. nat_lt c 256) bytes) (lt-ltb b 256 small.0) (pass_small bytes small.1)
 
-state_found : (voters : ℕ) (bytes : List ℕ) (s : State) → marks_in voters (turnout_of bytes) ≡ s.came → state_with voters bytes s.phase s.bags ≡ s
-state_found voters bytes s e = ap (λ (m : List Bool). let x : State = record { phase = s.phase; came = m; bags = s.bags } in x) e
+state_found : (t : TablesData) (voters : ℕ) (bytes : List ℕ) (s : State) → marks_in voters (turnout_of bytes) ≡ s.came → places_of t ≡ s.places → state_with t voters bytes s.phase s.bags ≡ s
+state_found t voters bytes s e f =
+    let of_parts : List Bool → List ℕ → State = λ m p. record { phase = s.phase; came = m; places = p; bags = s.bags } in
+    ap (λ (m : List Bool). of_parts m (places_of t)) e ∙ ap (of_parts s.came) f
 
 pub decoded_back : (t : TablesData) (voters : ℕ) (bytes : List ℕ) (s : State) → IsTables t → voters ≤ 600 → IsEncoding t voters s bytes → decoded t voters bytes ≡ Some s
 decoded_back t voters bytes s is few of =
     let st = of.state in
     let room = room_of_state t voters s is few st in
-    let panels : length s.bags ≤ 8 = omega (arith, st.panels, is.panel_count.1) in
+    let many = bags_many t s st.valid st.places in
+    let panels : length s.bags ≤ 8 = omega (arith, many, is.panel_count.1) in
     let body : is_body (encode s) ≡ true =
     and_from (length (encode s) == 65536) (list_all (λ b. nat_lt b 256) (encode s)) (eq-eqb (length (encode s)) 65536 (length-encode s (omega arith))) (pass_small (encode s) (encode_small s panels)) in
     let behind : List ℕ = flat_map bag_bytes s.bags ++ replicate (65536 - length (written s)) 0 in
     let head : List ℕ = head_of_state voters (length t.panels) s.phase s.came behind st.roll few st.valid.moments st.valid.started in
     let text : encode s ≡ head =
     encode_parts s ∙ head_text s behind
-    ∙ ap (λ (k : ℕ). fields_of 1 (phase_byte s.phase) (to_be_bytes w64 (opening_in s.phase)) (to_be_bytes w64 (closing_in s.phase)) (to_be_bytes w32 (number_came s.came)) (turnout_bytes s.came) k behind) st.panels
+    ∙ ap (λ (k : ℕ). fields_of 1 (phase_byte s.phase) (to_be_bytes w64 (opening_in s.phase)) (to_be_bytes w64 (closing_in s.phase)) (to_be_bytes w32 (number_came s.came)) (turnout_bytes s.came) k behind) many
     ∙ sym (head_is_fields voters (length t.panels) s.phase s.came behind st.roll few st.valid.moments st.valid.started) in
     let came : marks_in voters (turnout_of (encode s)) ≡ s.came =
     ap (λ (b : List ℕ). marks_in voters (turnout_of b)) text ∙ marks_found voters (length t.panels) s.phase s.came behind st.roll few st.valid.moments st.valid.started in
@@ -198,15 +207,17 @@ decoded_back t voters bytes s is few of =
     let rest : drop 98 (encode s) ≡ behind =
     ap (drop 98) text ∙ rest_found voters (length t.panels) s.phase s.came behind st.roll few st.valid.moments st.valid.started in
     let most = number_came-le-length s.came in
+    let full : AllHaveVoted (number_came s.came) (map (λ line. line.places) (lines_by_panel t)) s.bags =
+    subst (λ (p : List ℕ). AllHaveVoted (number_came s.came) p s.bags) (st.places ∙ sym (panel_places t)) st.valid.full in
     let bags : bags_of t voters (encode s) ≡ Some s.bags =
-    ap (λ (m : List Bool). bags_in (ballot_lines t) (number_came m) (drop 98 (encode s))) came
-    ∙ ap (bags_in (ballot_lines t) (number_came s.came)) rest
-    ∙ bags_back (ballot_lines t) (number_came s.came) s.bags (65536 - length (written s)) (ballot_small t is) (votes_of_lines t s.bags st.panels st.choices) st.valid.in_order st.valid.full (omega (arith, st.roll)) in
+    ap (λ (m : List Bool). bags_in (lines_by_panel t) (number_came m) (drop 98 (encode s))) came
+    ∙ ap (bags_in (lines_by_panel t) (number_came s.came)) rest
+    ∙ bags_back (lines_by_panel t) (number_came s.came) s.bags (65536 - length (written s)) (panels_small t is) (panels_few t) (votes_of_lines t s.bags many st.choices) st.valid.in_order full (omega (arith, st.roll)) in
     ap (decoded t voters) of.same
     ∙ decoded_body t voters (encode s) body
     ∙ ap (rest_of t voters (encode s)) phase
-    ∙ ap (option_map (state_with voters (encode s) s.phase)) bags
-    ∙ ap (λ (x : State). Some x) (state_found voters (encode s) s came)
+    ∙ ap (option_map (state_with t voters (encode s) s.phase)) bags
+    ∙ ap (λ (x : State). Some x) (state_found t voters (encode s) s came (sym st.places))
 
 -- where nothing is decoded no state has that encoding
 pub none_decoded : (t : TablesData) (voters : ℕ) (bytes : List ℕ) → IsTables t → voters ≤ 600 → decoded t voters bytes ≡ None → IsNoEncoding t voters bytes

@@ -1,19 +1,19 @@
 -- What a ready state takes on is what was read
-use Rattle.std.proofs.Common.{◌≡◌, ℕ, zero, suc, ◌+◌, ◌-◌, ◌*◌, ◌<◌, ◌≤◌, Bool, true, false, cond, ◌&&◌, ◌==◌, List, [], ◌∷◌, ◌++◌, length, get_or, slice_set, take, drop, replicate, unwrap_or, Option, Some, None, IsSome, option_map, refl, sym, ap, ◌∙◌, append_assoc, arith}
+use Rattle.std.proofs.Common.{◌≡◌, ℕ, zero, suc, ◌+◌, ◌-◌, ◌*◌, ◌<◌, ◌≤◌, Bool, true, false, cond, ◌&&◌, ◌==◌, List, [], ◌∷◌, ◌++◌, length, get_or, slice_set, take, drop, replicate, unwrap_or, Option, Some, None, IsSome, option_map, refl, sym, ap, subst, ◌∙◌, append_assoc, arith}
 use Rattle.std.specs.List.{AllByRecursion, list_all, slice_index}
-use Rattle.std.proofs.lemmas.List.{drop-drop, get_or_at, set_at, take_more, take_all, append-nil, length-append, length-take-le, length-replicate}
-use Rattle.std.proofs.lemmas.Option.{cond_some, unwrap_or-slice_get, get_or_from_slice_get}
-use Rattle.election_tables.specs.TablesData.{TablesData}
+use Rattle.std.proofs.lemmas.List.{drop-drop, drop_more, get_or_at, set_at, take_more, take_all, append-nil, length-append, length-take-le, length-replicate}
+use Rattle.std.proofs.lemmas.Option.{cond_some, unwrap_or-slice_get}
+use Rattle.election_tables.specs.TablesData.{TablesData, places_at}
 use Rattle.vote_kinds.specs.declared.choice.Choice.{Choice}
 use Rattle.vote_kinds.specs.declared.choice.Choice.TheVariants as choice
 use Rattle.vote_kinds.specs.Choice.{choice_le, choice_with}
-use Rattle.vote_kinds.specs.Ballot.{BallotLine, ballot_lines, line_of, is_choice}
-use Rattle.vote_kinds.proofs.Lookups.{lines_length}
+use Rattle.vote_kinds.specs.Ballot.{BallotLine, lines_by_panel, line_of, is_choice}
+use Rattle.vote_kinds.proofs.Lookups.{panel_lines_length}
 use Rattle.vote_record.specs.Bag.{IsInOrder, bag_at, with_choice, with_vote}
 use Rattle.vote_record.proofs.Bags.{with_choice-last}
 use Rattle.turnout.specs.Turnout.{has_come}
 use Rattle.image_codec.specs.Decoded.{number4_at, is_marked, marks_in, vote_in, votes_in, bag_in, bags_in}
-use Rattle.image_codec.proofs.ReadParts.{length-marks_in, marks_more, line_found}
+use Rattle.image_codec.proofs.ReadParts.{length-marks_in, marks_more, line_places, lines_from_panel}
 use Rattle.image_codec.proofs.ReadBags.{TakesBag, bag_takes}
 use Rattle.image_codec.proofs.WholeBody.{AreBytes}
 use Rattle.image_codec.proofs.ReadVotes.{bind_some, map_some, test_some}
@@ -163,33 +163,36 @@ pub bags_many : (lines : List BallotLine) (n : ℕ) (bytes : List ℕ) (bags : L
 unfolding bags_in
 bags_many [] n bytes bags e = let t = cond_some (list_all (λ b. b == 0) bytes) [] bags e in ap length (sym t.1)
 bags_many (line ∷ lines) n bytes bags e =
-    let a = bind_some (λ bag. option_map (λ bs. bag ∷ bs) (bags_in lines n (drop (4 + 5 * n) bytes))) (bag_in line n bytes) bags e in
-    let b = map_some (λ bs. a.0 ∷ bs) (bags_in lines n (drop (4 + 5 * n) bytes)) bags a.2 in
-    ap length (sym b.2) ∙ ap suc (bags_many lines n (drop (4 + 5 * n) bytes) b.0 b.1)
-
-found_in : (lines : List BallotLine) (n panel : ℕ) (bytes : List ℕ) (bags : List (List Choice)) (l : BallotLine) (d : List Choice) → panel < length lines → bags_in lines n bytes ≡ Some bags
-    → bag_in (get_or lines panel l) n (drop (panel * (4 + 5 * n)) bytes) ≡ Some (get_or bags panel d)
-unfolding bags_in
-found_in [] n panel bytes bags l d lt e = absurd (omega arith)
-found_in (line ∷ lines) n zero bytes bags l d lt e =
-    let a = bind_some (λ bag. option_map (λ bs. bag ∷ bs) (bags_in lines n (drop (4 + 5 * n) bytes))) (bag_in line n bytes) bags e in
-    let b = map_some (λ bs. a.0 ∷ bs) (bags_in lines n (drop (4 + 5 * n) bytes)) bags a.2 in
-    let start : 0 * (4 + 5 * n) ≡ 0 = omega arith in
-    ap (λ (k : ℕ). bag_in line n (drop k bytes)) start ∙ a.1 ∙ ap (λ (l : List (List Choice)). Some (get_or l 0 d)) b.2
-found_in (line ∷ lines) n (suc panel) bytes bags l d lt e =
-    let size : ℕ = 4 + 5 * n in
-    let a = bind_some (λ bag. option_map (λ bs. bag ∷ bs) (bags_in lines n (drop size bytes))) (bag_in line n bytes) bags e in
+    let size : ℕ = 4 + 5 * (n * line.places) in
+    let a = bind_some (λ bag. option_map (λ bs. bag ∷ bs) (bags_in lines n (drop size bytes))) (bag_in line (n * line.places) bytes) bags e in
     let b = map_some (λ bs. a.0 ∷ bs) (bags_in lines n (drop size bytes)) bags a.2 in
-    let further : drop (suc panel * size) bytes ≡ drop (panel * size) (drop size bytes) = ap (λ (k : ℕ). drop k bytes) (omega arith) ∙ sym (drop-drop (panel * size) size bytes) in
-    ap (bag_in (get_or lines panel l) n) further ∙ found_in lines n panel (drop size bytes) b.0 l d (omega arith) b.1
-    ∙ ap (λ (l : List (List Choice)). Some (get_or l (suc panel) d)) b.2
+    ap length (sym b.2) ∙ ap suc (bags_many lines n (drop size bytes) b.0 b.1)
 
-pub bag_found : (t : TablesData) (n panel : ℕ) (bytes : List ℕ) (bags : List (List Choice)) → panel < length t.panels → bags_in (ballot_lines t) n bytes ≡ Some bags
-    → bag_in (line_of t panel) n (drop (panel * (4 + 5 * n)) bytes) ≡ Some (get_or bags panel [])
-bag_found t n panel bytes bags lt e =
-    let line : get_or (ballot_lines t) panel (line_of t panel) ≡ line_of t panel = get_or_from_slice_get (ballot_lines t) panel (line_of t panel) (line_of t panel) (line_found t panel lt) in
-    ap (λ (l : BallotLine). bag_in l n (drop (panel * (4 + 5 * n)) bytes)) (sym line)
-    ∙ found_in (ballot_lines t) n panel bytes bags (line_of t panel) [] (omega (arith, lines_length t)) e
+-- the bag of the first line, and those of the lines after it
+first_bag : (line : BallotLine) (lines : List BallotLine) (n : ℕ) (bytes : List ℕ) (bag : List Choice) (bags : List (List Choice)) → bags_in (line ∷ lines) n bytes ≡ Some (bag ∷ bags)
+    → (bag_in line (n * line.places) bytes ≡ Some bag) × (bags_in lines n (drop (4 + 5 * (n * line.places)) bytes) ≡ Some bags)
+unfolding bags_in
+first_bag line lines n bytes bag bags e =
+    let size : ℕ = 4 + 5 * (n * line.places) in
+    let a = bind_some (λ x. option_map (λ xs. x ∷ xs) (bags_in lines n (drop size bytes))) (bag_in line (n * line.places) bytes) (bag ∷ bags) e in
+    let b = map_some (λ xs. a.0 ∷ xs) (bags_in lines n (drop size bytes)) (bag ∷ bags) a.2 in
+    let same : a.0 ∷ b.0 ≡ bag ∷ bags = b.2 in
+    let head : a.0 ≡ bag = cc in
+    let tail : b.0 ≡ bags = cc in
+    (a.1 ∙ ap (λ (x : List Choice). Some x) head, b.1 ∙ ap (λ (x : List (List Choice)). Some x) tail)
+
+-- the bytes have the bags from a panel on
+abbrev pub HasRest : TablesData → ℕ → ℕ → List ℕ → List (List Choice) → Type 0
+HasRest t n panel rest bags = bags_in (drop panel (lines_by_panel t)) n rest ≡ Some (drop panel bags)
+
+pub panel_bag : (t : TablesData) (n panel : ℕ) (rest : List ℕ) (bags : List (List Choice)) → panel < length t.panels → length bags ≡ length t.panels → HasRest t n panel rest bags
+    → (bag_in (line_of t panel) (n * places_at t panel) rest ≡ Some (get_or bags panel [])) × HasRest t n (panel + 1) (drop (4 + 5 * (n * places_at t panel)) rest) bags
+panel_bag t n panel rest bags lt many has =
+    let line : BallotLine = line_of t panel in
+    let found = first_bag line (drop (panel + 1) (lines_by_panel t)) n rest (get_or bags panel []) (drop (panel + 1) bags)
+    (ap (λ (lines : List BallotLine). bags_in lines n rest) (sym (lines_from_panel t panel lt)) ∙ has ∙ ap (λ (b : List (List Choice)). Some b) (drop_more bags panel [] (omega arith))) in
+    let places = line_places t panel lt in
+    (subst (λ (k : ℕ). bag_in line (n * k) rest ≡ Some (get_or bags panel [])) places found.0, subst (λ (k : ℕ). HasRest t n (panel + 1) (drop (4 + 5 * (n * k)) rest) bags) places found.1)
 
 -- the bags of the first panels are there, and the others have no vote yet
 abbrev pub first_bags : List (List Choice) → ℕ → ℕ → List (List Choice)
@@ -226,12 +229,9 @@ bags_all bags panels i many le =
     ap (λ (k : ℕ). take i bags ++ replicate k []) done ∙ append-nil (take i bags) ∙ take_all i bags (omega arith)
 
 -- what is so of the bags that are there
-pub bags_found : (t : TablesData) (n : ℕ) (bytes : List ℕ) → IsSome (bags_in (ballot_lines t) n bytes) → length (unwrap_or (bags_in (ballot_lines t) n bytes) []) ≡ length t.panels
+pub bags_found : (t : TablesData) (n : ℕ) (bytes : List ℕ) → IsSome (bags_in (lines_by_panel t) n bytes) → length (unwrap_or (bags_in (lines_by_panel t) n bytes) []) ≡ length t.panels
 bags_found t n bytes is =
-    bags_many (ballot_lines t) n bytes (unwrap_or (bags_in (ballot_lines t) n bytes) []) (value_of (bags_in (ballot_lines t) n bytes) [] is) ∙ lines_length t
+    bags_many (lines_by_panel t) n bytes (unwrap_or (bags_in (lines_by_panel t) n bytes) []) (value_of (bags_in (lines_by_panel t) n bytes) [] is) ∙ panel_lines_length t
 
-pub bag_of_bags : (t : TablesData) (n panel : ℕ) (bytes rest : List ℕ) → panel < length t.panels → IsSome (bags_in (ballot_lines t) n bytes) → rest ≡ drop (panel * (4 + 5 * n)) bytes
-    → bag_in (line_of t panel) n rest ≡ Some (get_or (unwrap_or (bags_in (ballot_lines t) n bytes) []) panel [])
-bag_of_bags t n panel bytes rest lt is e =
-    ap (bag_in (line_of t panel) n) e
-    ∙ bag_found t n panel bytes (unwrap_or (bags_in (ballot_lines t) n bytes) []) lt (value_of (bags_in (ballot_lines t) n bytes) [] is)
+pub all_rest : (t : TablesData) (n : ℕ) (bytes : List ℕ) → IsSome (bags_in (lines_by_panel t) n bytes) → HasRest t n 0 bytes (unwrap_or (bags_in (lines_by_panel t) n bytes) [])
+all_rest t n bytes is = value_of (bags_in (lines_by_panel t) n bytes) [] is

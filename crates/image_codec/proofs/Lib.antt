@@ -1,3 +1,4 @@
+pub mod Full
 pub mod Ballots
 pub mod Steps
 pub mod Valid
@@ -14,5 +15,6 @@ pub mod AnyOrder
 pub mod Fills
 pub mod Loaded
 pub mod OfTables
+mod Counting
 mod AddChoices
 mod Rows

@@ -1,5 +1,5 @@
 -- Bags that are read are those that were written, and what was written is read again
-use Rattle.std.proofs.Common.{◌≡◌, ℕ, zero, suc, ◌+◌, ◌-◌, ◌*◌, ◌^◌, ◌<◌, ◌≤◌, Bool, true, cond, ◌==◌, List, [], ◌∷◌, ◌++◌, length, take, drop, replicate, Option, Some, None, option_map, refl, sym, ap, subst, ◌∙◌, append_assoc, arith}
+use Rattle.std.proofs.Common.{◌≡◌, ℕ, zero, suc, ◌+◌, ◌-◌, ◌*◌, ◌^◌, ◌<◌, ◌≤◌, Bool, true, cond, ◌==◌, List, [], ◌∷◌, ◌++◌, length, map, take, drop, replicate, Option, Some, None, option_map, refl, sym, ap, subst, ◌∙◌, append_assoc, arith}
 use Rattle.std.specs.Option.{option_and_then}
 use Rattle.std.specs.Int.{w32, to_be_bytes}
 use Rattle.std.specs.List.{flat_map, AllByRecursion, list_all}
@@ -12,11 +12,12 @@ use Rattle.election_tables.specs.declared.tables.panels.Panel.{Panel}
 use Rattle.vote_kinds.specs.declared.choice.Choice.{Choice}
 use Rattle.vote_kinds.specs.declared.choice.Choice.TheVariants as choice
 use Rattle.vote_kinds.specs.Choice.{choice_le}
-use Rattle.vote_kinds.specs.Ballot.{BallotLine, ballot_lines, lines_from, is_choice}
+use Rattle.vote_kinds.specs.Ballot.{BallotLine, lines_by_panel, lines_from, is_choice}
 use Rattle.vote_record.specs.Bag.{IsInOrder}
-use Rattle.image_codec.specs.Valid.{AreFull, HasChoices}
+use Rattle.image_codec.specs.Valid.{AllHaveVoted, HasChoices}
 use Rattle.image_codec.specs.Encoding.{vote_bytes, bag_bytes}
 use Rattle.image_codec.specs.Decoded.{number4_at, votes_in, bag_in, bags_in}
+use Rattle.image_codec.proofs.Full.{full_cons, full_head, full_tail}
 use Rattle.image_codec.proofs.Ballots.{AreOf, of-panel, choices_below, choices_after}
 use Rattle.image_codec.proofs.ReadVotes.{bytes_drop, bind_some, map_some, test_some, number4_back, HasSmall, votes_take, votes_back}
 use Rattle.image_codec.proofs.WholeBody.{AreBytes}
@@ -80,7 +81,7 @@ AreVotes (line ∷ lines) (bag ∷ bags) = AreOf line bag × AreVotes lines bags
 pub record TakesBags (lines : List BallotLine) (n : ℕ) (bytes : List ℕ) (bags : List (List Choice)) : Type 0 where
   pub text : bytes ≡ flat_map bag_bytes bags ++ replicate (length bytes - length (flat_map bag_bytes bags)) 0
   pub as_many : length bags ≡ length lines
-  pub full : AreFull n bags
+  pub full : AllHaveVoted n (map (λ line. line.places) lines) bags
   pub in_order : AllByRecursion IsInOrder bags
   pub votes : AreVotes lines bags
 
@@ -94,28 +95,36 @@ zeros_pass : (k : ℕ) → list_all (λ b. b == 0) (replicate k 0) ≡ true
 zeros_pass zero = refl
 zeros_pass (suc k) = zeros_pass k
 
-room_behind : (k m n r : ℕ) → suc k * m ≤ n → r ≡ n - m → (m ≤ n) × (k * m ≤ r)
-room_behind k m n r long is = (omega arith, omega arith)
+-- a voter has at most two votes in each panel
+abbrev pub AreFew : List BallotLine → Type 0
+AreFew lines = AllByRecursion (λ line. line.places ≤ 2) lines
 
-pub bags_take : (lines : List BallotLine) (n : ℕ) (bytes : List ℕ) (bags : List (List Choice)) → AreBytes bytes → length lines * (4 + 5 * n) ≤ length bytes
+pub few_votes : (n votes : ℕ) → votes ≤ 2 → n * votes ≤ n * 2
+few_votes n votes few = grind arith
+
+room_behind : (k m size n r : ℕ) → suc k * m ≤ n → size ≤ m → r ≡ n - size → (size ≤ n) × (k * m ≤ r)
+room_behind k m size n r long fits is = (omega arith, omega arith)
+
+pub bags_take : (lines : List BallotLine) (n : ℕ) (bytes : List ℕ) (bags : List (List Choice)) → AreBytes bytes → AreFew lines → length lines * (4 + 10 * n) ≤ length bytes
     → bags_in lines n bytes ≡ Some bags → TakesBags lines n bytes bags
 unfolding bags_in
-bags_take [] n bytes bags are long e =
+bags_take [] n bytes bags are few long e =
     let t = cond_some (list_all (λ b. b == 0) bytes) [] bags e in
     subst (λ (x : List (List Choice)). TakesBags [] n bytes x) t.1 (record {
       text = zeros_are bytes t.0 ∙ ap (λ (k : ℕ). replicate k 0) (omega arith);
       as_many = refl;
-      full = tt;
+      full = refl;
       in_order = tt;
       votes = tt;
     })
-bags_take (line ∷ lines) n bytes bags are long e =
-    let size : ℕ = 4 + 5 * n in
-    let room = room_behind (length lines) size (length bytes) (length (drop size bytes)) long (length-drop size bytes) in
-    let a = bind_some (λ bag. option_map (λ bs. bag ∷ bs) (bags_in lines n (drop size bytes))) (bag_in line n bytes) bags e in
+bags_take (line ∷ lines) n bytes bags are few long e =
+    let votes : ℕ = n * line.places in
+    let size : ℕ = 4 + 5 * votes in
+    let room = room_behind (length lines) (4 + 10 * n) size (length bytes) (length (drop size bytes)) long (omega (arith, few_votes n line.places few.0)) (length-drop size bytes) in
+    let a = bind_some (λ bag. option_map (λ bs. bag ∷ bs) (bags_in lines n (drop size bytes))) (bag_in line votes bytes) bags e in
     let b = map_some (λ bs. a.0 ∷ bs) (bags_in lines n (drop size bytes)) bags a.2 in
-    let first = bag_takes line n bytes a.0 are room.0 a.1 in
-    let rest = bags_take lines n (drop size bytes) b.0 (bytes_drop size bytes are) room.1 b.1 in
+    let first = bag_takes line votes bytes a.0 are room.0 a.1 in
+    let rest = bags_take lines n (drop size bytes) b.0 (bytes_drop size bytes are) few.1 room.1 b.1 in
     let tail : List ℕ = flat_map bag_bytes b.0 in
     let zeros : length (drop size bytes) - length tail ≡ length bytes - length (bag_bytes a.0 ++ tail) =
     omega (arith, length-drop size bytes, length-append (bag_bytes a.0) tail, length-bag_bytes a.0, first.many) in
@@ -123,27 +132,39 @@ bags_take (line ∷ lines) n bytes bags are long e =
       text = first.text ∙ ap (λ (r : List ℕ). bag_bytes a.0 ++ r) (rest.text ∙ ap (λ (k : ℕ). tail ++ replicate k 0) zeros)
           ∙ sym (append_assoc (bag_bytes a.0) tail (replicate (length bytes - length (bag_bytes a.0 ++ tail)) 0));
       as_many = ap suc rest.as_many;
-      full = (first.many, rest.full);
+      full = full_cons n line.places (map (λ l. l.places) lines) a.0 b.0 first.many rest.full;
       in_order = (first.in_order, rest.in_order);
       votes = (first.choices, rest.votes);
     })
 
-pub bags_back : (lines : List BallotLine) (n : ℕ) (bags : List (List Choice)) (k : ℕ) → AllByRecursion HasSmall lines → AreVotes lines bags → AllByRecursion IsInOrder bags → AreFull n bags → n < 2 ^ 32
+pub bags_back : (lines : List BallotLine) (n : ℕ) (bags : List (List Choice)) (k : ℕ) → AllByRecursion HasSmall lines → AreFew lines → AreVotes lines bags → AllByRecursion IsInOrder bags
+    → AllHaveVoted n (map (λ line. line.places) lines) bags → n ≤ 600
     → bags_in lines n (flat_map bag_bytes bags ++ replicate k 0) ≡ Some bags
 unfolding bags_in
-bags_back [] n [] k small votes order full few = ap (λ (b : Bool). cond {A = Option (List (List Choice))} b (Some []) None) (zeros_pass k)
-bags_back [] n (bag ∷ bags) k small votes order full few = absurd votes
-bags_back (line ∷ lines) n [] k small votes order full few = absurd votes
-bags_back (line ∷ lines) n (bag ∷ bags) k small votes order full few =
+bags_back [] n [] k small two votes order full few = ap (λ (b : Bool). cond {A = Option (List (List Choice))} b (Some []) None) (zeros_pass k)
+bags_back [] n (bag ∷ bags) k small two votes order full few = absurd votes
+bags_back (line ∷ lines) n [] k small two votes order full few = absurd votes
+bags_back (line ∷ lines) n (bag ∷ bags) k small two votes order full few =
     let behind : List ℕ = flat_map bag_bytes bags ++ replicate k 0 in
-    let further : drop (4 + 5 * n) (bag_bytes bag ++ behind) ≡ behind = drop_at (bag_bytes bag) behind (4 + 5 * n) (omega (arith, length-bag_bytes bag, full.0)) in
+    let count : ℕ = n * line.places in
+    let places : List ℕ = map (λ l. l.places) lines in
+    let many : length bag ≡ count = full_head n line.places places bag bags full in
+    let further : drop (4 + 5 * count) (bag_bytes bag ++ behind) ≡ behind = drop_at (bag_bytes bag) behind (4 + 5 * count) (omega (arith, length-bag_bytes bag, many)) in
     ap (bags_in (line ∷ lines) n) (append_assoc (bag_bytes bag) (flat_map bag_bytes bags) (replicate k 0))
-    ∙ ap (λ (o : Option (List Choice)). option_and_then (λ b. option_map (λ bs. b ∷ bs) (bags_in lines n (drop (4 + 5 * n) (bag_bytes bag ++ behind)))) o)
-    (bag_back line n bag behind small.0 votes.0 order.0 full.0 few)
+    ∙ ap (λ (o : Option (List Choice)). option_and_then (λ b. option_map (λ bs. b ∷ bs) (bags_in lines n (drop (4 + 5 * count) (bag_bytes bag ++ behind)))) o)
+    (bag_back line count bag behind small.0 votes.0 order.0 many (omega (arith, few_votes n line.places two.0)))
     ∙ ap (λ (r : List ℕ). option_map (λ bs. bag ∷ bs) (bags_in lines n r)) further
-    ∙ ap (option_map (λ bs. bag ∷ bs)) (bags_back lines n bags k small.1 votes.1 order.1 full.1 few)
+    ∙ ap (option_map (λ bs. bag ∷ bs)) (bags_back lines n bags k small.1 two.1 votes.1 order.1 (full_tail n line.places places bag bags full) few)
 
--- The lines of the ballot, by their panels
+-- The lines of the panels
+
+few_from : (t : TablesData) (first : ℕ) (panels : List Panel) → AreFew (lines_from t first panels)
+few_from t first [] = tt
+few_from t first (p ∷ panels) = (omega arith, few_from t (first + 1) panels)
+
+pub panels_few : (t : TablesData) → AreFew (lines_by_panel t)
+unfolding lines_by_panel
+panels_few t = few_from t 0 t.panels
 
 votes_shift : (t : TablesData) (a b : ℕ) (panels : List Panel) (bags : List (List Choice)) → AreVotes (lines_from t a panels) bags → AreVotes (lines_from t b panels) bags
 votes_shift t a b [] [] votes = tt
@@ -165,10 +186,10 @@ choices_of t (p ∷ panels) [] votes = absurd votes
 choices_of t (p ∷ panels) (bag ∷ bags) votes =
     (votes.0, choices_after t 0 panels bag bags (choices_of t panels bags (votes_shift t 1 0 panels bags votes.1)))
 
-pub votes_of_lines : (t : TablesData) (bags : List (List Choice)) → length bags ≡ length t.panels → HasChoices (ballot_lines t) bags → AreVotes (ballot_lines t) bags
-unfolding ballot_lines
+pub votes_of_lines : (t : TablesData) (bags : List (List Choice)) → length bags ≡ length t.panels → HasChoices (lines_by_panel t) bags → AreVotes (lines_by_panel t) bags
+unfolding lines_by_panel
 votes_of_lines t bags m has = votes_from t t.panels bags m has
 
-pub choices_of_lines : (t : TablesData) (bags : List (List Choice)) → AreVotes (ballot_lines t) bags → HasChoices (ballot_lines t) bags
-unfolding ballot_lines
+pub choices_of_lines : (t : TablesData) (bags : List (List Choice)) → AreVotes (lines_by_panel t) bags → HasChoices (lines_by_panel t) bags
+unfolding lines_by_panel
 choices_of_lines t bags votes = choices_of t t.panels bags votes

@@ -1,5 +1,5 @@
 -- Reading goes on from left to right: one place, one vote or one bag at a time
-use Rattle.std.proofs.Common.{◌≡◌, ◌≢◌, ℕ, suc, ◌+◌, ◌-◌, ◌*◌, ◌<◌, ◌≤◌, Bool, true, false, not, cond, ◌&&◌, ◌==◌, List, [], ◌∷◌, ◌++◌, length, drop, Option, Some, None, is_some, refl, sym, ap, ◌∙◌, arith, option_map, slice_get}
+use Rattle.std.proofs.Common.{◌≡◌, ◌≢◌, ℕ, zero, suc, ◌+◌, ◌-◌, ◌*◌, ◌<◌, ◌≤◌, Bool, true, false, not, cond, ◌&&◌, ◌==◌, List, [], ◌∷◌, ◌++◌, length, map, drop, slice_index, unwrap_or, Option, Some, None, is_some, refl, sym, ap, ◌∙◌, arith, option_map, slice_get}
 use Rattle.std.specs.Option.{option_and_then}
 use Rattle.std.specs.List.{list_all, range_with_len}
 use Rattle.std.proofs.lemmas.Bool.{eq-eqb, ne_eqb}
@@ -7,12 +7,12 @@ use Rattle.std.proofs.lemmas.List.{drop_all, drop_more}
 use Rattle.std.proofs.lemmas.List.Sums.{sum_by-cons, sum_by-append}
 use Rattle.std.proofs.lemmas.List.FromFn.{map-range_with_len_more, length-map-range_with_len}
 use Rattle.std.proofs.lemmas.Option.{slice_get-get_or, unwrap_or-slice_get, get_or_from_slice_get}
-use Rattle.election_tables.specs.TablesData.{TablesData}
+use Rattle.election_tables.specs.TablesData.{TablesData, places_at, places_in}
 use Rattle.vote_kinds.specs.declared.choice.Choice.{Choice}
 use Rattle.vote_kinds.specs.declared.choice.Choice.TheVariants as choice
 use Rattle.election_tables.specs.declared.tables.panels.Panel.{Panel}
-use Rattle.vote_kinds.specs.Ballot.{BallotLine, ballot_lines, line_of, line_for, no_panel}
-use Rattle.vote_kinds.proofs.Lookups.{line_get, lines_length}
+use Rattle.vote_kinds.specs.Ballot.{BallotLine, lines_by_panel, line_of, line_for, no_panel}
+use Rattle.vote_kinds.proofs.Lookups.{panel_line_get, panel_lines_length}
 use Rattle.turnout.specs.Turnout.{number_came}
 use Rattle.turnout.proofs.Marks.{number_came-le-length}
 use Rattle.image_codec.specs.Decoded.{number4_at, is_marked, marks_in, has_no_more, vote_in, votes_in, bag_in, bags_in}
@@ -95,49 +95,58 @@ votes_missing line before n i bytes lt e =
 -- Bags
 
 more_at : (line : BallotLine) (lines : List BallotLine) (n : ℕ) (bytes : List ℕ) (o : Option (List Choice)) → is_some o ≡ true
-    → is_some (option_and_then (λ bag. option_map (λ bags. bag ∷ bags) (bags_in lines n (drop (4 + 5 * n) bytes))) o) ≡ is_some (bags_in lines n (drop (4 + 5 * n) bytes))
+    → is_some (option_and_then (λ bag. option_map (λ bags. bag ∷ bags) (bags_in lines n (drop (4 + 5 * (n * line.places)) bytes))) o) ≡ is_some (bags_in lines n (drop (4 + 5 * (n * line.places)) bytes))
 more_at line lines n bytes None has = absurd (cc)
-more_at line lines n bytes (Some bag) has = some_map (λ bags. bag ∷ bags) (bags_in lines n (drop (4 + 5 * n) bytes))
+more_at line lines n bytes (Some bag) has = some_map (λ bags. bag ∷ bags) (bags_in lines n (drop (4 + 5 * (n * line.places)) bytes))
 
-missing_at : (lines : List BallotLine) (n : ℕ) (bytes : List ℕ) (o : Option (List Choice)) → is_some o ≡ false
-    → is_some (option_and_then (λ bag. option_map (λ bags. bag ∷ bags) (bags_in lines n (drop (4 + 5 * n) bytes))) o) ≡ false
-missing_at lines n bytes None has = refl
-missing_at lines n bytes (Some bag) has = absurd (cc)
+missing_at : (line : BallotLine) (lines : List BallotLine) (n : ℕ) (bytes : List ℕ) (o : Option (List Choice)) → is_some o ≡ false
+    → is_some (option_and_then (λ bag. option_map (λ bags. bag ∷ bags) (bags_in lines n (drop (4 + 5 * (n * line.places)) bytes))) o) ≡ false
+missing_at line lines n bytes None has = refl
+missing_at line lines n bytes (Some bag) has = absurd (cc)
 
 some_test : (b : Bool) → is_some {T = List (List Choice)} (cond b (Some []) None) ≡ b
 some_test true = refl
 some_test false = refl
 
+places_found : (panels : List Panel) (panel : ℕ) → panel < length panels → places_in (unwrap_or (slice_get panels panel) no_panel) ≡ slice_index (map places_in panels) panel
+places_found [] panel lt = absurd (omega arith)
+places_found (p ∷ panels) zero lt = refl
+places_found (p ∷ panels) (suc panel) lt = places_found panels panel (omega arith)
+
+-- the line of a panel has as many votes of a voter as the tables say
+pub line_places : (t : TablesData) (panel : ℕ) → panel < length t.panels → (line_of t panel).places ≡ places_at t panel
+line_places t panel lt = places_found t.panels panel lt
+
 -- the line of a panel of the tables
-pub line_found : (t : TablesData) (panel : ℕ) → panel < length t.panels → slice_get (ballot_lines t) panel ≡ Some (line_of t panel)
+pub line_found : (t : TablesData) (panel : ℕ) → panel < length t.panels → slice_get (lines_by_panel t) panel ≡ Some (line_of t panel)
 line_found t panel lt =
-    line_get t panel ∙ ap (option_map (line_for t panel)) (slice_get-get_or t.panels panel no_panel lt)
+    panel_line_get t panel ∙ ap (option_map (line_for t panel)) (slice_get-get_or t.panels panel no_panel lt)
     ∙ ap (λ (p : Panel). Some (line_for t panel p)) (sym (unwrap_or-slice_get t.panels panel no_panel))
 
-pub bags_more : (line : BallotLine) (lines : List BallotLine) (n : ℕ) (bytes : List ℕ) → is_some (bag_in line n bytes) ≡ true
-    → is_some (bags_in (line ∷ lines) n bytes) ≡ is_some (bags_in lines n (drop (4 + 5 * n) bytes))
+pub bags_more : (line : BallotLine) (lines : List BallotLine) (n : ℕ) (bytes : List ℕ) → is_some (bag_in line (n * line.places) bytes) ≡ true
+    → is_some (bags_in (line ∷ lines) n bytes) ≡ is_some (bags_in lines n (drop (4 + 5 * (n * line.places)) bytes))
 unfolding bags_in
-bags_more line lines n bytes has = more_at line lines n bytes (bag_in line n bytes) has
+bags_more line lines n bytes has = more_at line lines n bytes (bag_in line (n * line.places) bytes) has
 
-pub bags_missing : (line : BallotLine) (lines : List BallotLine) (n : ℕ) (bytes : List ℕ) → is_some (bag_in line n bytes) ≡ false → is_some (bags_in (line ∷ lines) n bytes) ≡ false
+pub bags_missing : (line : BallotLine) (lines : List BallotLine) (n : ℕ) (bytes : List ℕ) → is_some (bag_in line (n * line.places) bytes) ≡ false → is_some (bags_in (line ∷ lines) n bytes) ≡ false
 unfolding bags_in
-bags_missing line lines n bytes has = missing_at lines n bytes (bag_in line n bytes) has
+bags_missing line lines n bytes has = missing_at line lines n bytes (bag_in line (n * line.places) bytes) has
 
 -- the lines from a panel on, of which the first is that of the panel
-pub lines_from_panel : (t : TablesData) (panel : ℕ) → panel < length t.panels → drop panel (ballot_lines t) ≡ line_of t panel ∷ drop (panel + 1) (ballot_lines t)
+pub lines_from_panel : (t : TablesData) (panel : ℕ) → panel < length t.panels → drop panel (lines_by_panel t) ≡ line_of t panel ∷ drop (panel + 1) (lines_by_panel t)
 lines_from_panel t panel lt =
-    let many = lines_length t in
-    drop_more (ballot_lines t) panel (line_of t panel) (omega arith)
-    ∙ ap (λ (l : BallotLine). l ∷ drop (panel + 1) (ballot_lines t)) (get_or_from_slice_get (ballot_lines t) panel (line_of t panel) (line_of t panel) (line_found t panel lt))
+    let many = panel_lines_length t in
+    drop_more (lines_by_panel t) panel (line_of t panel) (omega arith)
+    ∙ ap (λ (l : BallotLine). l ∷ drop (panel + 1) (lines_by_panel t)) (get_or_from_slice_get (lines_by_panel t) panel (line_of t panel) (line_of t panel) (line_found t panel lt))
 
-pub bags_end : (t : TablesData) (panel n : ℕ) (bytes : List ℕ) → length t.panels ≤ panel → is_some (bags_in (drop panel (ballot_lines t)) n bytes) ≡ list_all (λ b. b == 0) bytes
+pub bags_end : (t : TablesData) (panel n : ℕ) (bytes : List ℕ) → length t.panels ≤ panel → is_some (bags_in (drop panel (lines_by_panel t)) n bytes) ≡ list_all (λ b. b == 0) bytes
 unfolding bags_in
 bags_end t panel n bytes le =
-    let many = lines_length t in
-    ap (λ (ls : List BallotLine). is_some (bags_in ls n bytes)) (drop_all panel (ballot_lines t) (omega arith)) ∙ some_test (list_all (λ b. b == 0) bytes)
+    let many = panel_lines_length t in
+    ap (λ (ls : List BallotLine). is_some (bags_in ls n bytes)) (drop_all panel (lines_by_panel t) (omega arith)) ∙ some_test (list_all (λ b. b == 0) bytes)
 
 -- there is room for the parts that are left
-pub room_left : (i k n r : ℕ) → i < 8 → i * k + r ≡ n → 8 * k ≤ n → k ≤ r
+pub room_left : (i k n r : ℕ) → i < 8 → n ≤ i * k + r → 8 * k ≤ n → k ≤ r
 room_left i k n r lt is all =
     let most : i * k ≤ 7 * k = grind arith in
     omega arith

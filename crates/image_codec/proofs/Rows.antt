@@ -1,23 +1,27 @@
 -- Worked rows of the steps of a poll and of its encoding
 use Rattle.std.proofs.Common.{◌≡◌, ℕ, true, false, List, [], ◌∷◌, ◌++◌, replicate, Some, None, refl}
+use Rattle.std.specs.List.{flat_map}
+use Rattle.vote_kinds.specs.declared.choice.Choice.{Choice}
 use Rattle.vote_kinds.specs.declared.choice.Choice.TheVariants as choice
 use Rattle.vote_kinds.specs.Ballot.{BallotLine}
 use Rattle.turnout.specs.declared.phase.Phase.TheVariants as phase
-use Rattle.image_codec.specs.Encoding.{written, turnout_bytes}
+use Rattle.image_codec.specs.Encoding.{bag_bytes, written, turnout_bytes}
+use Rattle.image_codec.specs.Valid.{AllHaveVoted}
 use Rattle.image_codec.specs.Decoded.{bags_in, bag_in, votes_in, vote_in}
-use Rattle.image_codec.specs.State.{State, rank_of, sealed_at, with_ballot, filled_up}
+use Rattle.image_codec.specs.State.{State, rank_of, sealed_at, with_ballot, with_votes, filled_up}
 
 councillor : BallotLine
-councillor = record { panel = 0; code = 13; digits = 5; proportional = true; candidates = 13001 ∷ 45001 ∷ []; parties = 13 ∷ 45 ∷ [] }
+councillor = record { panel = 0; code = 13; digits = 5; proportional = true; places = 1; candidates = 13001 ∷ 45001 ∷ []; parties = 13 ∷ 45 ∷ [] }
 
 mayor : BallotLine
-mayor = record { panel = 1; code = 11; digits = 2; proportional = false; candidates = 13 ∷ 45 ∷ []; parties = 13 ∷ 45 ∷ [] }
+mayor = record { panel = 1; code = 11; digits = 2; proportional = false; places = 1; candidates = 13 ∷ 45 ∷ []; parties = 13 ∷ 45 ∷ [] }
 
 -- two panels, and the second of two voters came
 after_one : State
 after_one = record {
   phase = phase.Polling 20261004080000;
   came = false ∷ true ∷ [];
+  places = 1 ∷ 1 ∷ [];
   bags = (choice.Party 13 ∷ []) ∷ (choice.Nominal 45 ∷ []) ∷ [];
 }
 
@@ -29,6 +33,7 @@ rank_is_two = refl
 both_came : with_ballot (councillor ∷ mayor ∷ []) after_one 0 (choice.Nominal 45001 ∷ choice.Blank ∷ []) ≡ record {
   phase = phase.Polling 20261004080000;
   came = true ∷ true ∷ [];
+  places = 1 ∷ 1 ∷ [];
   bags = (choice.Nominal 45001 ∷ choice.Party 13 ∷ []) ∷ (choice.Nominal 45 ∷ choice.Blank ∷ []) ∷ [];
 }
 unfolding after_one councillor mayor
@@ -48,6 +53,7 @@ two_came : State
 two_came = record {
   phase = phase.Sealed 20261004080000 20261004170000;
   came = true ∷ false ∷ true ∷ [];
+  places = 1 ∷ 1 ∷ [];
   bags = (choice.Nominal 13001 ∷ choice.Party 45 ∷ []) ∷ (choice.Nominal 45 ∷ choice.Blank ∷ []) ∷ [];
 }
 
@@ -79,3 +85,33 @@ party_for_mayor = refl
 byte_behind : bags_in (mayor ∷ []) 0 (0 ∷ 0 ∷ 0 ∷ 0 ∷ 1 ∷ []) ≡ None
 unfolding mayor bags_in bag_in votes_in vote_in
 byte_behind = refl
+
+-- a panel in which each voter has two votes: two voters came, so the bag has four
+senator : BallotLine
+senator = record { panel = 0; code = 5; digits = 3; proportional = false; places = 2; candidates = 101 ∷ 102 ∷ 201 ∷ []; parties = 10 ∷ 20 ∷ [] }
+
+four_votes : List Choice
+four_votes = choice.Nominal 101 ∷ choice.Nominal 101 ∷ choice.Nominal 201 ∷ choice.Null ∷ []
+
+two_votes_each : bags_in (senator ∷ []) 2 (bag_bytes four_votes) ≡ Some (four_votes ∷ [])
+unfolding senator four_votes bags_in bag_in votes_in vote_in
+two_votes_each = refl
+
+full_of_two : AllHaveVoted 2 (2 ∷ 1 ∷ []) (four_votes ∷ (choice.Blank ∷ choice.Null ∷ []) ∷ [])
+unfolding four_votes
+full_of_two = refl
+
+-- three votes of two voters are none
+one_missing : bags_in (senator ∷ []) 2 (bag_bytes (choice.Nominal 101 ∷ choice.Blank ∷ choice.Null ∷ [])) ≡ None
+unfolding senator bags_in bag_in votes_in vote_in
+one_missing = refl
+
+-- the ballot has two lines of that panel, and a voter's two votes go into its bag
+two_lines : flat_map (λ line. replicate line.places line) (senator ∷ mayor ∷ []) ≡ senator ∷ senator ∷ mayor ∷ []
+unfolding senator mayor
+two_lines = refl
+
+two_more : with_votes (senator ∷ senator ∷ []) (choice.Nominal 201 ∷ choice.Nominal 101 ∷ []) (four_votes ∷ [])
+    ≡ (choice.Nominal 101 ∷ choice.Nominal 101 ∷ choice.Nominal 101 ∷ choice.Nominal 201 ∷ choice.Nominal 201 ∷ choice.Null ∷ []) ∷ []
+unfolding senator four_votes
+two_more = refl

@@ -10,7 +10,7 @@ use Rattle.election_tables.specs.declared.tables.panels.Panel.{Panel}
 use Rattle.election_tables.proofs.Kept.{code_digits-range, has_digits-below}
 use Rattle.vote_kinds.specs.declared.choice.Choice.{Choice}
 use Rattle.vote_kinds.specs.declared.choice.Choice.TheVariants as choice
-use Rattle.vote_kinds.specs.Ballot.{ballot_lines, lines_from, line_for, is_proportional, is_choice}
+use Rattle.vote_kinds.specs.Ballot.{lines_by_panel, lines_from, line_for, is_proportional, is_choice}
 use Rattle.image_codec.proofs.ReadVotes.{HasSmall, IsSmall}
 
 candidates_small : (digits : ℕ) (parties : List Party) (candidates : List NamedCandidate) (n : ℕ) → digits ≤ 5 → AllByRecursion (IsCandidate digits parties) candidates
@@ -44,7 +44,7 @@ lines_small : (t : TablesData) (first : ℕ) (panels : List Panel) → AllByRecu
 lines_small t first [] all parties = tt
 lines_small t first (p ∷ panels) all parties = (λ c h. line_small t first p c all.0 parties h, lines_small t (first + 1) panels all.1 parties)
 
--- the choices of every line of the ballot are small
-pub ballot_small : (t : TablesData) → IsTables t → AllByRecursion HasSmall (ballot_lines t)
-unfolding ballot_lines
-ballot_small t is = lines_small t 0 t.panels (recursion_from_All (IsPanel t.parties) t.panels is.panels) (recursion_from_All IsParty t.parties is.parties)
+-- the choices of the line of every panel are small
+pub panels_small : (t : TablesData) → IsTables t → AllByRecursion HasSmall (lines_by_panel t)
+unfolding lines_by_panel
+panels_small t is = lines_small t 0 t.panels (recursion_from_All (IsPanel t.parties) t.panels is.panels) (recursion_from_All IsParty t.parties is.parties)

@@ -4,9 +4,9 @@ use Rattle.std.specs.Option.{option_and_then}
 use Rattle.std.specs.List.{list_all}
 use Rattle.std.proofs.lemmas.Bool.{eq-eqb, ne_eqb, lt-ltb, and_from, and_left, ltb-true, and_parts}
 use Rattle.std.proofs.lemmas.Option.{same_Some}
-use Rattle.election_tables.specs.TablesData.{TablesData}
+use Rattle.election_tables.specs.TablesData.{TablesData, places_of}
 use Rattle.vote_kinds.specs.declared.choice.Choice.{Choice}
-use Rattle.vote_kinds.specs.Ballot.{ballot_lines}
+use Rattle.vote_kinds.specs.Ballot.{lines_by_panel}
 use Rattle.turnout.specs.Turnout.{number_came}
 use Rattle.turnout.specs.declared.phase.Phase.{Phase}
 use Rattle.image_codec.specs.State.{State}
@@ -31,15 +31,15 @@ pub body_is : (bytes : List ℕ) → AreBytes bytes → length bytes ≡ 65536 �
 body_is bytes are whole = and_from (length bytes == 65536) (list_all (λ b. nat_lt b 256) bytes) (eq-eqb (length bytes) 65536 whole) (bytes_pass bytes are)
 
 -- the state of a phase, with what else is read
-abbrev pub state_with : ℕ → List ℕ → Phase → List (List Choice) → State
-state_with voters bytes p bags = record { phase = p; came = marks_in voters (turnout_of bytes); bags = bags }
+abbrev pub state_with : TablesData → ℕ → List ℕ → Phase → List (List Choice) → State
+state_with t voters bytes p bags = record { phase = p; came = marks_in voters (turnout_of bytes); places = places_of t; bags = bags }
 
 abbrev pub bags_of : TablesData → ℕ → List ℕ → Option (List (List Choice))
-bags_of t voters bytes = bags_in (ballot_lines t) (number_came (marks_in voters (turnout_of bytes))) (drop 98 bytes)
+bags_of t voters bytes = bags_in (lines_by_panel t) (number_came (marks_in voters (turnout_of bytes))) (drop 98 bytes)
 
 -- the state of a body whose phase was read
 abbrev pub rest_of : TablesData → ℕ → List ℕ → Option Phase → Option State
-rest_of t voters bytes o = option_and_then (λ p. option_map (state_with voters bytes p) (bags_of t voters bytes)) o
+rest_of t voters bytes o = option_and_then (λ p. option_map (state_with t voters bytes p) (bags_of t voters bytes)) o
 
 pub decoded_short : (t : TablesData) (voters : ℕ) (bytes : List ℕ) → length bytes ≢ 65536 → decoded t voters bytes ≡ None
 unfolding decoded
@@ -61,23 +61,23 @@ no_map f (Some x) e = absurd (cc)
 pub decoded_no_bags : (t : TablesData) (voters : ℕ) (bytes : List ℕ) (p : Phase) → is_body bytes ≡ true → phase_in voters (length t.panels) bytes ≡ Some p
     → is_some (bags_of t voters bytes) ≡ false → decoded t voters bytes ≡ None
 decoded_no_bags t voters bytes p body e none =
-    decoded_body t voters bytes body ∙ ap (rest_of t voters bytes) e ∙ no_map (state_with voters bytes p) (bags_of t voters bytes) none
+    decoded_body t voters bytes body ∙ ap (rest_of t voters bytes) e ∙ no_map (state_with t voters bytes p) (bags_of t voters bytes) none
 
-head_map : (voters : ℕ) (bytes : List ℕ) (p : Phase) (o : Option (List (List Choice))) → is_some o ≡ true
-    → option_map head_of (option_map (state_with voters bytes p) o) ≡ Some (record { phase = p; came = number_came (marks_in voters (turnout_of bytes)) })
-head_map voters bytes p None e = absurd (cc)
-head_map voters bytes p (Some bags) e = refl
+head_map : (t : TablesData) (voters : ℕ) (bytes : List ℕ) (p : Phase) (o : Option (List (List Choice))) → is_some o ≡ true
+    → option_map head_of (option_map (state_with t voters bytes p) o) ≡ Some (record { phase = p; came = number_came (marks_in voters (turnout_of bytes)) })
+head_map t voters bytes p None e = absurd (cc)
+head_map t voters bytes p (Some bags) e = refl
 
 pub decoded_head : (t : TablesData) (voters : ℕ) (bytes : List ℕ) (p : Phase) → is_body bytes ≡ true → phase_in voters (length t.panels) bytes ≡ Some p
     → is_some (bags_of t voters bytes) ≡ true → option_map head_of (decoded t voters bytes) ≡ Some (record { phase = p; came = number_came (marks_in voters (turnout_of bytes)) })
 decoded_head t voters bytes p body e has =
-    ap (option_map head_of) (decoded_body t voters bytes body ∙ ap (rest_of t voters bytes) e) ∙ head_map voters bytes p (bags_of t voters bytes) has
+    ap (option_map head_of) (decoded_body t voters bytes body ∙ ap (rest_of t voters bytes) e) ∙ head_map t voters bytes p (bags_of t voters bytes) has
 
 -- the bags that are read with these arguments are those of the body
 pub same_bags : (t : TablesData) (voters came : ℕ) (bytes rest : List ℕ) → came ≡ number_came (marks_in voters (turnout_of bytes)) → rest ≡ drop 98 bytes
-    → is_some (bags_in (ballot_lines t) came rest) ≡ is_some (bags_of t voters bytes)
+    → is_some (bags_in (lines_by_panel t) came rest) ≡ is_some (bags_of t voters bytes)
 same_bags t voters came bytes rest e f =
-    ap (λ (n : ℕ). is_some (bags_in (ballot_lines t) n rest)) e ∙ ap (λ (b : List ℕ). is_some (bags_in (ballot_lines t) (number_came (marks_in voters (turnout_of bytes))) b)) f
+    ap (λ (n : ℕ). is_some (bags_in (lines_by_panel t) n rest)) e ∙ ap (λ (b : List ℕ). is_some (bags_in (lines_by_panel t) (number_came (marks_in voters (turnout_of bytes))) b)) f
 
 pub head_is : (voters : ℕ) (bytes : List ℕ) (h : Head) → h.came ≡ number_came (marks_in voters (turnout_of bytes))
     → record { phase = h.phase; came = number_came (marks_in voters (turnout_of bytes)) } ≡ h

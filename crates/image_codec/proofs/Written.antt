@@ -1,15 +1,18 @@
 -- What is written of votes, bags and marks: how long it is, and one more of each
-use Rattle.std.proofs.Common.{◌≡◌, ℕ, zero, suc, ◌+◌, ◌-◌, ◌*◌, ◌<◌, ◌≤◌, Bool, List, [], ◌∷◌, ◌++◌, length, take, drop, replicate, get_or, slice_get, Some, refl, sym, ap, ◌∙◌, append_assoc, arith, length-append}
+use Rattle.std.proofs.Common.{◌≡◌, ℕ, zero, suc, ◌+◌, ◌-◌, ◌*◌, ◌<◌, ◌≤◌, Bool, List, [], ◌∷◌, ◌++◌, length, map, take, drop, replicate, get_or, slice_get, Some, refl, sym, ap, subst, ◌∙◌, append_assoc, arith, length-append}
 use Rattle.std.specs.Int.{w32, w64, to_be_bytes}
 use Rattle.std.specs.List.{flat_map}
 use Rattle.std.proofs.lemmas.List.{take_all, take_more, drop_all, append-nil, length-take, length-drop, flat_map_more}
 use Rattle.std.proofs.lemmas.Option.{get_or_from_slice_get, slice_get-get_or, unwrap_or-slice_get}
 use Rattle.std.proofs.lemmas.List.FromFn.{length-map-range_with_len}
+use Rattle.election_tables.specs.TablesData.{TablesData, places_in, places_of}
+use Rattle.election_tables.specs.declared.tables.panels.Panel.{Panel}
 use Rattle.vote_kinds.specs.declared.choice.Choice.{Choice}
 use Rattle.vote_record.specs.Bag.{bag_at}
 use Rattle.turnout.specs.Turnout.{number_came}
 use Rattle.image_codec.specs.State.{State}
-use Rattle.image_codec.specs.Valid.{AreFull}
+use Rattle.image_codec.specs.Valid.{AllHaveVoted}
+use Rattle.image_codec.proofs.Full.{full_head, full_tail}
 use Rattle.image_codec.specs.Encoding.{vote_bytes, bag_bytes, eight_places, turnout_bytes, opening_in, closing_in, head_bytes, written, encode}
 
 -- five bytes for a vote
@@ -20,11 +23,13 @@ length-votes (c ∷ bag) = let more = length-votes bag in omega (arith, length-a
 pub length-bag_bytes : (bag : List Choice) → length (bag_bytes bag) ≡ 4 + 5 * length bag
 length-bag_bytes bag = omega (arith, length-append (to_be_bytes w32 (length bag)) (flat_map vote_bytes bag), length-votes bag)
 
-pub length-bags : (n : ℕ) (bags : List (List Choice)) → AreFull n bags → length (flat_map bag_bytes bags) ≡ length bags * (4 + 5 * n)
-length-bags n [] full = omega arith
-length-bags n (bag ∷ bags) full =
-    let more = length-bags n bags full.1 in
-    omega (arith, length-append (bag_bytes bag) (flat_map bag_bytes bags), length-bag_bytes bag, full.0)
+pub length-bags : (n : ℕ) (panels : List Panel) (bags : List (List Choice)) → AllHaveVoted n (map places_in panels) bags → length (flat_map bag_bytes bags) ≡ length panels * (4 + 5 * n)
+length-bags n [] [] full = omega arith
+length-bags n [] (bag ∷ bags) full = absurd (cc)
+length-bags n (p ∷ panels) [] full = absurd (cc)
+length-bags n (p ∷ panels) (bag ∷ bags) full =
+    let more = length-bags n panels bags (full_tail n (places_in p) (map places_in panels) bag bags full) in
+    omega (arith, length-append (bag_bytes bag) (flat_map bag_bytes bags), length-bag_bytes bag, full_head n (places_in p) (map places_in panels) bag bags full)
 
 pub length-turnout_bytes : (came : List Bool) → length (turnout_bytes came) ≡ 75
 unfolding turnout_bytes
@@ -87,11 +92,13 @@ pub written_is : (s : State) → written s ≡ head_bytes s ++ flat_map bag_byte
 unfolding written
 written_is s = refl
 
-pub length-written : (s : State) → AreFull (number_came s.came) s.bags → length (written s) ≡ 98 + length s.bags * (4 + 5 * number_came s.came)
-length-written s full = omega (arith, written_parts s, length-bags (number_came s.came) s.bags full)
+length-written : (t : TablesData) (s : State) → AllHaveVoted (number_came s.came) s.places s.bags → s.places ≡ places_of t → length (written s) ≡ 98 + length t.panels * (4 + 5 * number_came s.came)
+length-written t s full places =
+    let size = length-bags (number_came s.came) t.panels s.bags (subst (λ (p : List ℕ). AllHaveVoted (number_came s.came) p s.bags) places full) in
+    omega (arith, written_parts s)
 
 -- eight panels of 600 votes have room
-pub few_written : (panels n : ℕ) → panels ≤ 8 → n ≤ 600 → 98 + panels * (4 + 5 * n) ≤ 24130
+few_written : (panels n : ℕ) → panels ≤ 8 → n ≤ 600 → 98 + panels * (4 + 5 * n) ≤ 24130
 few_written panels n few most =
     let size : 4 + 5 * n ≤ 3004 = omega arith in
     let all : panels * (4 + 5 * n) ≤ panels * 3004 = grind arith in
@@ -109,8 +116,9 @@ body_of s into front zeros end whole is text filled =
     ∙ ap (λ (t : List ℕ). written s ++ (zeros ++ t)) past ∙ ap (λ (t : List ℕ). written s ++ t) (append-nil zeros ∙ filled ∙ ap (λ (n : ℕ). replicate n 0) long)
 
 -- the room that a state of a poll needs
-pub fits_body : (s : State) (panels : ℕ) → AreFull (number_came s.came) s.bags → length s.bags ≡ panels → panels ≤ 8 → number_came s.came ≤ 600 → length (written s) ≤ 24130
-fits_body s panels full many few most =
-    let size = length-written s full in
-    let bound = few_written (length s.bags) (number_came s.came) (omega arith) most in
+pub fits_body : (t : TablesData) (s : State) → AllHaveVoted (number_came s.came) s.places s.bags → s.places ≡ places_of t → length t.panels ≤ 8 → number_came s.came ≤ 600
+    → length (written s) ≤ 24130
+fits_body t s full places few most =
+    let size = length-written t s full places in
+    let bound = few_written (length t.panels) (number_came s.came) few most in
     omega arith

@@ -1,9 +1,11 @@
 -- What is so of all encodings
-use Rattle.std.specs.Prelude.{◌≡◌, ◌≤◌, ℕ, true, ◌↔◌, List, [], ◌∷◌, length, Some, IsPermutation}
+use Rattle.std.specs.Prelude.{◌≡◌, ◌<◌, ◌≤◌, ◌*◌, ℕ, true, false, ◌↔◌, List, [], ◌∷◌, length, Some, IsPermutation}
 use Rattle.urna_base.specs.Moment.{is_moment}
-use Rattle.election_tables.specs.TablesData.{TablesData, IsTables}
+use Rattle.election_tables.specs.TablesData.{TablesData, IsTables, places_at}
 use Rattle.vote_kinds.specs.declared.choice.Choice.{Choice}
-use Rattle.vote_kinds.specs.Ballot.{BallotLine, ballot_lines}
+use Rattle.vote_kinds.specs.Ballot.{BallotLine, ballot_lines, is_choice, line_of}
+use Rattle.vote_record.specs.Bag.{bag_at, count_of}
+use Rattle.turnout.specs.Turnout.{number_came}
 use Rattle.image_codec.specs.State.{State, opened_at, with_ballot, sealed_at, MayVote, IsBallot}
 use Rattle.image_codec.specs.Valid.{ready_state, MayClose}
 use Rattle.image_codec.specs.Encoding.{IsStateOf, IsEncoding, encode, written}
@@ -23,6 +25,20 @@ HasRoomInBody = (t : TablesData) (voters : ℕ) (s : State) → IsTables t → v
 
 abbrev pub IsBodyLong : Type 0
 IsBodyLong = (t : TablesData) (voters : ℕ) (s : State) → IsTables t → voters ≤ 600 → IsStateOf t voters s → length (encode s) ≡ 65536
+
+-- a state of some tables has a bag for each panel, and in it as many votes as voters came, times the places of the panel
+
+abbrev pub HasBagOfEachPanel : Type 0
+HasBagOfEachPanel = (t : TablesData) (voters : ℕ) (s : State) → IsStateOf t voters s → length s.bags ≡ length t.panels
+
+abbrev pub HasAllVotes : Type 0
+HasAllVotes = (t : TablesData) (voters : ℕ) (s : State) (panel : ℕ) → IsStateOf t voters s → panel < length t.panels
+    → length (bag_at s.bags panel) ≡ number_came s.came * places_at t panel
+
+-- and none for a choice that is none of the panel's
+abbrev pub HasNoOtherVotes : Type 0
+HasNoOtherVotes = (t : TablesData) (voters : ℕ) (s : State) (panel : ℕ) (c : Choice) → IsStateOf t voters s → panel < length t.panels
+    → is_choice (line_of t panel) c ≡ false → count_of c (bag_at s.bags panel) ≡ 0
 
 -- the state before the poll is one of these tables, and each step leads from such a state to such a state
 

@@ -5,10 +5,10 @@ use Rattle.std.specs.Option.{option_and_then}
 use Rattle.std.specs.Int.{w32, w64, from_be_bytes}
 use Rattle.std.specs.List.{list_all, range_with_len}
 use Rattle.urna_base.specs.Moment.{is_moment}
-use Rattle.election_tables.specs.TablesData.{TablesData}
+use Rattle.election_tables.specs.TablesData.{TablesData, places_of}
 use Rattle.vote_kinds.specs.declared.choice.Choice.{Choice}
 use Rattle.vote_kinds.specs.declared.choice.Choice.TheVariants as choice
-use Rattle.vote_kinds.specs.Ballot.{BallotLine, ballot_lines, is_choice}
+use Rattle.vote_kinds.specs.Ballot.{BallotLine, lines_by_panel, is_choice}
 use Rattle.vote_kinds.specs.Choice.{choice_le, choice_with}
 use Rattle.turnout.specs.Turnout.{number_came}
 use Rattle.turnout.specs.declared.phase.Phase.{Phase}
@@ -73,11 +73,11 @@ votes_in line before (suc n) bytes =
 unfoldable pub bag_in : BallotLine → ℕ → List ℕ → Option (List Choice)
 bag_in line n bytes = if number4_at bytes 0 == n then votes_in line (choice.Nominal 0) n (drop 4 bytes) else None
 
--- a bag for each line, and zeros after them
+-- for each line a bag with all votes of so many voters, and zeros after them
 unfoldable pub bags_in : List BallotLine → ℕ → List ℕ → Option (List (List Choice))
 bags_in [] n bytes = if list_all (λ b. b == 0) bytes then Some [] else None
 bags_in (line ∷ lines) n bytes =
-    option_and_then (λ bag. option_map (λ bags. bag ∷ bags) (bags_in lines n (drop (4 + 5 * n) bytes))) (bag_in line n bytes)
+    option_and_then (λ bag. option_map (λ bags. bag ∷ bags) (bags_in lines n (drop (4 + 5 * (n * line.places)) bytes))) (bag_in line (n * line.places) bytes)
 
 -- The whole body
 
@@ -103,7 +103,7 @@ unfoldable pub decoded : TablesData → ℕ → List ℕ → Option State
 decoded t voters bytes =
     let came : List Bool = marks_in voters (turnout_of bytes) in
     if is_body bytes
-    then option_and_then (λ p. option_map (λ bags. record { phase = p; came = came; bags = bags }) (bags_in (ballot_lines t) (number_came came) (drop 98 bytes)))
+    then option_and_then (λ p. option_map (λ bags. record { phase = p; came = came; places = places_of t; bags = bags }) (bags_in (lines_by_panel t) (number_came came) (drop 98 bytes)))
     (phase_in voters (length t.panels) bytes)
     else None
 

@@ -1,12 +1,11 @@
 -- How a state is written into the body of a slot (docs/FORMATS.md, "The body")
-use Rattle.std.specs.Prelude.{◌≡◌, ℕ, ◌+◌, ◌*◌, ◌-◌, ◌<◌, Bool, if◌then◌else◌, List, [], ◌∷◌, ◌++◌, length, map, flat_map, replicate}
+use Rattle.std.specs.Prelude.{◌≡◌, ℕ, ◌+◌, ◌*◌, ◌-◌, Bool, if◌then◌else◌, List, [], ◌∷◌, ◌++◌, length, map, flat_map, replicate}
 use Rattle.std.specs.Int.{w32, w64, to_be_bytes}
 use Rattle.std.specs.List.{range_with_len}
-use Rattle.election_tables.specs.TablesData.{TablesData, places_at}
+use Rattle.election_tables.specs.TablesData.{TablesData, places_of}
 use Rattle.vote_kinds.specs.declared.choice.Choice.{Choice}
-use Rattle.vote_kinds.specs.Ballot.{ballot_lines}
+use Rattle.vote_kinds.specs.Ballot.{lines_by_panel}
 use Rattle.vote_kinds.specs.Choice.{kind_of, number_of}
-use Rattle.vote_record.specs.Bag.{bag_at}
 use Rattle.turnout.specs.Turnout.{has_come, number_came}
 use Rattle.turnout.specs.declared.phase.Phase.{Phase}
 use Rattle.turnout.specs.declared.phase.Phase.TheVariants as phase
@@ -17,9 +16,8 @@ use Rattle.image_codec.specs.Valid.{IsValid, HasChoices}
 pub record IsStateOf (t : TablesData) (voters : ℕ) (s : State) : Type 0 where
   pub valid : IsValid s
   pub roll : length s.came ≡ voters
-  pub panels : length s.bags ≡ length t.panels
-  pub full : (panel : ℕ) → panel < length t.panels → length (bag_at s.bags panel) ≡ number_came s.came * places_at t panel
-  pub choices : HasChoices (ballot_lines t) s.bags
+  pub places : s.places ≡ places_of t
+  pub choices : HasChoices (lines_by_panel t) s.bags
 
 -- a vote: its kind, and its number in four bytes
 abbrev pub vote_bytes : Choice → List ℕ

@@ -11,6 +11,7 @@ use Rattle.turnout.specs.declared.phase.Phase.TheVariants as phase
 pub record State : Type 0 where
   pub phase : Phase
   pub came : List Bool  -- for each place of the roll
+  pub places : List ℕ  -- for each panel, how many votes a voter has in it; not a place of the roll
   pub bags : List (List Choice)  -- for each panel
 
 -- 0 if ready, 1 + n if polling with n who came, n + 2 if sealed with n
@@ -25,7 +26,7 @@ rank_of s = rank_in s.phase (number_came s.came)
 -- The steps
 
 abbrev pub opened_at : State → ℕ → State
-opened_at s m = record { phase = phase.Polling m; came = s.came; bags = s.bags }
+opened_at s m = record { phase = phase.Polling m; came = s.came; places = s.places; bags = s.bags }
 
 abbrev pub sealed_by : Phase → ℕ → Phase
 sealed_by phase.Ready m = phase.Ready
@@ -33,7 +34,7 @@ sealed_by (phase.Polling opened) m = phase.Sealed opened m
 sealed_by (phase.Sealed opened closed) m = phase.Sealed opened closed
 
 abbrev pub sealed_at : State → ℕ → State
-sealed_at s m = record { phase = sealed_by s.phase m; came = s.came; bags = s.bags }
+sealed_at s m = record { phase = sealed_by s.phase m; came = s.came; places = s.places; bags = s.bags }
 
 -- the bags with the choices of one voter: each choice goes into the bag of its line's panel
 abbrev pub with_votes : List BallotLine → List Choice → List (List Choice) → List (List Choice)
@@ -43,7 +44,7 @@ with_votes (line ∷ lines) (c ∷ choices) bags = with_votes lines choices (wit
 
 -- the voter of a place came, and chose so
 abbrev pub with_ballot : List BallotLine → State → ℕ → List Choice → State
-with_ballot lines s place choices = record { phase = s.phase; came = slice_set s.came place true; bags = with_votes lines choices s.bags }
+with_ballot lines s place choices = record { phase = s.phase; came = slice_set s.came place true; places = s.places; bags = with_votes lines choices s.bags }
 
 -- the choices, and Null on each line that is left
 abbrev pub filled_up : List BallotLine → List Choice → List Choice

@@ -1,6 +1,7 @@
 //! A ready state takes on what was read. The bytes were tested before, by `checked`.
 ghost use Rattle.std.specs.Prelude.{◌≡◌, ◌+◌, ◌*◌, ◌<◌, ◌≤◌, ℕ, [], false, length, replicate, slice_set, unwrap_or, IsSome};
-ghost use Rattle.vote_kinds.specs.Ballot.{ballot_lines, line_of};
+ghost use Rattle.election_tables.specs.TablesData.{places_at};
+ghost use Rattle.vote_kinds.specs.Ballot.{lines_by_panel, line_of};
 ghost use Rattle.vote_record.specs.Bag.{bag_at};
 ghost use Rattle.vote_record.specs.RdvData.{room_at};
 ghost use Rattle.image_codec.specs.Decoded.{marks_in, bag_in, bags_in};
@@ -23,20 +24,21 @@ pub(crate) fn fill_turnout(turnout: &mut Turnout, field: &[u8])
     }
 }
 
-/// Adds the votes of all panels. The caller owes that the record has none yet and room for so many in each panel, and
+/// Adds the votes of so many voters in all panels. The caller owes that the record has none yet and room for them, and
 /// that the bytes have the bags.
-pub(crate) fn fill_votes(votes: &mut Rdv, tables: &Tables, count: u32, bytes: &[u8])
+pub(crate) fn fill_votes(votes: &mut Rdv, tables: &Tables, came: u32, bytes: &[u8])
+    requires few { came ≤ 600 }
     requires none { votes.old.bags ≡ replicate (length tables.now.panels) [] }
-    requires room { (panel : ℕ) → panel < length tables.now.panels → count ≤ room_at votes.old panel }
-    requires bytes { 8 * (4 + 5 * count) ≤ length bytes.now }
-    requires bags { IsSome (bags_in (ballot_lines tables.now) count bytes.now) }
-    ensures { votes.new ≡ record votes.old { bags = unwrap_or (bags_in (ballot_lines tables.now) count bytes.now) [] } }
+    requires room { (panel : ℕ) → panel < length tables.now.panels → came * places_at tables.now panel ≤ room_at votes.old panel }
+    requires bytes { 8 * (4 + 10 * came) ≤ length bytes.now }
+    requires bags { IsSome (bags_in (lines_by_panel tables.now) came bytes.now) }
+    ensures { votes.new ≡ record votes.old { bags = unwrap_or (bags_in (lines_by_panel tables.now) came bytes.now) [] } }
 {
-    let size = 4 + 5 * count as usize;
     let mut rest = bytes;
     for panel in 0..tables.panels() {
+        let count = came * tables.places(panel);
         fill_bag(votes, tables, panel, count, rest);
-        rest = rest.split_at(size).1;
+        rest = rest.split_at(4 + 5 * count as usize).1;
     }
 }
 

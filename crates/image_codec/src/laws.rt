@@ -1,10 +1,12 @@
 //! What is so of the steps of a poll and of its encodings. Each function here does nothing: its contract is the law.
-ghost use Rattle.image_codec.specs.Laws.{ComeInEitherOrder, OpeningRises, BallotRises, SealingRises, ReadyIsValid, OpeningKeeps, BallotKeeps, SealingKeeps};
-ghost use Rattle.image_codec.specs.CodecLaws.{IsDecodedExactly, IsOneState, HasRoomInBody, IsBodyLong, IsInAnyOrder};
+ghost use Rattle.image_codec.specs.Laws.{CountsEachLine, ComeInEitherOrder, OpeningRises, BallotRises, SealingRises, ReadyIsValid, OpeningKeeps, BallotKeeps, SealingKeeps};
+ghost use Rattle.image_codec.specs.CodecLaws.{IsDecodedExactly, IsOneState, HasRoomInBody, IsBodyLong, IsInAnyOrder, HasBagOfEachPanel, HasAllVotes, HasNoOtherVotes};
 ghost use Rattle.image_codec.specs.CodecLaws.{ReadyIsOfTables, OpeningStaysOfTables, BallotStaysOfTables, SealingStaysOfTables};
 
-/// The choices of two voters may come in either order, and each step leads to a greater rank.
+/// A ballot counts each of its lines once, the choices of two voters may come in either order, and each step leads to a greater
+/// rank.
 pub fn ballots()
+    ensures counted { CountsEachLine }
     ensures either_order { ComeInEitherOrder }
     ensures opening { OpeningRises }
     ensures ballot { BallotRises }
@@ -19,8 +21,12 @@ pub fn states()
     ensures sealing { SealingKeeps }
 {}
 
-/// Whatever steps a poll of some tables takes, its state is one that has an encoding.
+/// Whatever steps a poll of some tables takes, its state is one that has an encoding: with a bag for each panel, and in it all
+/// votes of those who came, and none for a choice that is none of the panel's.
 pub fn polls()
+    ensures bags { HasBagOfEachPanel }
+    ensures full { HasAllVotes }
+    ensures no_other { HasNoOtherVotes }
     ensures ready { ReadyIsOfTables }
     ensures opening { OpeningStaysOfTables }
     ensures ballot { BallotStaysOfTables }

@@ -5,7 +5,7 @@ ghost use Rattle.std.specs.Option.{is_some};
 ghost use Rattle.election_tables.specs.TablesData.{IsTables};
 ghost use Rattle.turnout.specs.Turnout.{number_came};
 ghost use Rattle.vote_kinds.specs.Choice.{choice_with};
-ghost use Rattle.vote_kinds.specs.Ballot.{ballot_lines, line_of};
+ghost use Rattle.vote_kinds.specs.Ballot.{lines_by_panel, line_of};
 ghost use Rattle.image_codec.specs.Decoded.{number4_at, number8_at, phase_with, is_started, is_marked, marks_in, has_no_more, turnout_of, has_counts, vote_in, votes_in, bag_in, bags_in, phase_in, decoded, rank_in};
 ghost use Rattle.image_codec.specs.Encoding.{IsRankOf, IsNoEncoding};
 ghost use Rattle.image_codec.specs.Head.{head_of};
@@ -166,19 +166,19 @@ fn has_bag(tables: &Tables, panel: u32, count: u32, bytes: &[u8]) -> bool
     true
 }
 
-// Whether a bag of so many votes is there for each panel, and zeros after them.
-#[tactic(auto, using(crate::proofs::ReadParts::bags_more, crate::proofs::ReadParts::bags_missing, crate::proofs::ReadParts::bags_end, crate::proofs::ReadParts::lines_from_panel, crate::proofs::ReadParts::room_left))]
-fn has_bags(tables: &Tables, count: u32, bytes: &[u8]) -> bool
-    requires { 8 * (4 + 5 * count) ≤ length bytes.now }
-    ensures { result ≡ is_some (bags_in (ballot_lines tables.now) count bytes.now) }
+// Whether a bag with the votes of so many voters is there for each panel, and zeros after them.
+fn has_bags(tables: &Tables, came: u32, bytes: &[u8]) -> bool
+    requires few { came ≤ 600 }
+    requires bytes { 8 * (4 + 10 * came) ≤ length bytes.now }
+    ensures { result ≡ is_some (bags_in (lines_by_panel tables.now) came bytes.now) }
 {
-    let size = 4 + 5 * count as usize;
     let mut rest = bytes;
     for panel in 0..tables.panels() {
+        let count = came * tables.places(panel);
         if !has_bag(tables, panel, count, rest) {
             return false;
         }
-        rest = rest.split_at(size).1;
+        rest = rest.split_at(4 + 5 * count as usize).1;
     }
     is_zero(rest)
 }

@@ -1,9 +1,10 @@
 ghost use Rattle.std.specs.Prelude.{◌≡◌, ◌≤◌, true, false, length, IfOk, IfSome, IsNone};
 ghost use Rattle.urna_base.specs.Moment.{is_moment};
+ghost use Rattle.election_tables.specs.TablesData.{places_of};
 ghost use Rattle.vote_kinds.specs.Ballot.{ballot_lines};
 ghost use Rattle.image_codec.specs.Encoding.{IsEncoding, IsNoEncoding};
 ghost use Rattle.image_codec.specs.State.{opened_at, with_ballot, with_votes, sealed_at, rank_in, rank_of, MayVote, IsBallot};
-ghost use Rattle.image_codec.specs.Valid.{ready_state, IsValid, IsOfVoters, HasRoom, MayClose};
+ghost use Rattle.image_codec.specs.Valid.{ready_state, IsValid, HasRoomForVoter, MayClose};
 
 use crate::filling::{fill_turnout, fill_votes};
 use crate::reading::{BAGS, checked};
@@ -15,8 +16,8 @@ use urna_base::Memory;
 use vote_kinds::Choice;
 use vote_record::Rdv;
 
-/// The state of a poll (docs/RULES.md, "The state of a poll"). Contracts see its phase, who came, and a bag of choices for
-/// each panel.
+/// The state of a poll (docs/RULES.md, "The state of a poll"). Contracts see its phase, who came, and for each panel how many
+/// votes a voter has in it and a bag of choices.
 #[derive(Debug, Drop)]
 pub struct State {
     phase: Phase,
@@ -25,16 +26,16 @@ pub struct State {
 }
 
 impl Model for State {
-    ghost use Rattle.std.specs.Prelude.{length};
+    ghost use Rattle.std.specs.Prelude.{◌≡◌, length};
     ghost use Rattle.image_codec.specs.State as poll;
 
     ghost Value = { poll.State };
 
-    ghost use Rattle.image_codec.specs.Valid.{IsValid, IsOfVoters};
+    ghost use Rattle.image_codec.specs.Valid.{IsValid};
 
-    ghost view = { λ s. record { phase = s.phase; came = s.turnout; bags = s.votes.bags } };
+    ghost view = { λ s. record { phase = s.phase; came = s.turnout; places = s.votes.places; bags = s.votes.bags } };
 
-    ghost invariant = { λ s. IsValid (record { phase = s.phase; came = s.turnout; bags = s.votes.bags }) × IsOfVoters s.votes (length s.turnout) };
+    ghost invariant = { λ s. IsValid (record { phase = s.phase; came = s.turnout; places = s.votes.places; bags = s.votes.bags }) × (s.votes.voters ≡ length s.turnout) };
 }
 
 impl State {
@@ -72,7 +73,8 @@ impl State {
     pub fn votes(&self) -> &Rdv
         ensures bags { result.now.bags ≡ self.now.bags }
         ensures valid { IsValid self.now }
-        ensures voters { IsOfVoters result.now (length self.now.came) }
+        ensures places { result.now.places ≡ self.now.places }
+        ensures voters { result.now.voters ≡ length self.now.came }
     {
         &self.votes
     }
@@ -94,11 +96,12 @@ impl State {
     }
 
     /// The voter of a place came and chose so. The caller owes that the poll is open and the voter has not come, that there
-    /// is one choice for each line of the ballot, each a choice of its line, and that the tables are those of the state.
+    /// is one choice for each line of the ballot, each a choice of its line, and that the tables have the panels of the state,
+    /// with as many votes of a voter in each.
     pub fn ballot(&mut self, tables: &Tables, place: u32, choices: &[Choice])
         requires voter { MayVote self.old place }
         requires ballot { IsBallot (ballot_lines tables.now) choices.now }
-        requires panels { length self.old.bags ≡ length tables.now.panels }
+        requires places { self.old.places ≡ places_of tables.now }
         ensures { self.new ≡ with_ballot (ballot_lines tables.now) self.old place choices.now }
     {
         self.turnout.mark(place);
@@ -109,10 +112,10 @@ impl State {
     /// places; answers false and changes nothing exactly where no state has that encoding. Bytes of any length may be
     /// given. It takes no memory.
     ///
-    /// The caller owes that this state is ready, and has a bag for each panel of the tables.
+    /// The caller owes that this state is ready, and that the tables have its panels, with as many votes of a voter in each.
     pub fn load(&mut self, tables: &Tables, bytes: &[u8]) -> bool
         requires ready { self.old.phase ≡ Phase.Ready }
-        requires panels { length self.old.bags ≡ length tables.now.panels }
+        requires places { self.old.places ≡ places_of tables.now }
         ensures loaded { result ≡ true → IsEncoding tables.now (length self.old.came) self.new bytes.now }
         ensures unchanged { result ≡ false → self.new ≡ self.old }
         ensures none { result ≡ false → IsNoEncoding tables.now (length self.old.came) bytes.now }
@@ -177,7 +180,8 @@ pub(crate) fn rank_with(phase: Phase, came: u32) -> u32
 fn add_choices(votes: &mut Rdv, tables: &Tables, choices: &[Choice])
     requires ballot { IsBallot (ballot_lines tables.now) choices.now }
     requires panels { length votes.old.bags ≡ length tables.now.panels }
-    requires room { HasRoom votes.old }
+    requires places { votes.old.places ≡ places_of tables.now }
+    requires room { HasRoomForVoter votes.old }
     ensures { votes.new ≡ record votes.old { bags = with_votes (ballot_lines tables.now) choices.now votes.old.bags } }
 {
     for panel in 0..tables.panels() {

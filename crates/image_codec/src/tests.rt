@@ -67,11 +67,35 @@ fn a_sealed_poll_is_read_and_written_again(rt: HostRuntime) -> Result<(), Fail> 
     Ok(())
 }
 
+// An open poll whose one voter came, and chose candidate 13.
+const POLLING: [u8; 23] = [
+    1, 1, 0, 0, 18, 109, 97, 243, 115, 128, 0, 0, 0, 0, 0, 0, 0, 0, 0, 0, 0, 1, 128,
+];
+
+const VOTE: [u8; 10] = [1, 0, 0, 0, 1, 1, 0, 0, 0, 13];
+
+#[test]
+fn an_open_poll_is_read(rt: HostRuntime) -> Result<(), Fail> {
+    let tables = Tables::read(rt.alloc(), TABLES)?;
+    assert!(rt; tables.panels() == 1);
+    let body = body_of(rt.alloc(), &POLLING, &VOTE)?;
+    assert_eq!(rt; rank_of(&tables, 1, &body), Some(2));
+    let state = decode(rt.alloc(), &tables, 1, &body)?.ok_or("the body is an encoding")?;
+    let polling = Phase::Polling {
+        opened: 20261004080000,
+    };
+    assert_eq!(rt; state.phase(), polling);
+    assert!(rt; state.turnout().came(0));
+    assert_eq!(rt; state.votes().count(0, Choice::Nominal(13)), 1);
+    Ok(())
+}
+
 #[test]
 fn a_body_with_a_wrong_field_is_no_encoding(rt: HostRuntime) -> Result<(), Fail> {
     let tables = Tables::read(rt.alloc(), TABLES)?;
-    let wrong: [(usize, &[u8], &str); 14] = [
+    let wrong: [(usize, &[u8], &str); 15] = [
         (0, &[2], "version 2"),
+        (0, &[9], "version 9"),
         (1, &[3], "phase 3"),
         (
             10,

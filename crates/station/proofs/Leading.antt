@@ -1,5 +1,5 @@
 -- A press leads to a state of the poll, of greater rank where it is committed
-use Rattle.std.proofs.Common.{◌≡◌, ◌≤◌, ◌++◌, ℕ, true, List, [], ◌∷◌, map, length, Option, Some, None, refl, sym, subst, arith}
+use Rattle.std.proofs.Common.{◌≡◌, ◌≤◌, ◌++◌, ℕ, true, List, [], ◌∷◌, map, length, Option, Some, None, refl, sym, subst}
 use Rattle.urna_base.specs.Moment.{is_moment}
 use Rattle.key_script.specs.declared.keys.Key.{Key}
 use Rattle.key_script.specs.declared.keys.Event.{Event}
@@ -21,11 +21,10 @@ use Rattle.clerk_term.specs.declared.replies.Mode.TheVariants as mode
 use Rattle.clerk_term.specs.declared.replies.ClerkAnswer.{ClerkAnswer}
 use Rattle.clerk_term.specs.declared.replies.ClerkAnswer.TheVariants as answer
 use Rattle.image_codec.specs.Encoding.{IsStateOf}
-use Rattle.image_codec.specs.State.{State, MayVote, AreFirst, IsBallot, IsPolling, filled_up, opened_at, sealed_at, with_ballot}
-use Rattle.image_codec.specs.Valid.{HasChoices, IsValid, MayClose}
-use Rattle.image_codec.proofs.Ballots.{choices-with_votes}
+use Rattle.image_codec.specs.State.{State, MayVote, AreFirst, IsBallot, IsPolling, filled_up, with_ballot}
+use Rattle.image_codec.specs.Valid.{MayClose}
+use Rattle.image_codec.proofs.OfTables.{of_tables-opened_at, of_tables-sealed_at, of_tables-with_ballot}
 use Rattle.image_codec.proofs.Steps.{rank-opened_at, rank-sealed_at, rank-with_ballot}
-use Rattle.image_codec.proofs.Valid.{full_at, valid-opened_at, valid-sealed_at, valid-with_ballot}
 use Rattle.station.specs.Acts.{act_of}
 use Rattle.station.specs.Doing.{MayDoAll}
 use Rattle.station.specs.Output.{line_at, earlier_for}
@@ -34,7 +33,6 @@ use Rattle.station.specs.Setting.{reply_at, setting_of}
 use Rattle.station.specs.Valid.{IsAnswer, IsPlaced, IsStanding}
 use Rattle.station.proofs.Choosing.{first_all, first_filled, first_more, voted_is}
 use Rattle.station.proofs.Replies.{answer_of}
-use Rattle.station.proofs.Stepping.{ballot_fits}
 use Rattle.station.specs.Output.{Says}
 use Rattle.station.specs.declared.line.Line.TheVariants as line
 
@@ -43,34 +41,9 @@ pub record Leads (t : TablesData) (voters : ℕ) (s : State) (r : Pressed) : Typ
   pub state : IsStateOf t voters r.standing.state
   pub may : MayDoAll s r.standing.state (map act_of r.out)
 
--- a valid state of these voters and panels
-state_of : (t : TablesData) (voters : ℕ) (s : State) → IsValid s → length s.came ≡ voters → length s.bags ≡ length t.panels → HasChoices (ballot_lines t) s.bags → IsStateOf t voters s
-state_of t voters s valid roll panels choices =
-    record {
-      valid = valid;
-      roll = roll;
-      panels = panels;
-      full = λ panel below. omega (arith, full_at _ s.bags panel valid.full (omega (arith, below, panels)));
-      choices = choices;
-    }
-
 module _ (t : TablesData) (titles : List ℕ) (s : State) (is : IsStateOf t (length titles) s) where
-  opened_state : (m : ℕ) → is_moment m ≡ true → IsStateOf t (length titles) (opened_at s m)
-  opened_state m moment = state_of t (length titles) (opened_at s m) (valid-opened_at s m is.valid moment) is.roll is.panels is.choices
-
-  sealed_state : (m : ℕ) → MayClose s.phase m → is_moment m ≡ true → IsStateOf t (length titles) (sealed_at s m)
-  sealed_state m may moment = state_of t (length titles) (sealed_at s m) (valid-sealed_at s m is.valid may moment) is.roll is.panels is.choices
-
-  ballot_state : (place : ℕ) (choices : List Choice) → MayVote s place → IsBallot (ballot_lines t) choices → length (with_ballot (ballot_lines t) s place choices).came ≡ length titles
-      → length (with_ballot (ballot_lines t) s place choices).bags ≡ length t.panels → IsStateOf t (length titles) (with_ballot (ballot_lines t) s place choices)
-  ballot_state place choices may ballot roll panels =
-      state_of t (length titles) (with_ballot (ballot_lines t) s place choices) (valid-with_ballot t s place choices is.valid may ballot is.panels) roll panels
-      (choices-with_votes t choices s.bags is.panels ballot.0 is.choices)
-
   ballot_leads : (place : ℕ) (choices : List Choice) → MayVote s place → IsBallot (ballot_lines t) choices → IsStateOf t (length titles) (with_ballot (ballot_lines t) s place choices)
-  ballot_leads place choices may ballot =
-      let fits = ballot_fits (setting_of t titles) s place choices (record { roll = is.roll; panels = is.panels }) in
-      ballot_state place choices may ballot fits.roll fits.panels
+  ballot_leads place choices may ballot = of_tables-with_ballot t (length titles) s place choices is may ballot
 
   call_leads : (place : ℕ) (choices : List Choice) (o : Option BallotLine) → line_at (setting_of t titles) choices ≡ o → MayVote s place → AreFirst (ballot_lines t) choices
       → Leads t (length titles) s (call (setting_of t titles) s place choices o)
@@ -125,14 +98,14 @@ answered_leads : (t : TablesData) (titles : List ℕ) (x : Standing) (k : ClerkK
     → Leads t (length titles) x.state (answered (setting_of t titles) x k a)
 answered_leads t titles x k (answer.Refused n) is valid may = record { state = is; may = (tt, tt) }
 answered_leads t titles x k (answer.Opens m) is valid may =
-    record { state = opened_state t titles x.state is m (opened_moment k m valid may.1); may = (tt, (rank-opened_at x.state m may.0, tt)) }
+    record { state = of_tables-opened_at t (length titles) x.state m is (opened_moment k m valid may.1); may = (tt, (rank-opened_at x.state m may.0, tt)) }
 answered_leads t titles x k (answer.Identifies place) is valid may = record { state = is; may = (tt, tt) }
 answered_leads t titles x k (answer.Releases place) is valid may = released_leads t titles x.state is place (line_at (setting_of t titles) []) refl may
 answered_leads t titles x k (answer.Cancels place) is valid may = record { state = is; may = (tt, tt) }
 answered_leads t titles x k (answer.Suspends place) is valid may = suspended_leads t titles x.state is x.mode x.field k place x.choices may.0 may.1
 answered_leads t titles x k (answer.Seals m) is valid may =
     record {
-      state = sealed_state t titles x.state is m (may_close x.state.phase may.1.0 m may.1.1 may.1.2) (closed_moment k m valid may.0);
+      state = of_tables-sealed_at t (length titles) x.state m is (may_close x.state.phase may.1.0 m may.1.1 may.1.2) (closed_moment k m valid may.0);
       may = (rank-sealed_at x.state m (is_polling x.state.phase may.1.0 may.1.1), (tt, tt));
     }
 

@@ -18,16 +18,16 @@ use Rattle.station.specs.declared.line.Line.{Line}
 use Rattle.station.specs.declared.line.Line.TheVariants as line
 
 abbrev councillor : BallotLine
-councillor = record { panel = 0; code = 13; digits = 5; proportional = true; candidates = 13001 ∷ 45001 ∷ []; parties = 13 ∷ 45 ∷ [] }
+councillor = record { panel = 0; code = 13; digits = 5; proportional = true; places = 1; candidates = 13001 ∷ 45001 ∷ []; parties = 13 ∷ 45 ∷ [] }
 
 abbrev mayor : BallotLine
-mayor = record { panel = 1; code = 11; digits = 2; proportional = false; candidates = 13 ∷ 45 ∷ []; parties = 13 ∷ 45 ∷ [] }
+mayor = record { panel = 1; code = 11; digits = 2; proportional = false; places = 1; candidates = 13 ∷ 45 ∷ []; parties = 13 ∷ 45 ∷ [] }
 
 abbrev setting : Setting
-setting = record { lines = councillor ∷ mayor ∷ []; panels = 2; roll = 10000000001 ∷ 10000000002 ∷ 10000000003 ∷ [] }
+setting = record { lines = councillor ∷ mayor ∷ []; places = 1 ∷ 1 ∷ []; roll = 10000000001 ∷ 10000000002 ∷ 10000000003 ∷ [] }
 
 abbrev polling : State
-polling = record { phase = phase.Polling 20261004080000; came = false ∷ false ∷ false ∷ []; bags = [] ∷ [] ∷ [] }
+polling = record { phase = phase.Polling 20261004080000; came = false ∷ false ∷ false ∷ []; places = 1 ∷ 1 ∷ []; bags = [] ∷ [] ∷ [] }
 
 -- the lines, without those of reports
 abbrev lines_in : Output → List Line
@@ -87,7 +87,7 @@ suspended : told polling comes_again
 suspended = refl
 
 suspended_state : (after setting (idle_at polling) comes_again).state
-    ≡ record { phase = phase.Polling 20261004080000; came = true ∷ false ∷ false ∷ []; bags = (choice.Party 45 ∷ []) ∷ (choice.Nominal 13 ∷ []) ∷ [] }
+    ≡ record { phase = phase.Polling 20261004080000; came = true ∷ false ∷ false ∷ []; places = 1 ∷ 1 ∷ []; bags = (choice.Party 45 ∷ []) ∷ (choice.Nominal 13 ∷ []) ∷ [] }
 suspended_state = refl
 
 -- after the first choice the ballot counts
@@ -95,7 +95,7 @@ cut_short : told polling (admitted ++ keys party_45 ++ Clerk clerk.Suspende ∷ 
 cut_short = refl
 
 cut_short_state : (after setting (idle_at polling) (admitted ++ keys party_45 ++ Clerk clerk.Suspende ∷ [])).state
-    ≡ record { phase = phase.Polling 20261004080000; came = true ∷ false ∷ false ∷ []; bags = (choice.Party 45 ∷ []) ∷ (choice.Null ∷ []) ∷ [] }
+    ≡ record { phase = phase.Polling 20261004080000; came = true ∷ false ∷ false ∷ []; places = 1 ∷ 1 ∷ []; bags = (choice.Party 45 ∷ []) ∷ (choice.Null ∷ []) ∷ [] }
 cut_short_state = refl
 
 -- the clerk's keys in the middle of a visit
@@ -116,9 +116,9 @@ refused_when_sealed = refl
 
 -- the second of two places: a second line of the ballot for the same panel
 abbrev senator : BallotLine
-senator = record { panel = 0; code = 5; digits = 3; proportional = false; candidates = 101 ∷ 102 ∷ 201 ∷ []; parties = 10 ∷ 20 ∷ [] }
+senator = record { panel = 0; code = 5; digits = 3; proportional = false; places = 2; candidates = 101 ∷ 102 ∷ 201 ∷ []; parties = 10 ∷ 20 ∷ [] }
 
-same_candidate_twice : flat_map lines_in (outputs (record { lines = senator ∷ senator ∷ []; panels = 1; roll = 10000000001 ∷ [] }) (idle_at polling) (admitted ++ keys (Digit 1 ∷ Digit 0 ∷ Digit 1 ∷ Confirm ∷ Digit 1 ∷ Digit 0 ∷ Digit 1 ∷ Confirm ∷ [])))
+same_candidate_twice : flat_map lines_in (outputs (record { lines = senator ∷ senator ∷ []; places = 2 ∷ []; roll = 10000000001 ∷ [] }) (idle_at polling) (admitted ++ keys (Digit 1 ∷ Digit 0 ∷ Digit 1 ∷ Confirm ∷ Digit 1 ∷ Digit 0 ∷ Digit 1 ∷ Confirm ∷ [])))
     ≡ line.Voter 10000000001 ∷ line.Released ∷ line.Ballot 1 5 ∷ line.Screen 0 (field.Digits 1 1) None ∷ line.Screen 0 (field.Digits 2 10) None
     ∷ line.Screen 0 (field.Digits 3 101) (Some (choice.Nominal 101)) ∷ line.Ballot 2 5 ∷ line.Screen 0 (field.Digits 1 1) None
     ∷ line.Screen 0 (field.Digits 2 10) None ∷ line.Screen 0 (field.Digits 3 101) (Some choice.Null) ∷ line.Ended ∷ []

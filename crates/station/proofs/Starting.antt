@@ -61,7 +61,7 @@ module _ (t : TablesData) (r : RollData) (store : StoreData) (s : State) (a b c 
   stationed shown =
       let state = kept.encoding.state in
       record {
-        stands = idle_stands (setting_of t r.titles) s (record { roll = state.roll ∙ loaded.section.voters; panels = state.panels });
+        stands = idle_stands (setting_of t r.titles) s (record { roll = state.roll ∙ loaded.section.voters; places = state.places });
         load = loaded;
         kept = keeps_shown t r store s (line ∷ []) b c loaded kept shown;
       }

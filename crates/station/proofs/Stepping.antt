@@ -1,5 +1,5 @@
 -- What stands at a station after one event
-use Rattle.std.proofs.Common.{◌≡◌, ℕ, zero, suc, true, List, [], ◌∷◌, ◌++◌, Option, Some, None, length, refl, ap, subst, ◌∙◌}
+use Rattle.std.proofs.Common.{◌≡◌, ℕ, true, List, [], ◌∷◌, ◌++◌, Option, Some, None, length, refl, subst, ◌∙◌}
 use Rattle.std.proofs.Math.ListN.{length-set}
 use Rattle.key_script.specs.declared.keys.Key.{Key}
 use Rattle.key_script.specs.declared.keys.Event.{Event}
@@ -10,7 +10,6 @@ use Rattle.vote_kinds.specs.declared.choice.Choice.{Choice}
 use Rattle.vote_kinds.specs.declared.choice.Field.{Field}
 use Rattle.vote_kinds.specs.declared.choice.Field.TheVariants as field
 use Rattle.vote_kinds.specs.Ballot.{BallotLine, IsField}
-use Rattle.vote_record.specs.Bag.{with_vote}
 use Rattle.voter_term.specs.declared.panel.Shown.{Shown}
 use Rattle.voter_term.specs.declared.panel.Shown.TheVariants as shown
 use Rattle.voter_term.specs.Panel.{next_field, next_shown}
@@ -19,7 +18,7 @@ use Rattle.clerk_term.specs.declared.replies.Mode.{Mode}
 use Rattle.clerk_term.specs.declared.replies.Mode.TheVariants as mode
 use Rattle.clerk_term.specs.declared.replies.ClerkAnswer.{ClerkAnswer}
 use Rattle.clerk_term.specs.declared.replies.ClerkAnswer.TheVariants as answer
-use Rattle.image_codec.specs.State.{State, with_ballot, with_votes, opened_at, sealed_at, filled_up, MayVote, AreFirst}
+use Rattle.image_codec.specs.State.{State, with_ballot, opened_at, sealed_at, filled_up, MayVote, AreFirst}
 use Rattle.station.specs.Setting.{Setting, IsSetting, reply_at}
 use Rattle.station.specs.Output.{line_at, earlier_for}
 use Rattle.station.specs.Run.{after_suspension}
@@ -31,35 +30,22 @@ use Rattle.station.proofs.Replies.{answer_of}
 -- the state fits the setting
 pub record Fits (v : Setting) (s : State) : Type 0 where
   pub roll : length s.came ≡ length v.roll
-  pub panels : length s.bags ≡ v.panels
-
-length-with_vote : (panel : ℕ) (c : Choice) (bags : List (List Choice)) → length (with_vote panel c bags) ≡ length bags
-length-with_vote panel c [] = refl
-length-with_vote zero c (bag ∷ bags) = refl
-length-with_vote (suc panel) c (bag ∷ bags) = ap suc (length-with_vote panel c bags)
-
-length-with_votes : (lines : List BallotLine) (choices : List Choice) (bags : List (List Choice)) → length (with_votes lines choices bags) ≡ length bags
-length-with_votes [] choices bags = refl
-length-with_votes (l ∷ lines) [] bags = refl
-length-with_votes (l ∷ lines) (c ∷ choices) bags = length-with_votes lines choices (with_vote l.panel c bags) ∙ length-with_vote l.panel c bags
+  pub places : s.places ≡ v.places
 
 pub ballot_fits : (v : Setting) (s : State) (place : ℕ) (choices : List Choice) → Fits v s → Fits v (with_ballot v.lines s place choices)
 ballot_fits v s place choices fits =
-    record {
-      roll = length-set s.came place true ∙ fits.roll;
-      panels = length-with_votes v.lines choices s.bags ∙ fits.panels;
-    }
+    record { roll = length-set s.came place true ∙ fits.roll; places = fits.places }
 
 pub idle_stands : (v : Setting) (s : State) → Fits v s → IsStanding v (idle_at s)
-idle_stands v s fits = record { roll = fits.roll; panels = fits.panels; placed = (refl, refl) }
+idle_stands v s fits = record { roll = fits.roll; places = fits.places; placed = (refl, refl) }
 
 identified_stands : (v : Setting) (s : State) (place : ℕ) → Fits v s → MayVote s place → IsStanding v (identified_at s place)
-identified_stands v s place fits may = record { roll = fits.roll; panels = fits.panels; placed = (may, refl, refl) }
+identified_stands v s place fits may = record { roll = fits.roll; places = fits.places; placed = (may, refl, refl) }
 
 voting_stands : (v : Setting) (s : State) (place : ℕ) (choices : List Choice) (l : BallotLine) (f : Field) → Fits v s → MayVote s place → AreFirst v.lines choices
     → line_at v choices ≡ Some l → IsField l.digits f → IsStanding v (voting_at s place choices f)
 voting_stands v s place choices l f fits may first at is =
-    record { roll = fits.roll; panels = fits.panels; placed = (may, first, (l, at, is)) }
+    record { roll = fits.roll; places = fits.places; placed = (may, first, (l, at, is)) }
 
 call_stands : (v : Setting) (s : State) (place : ℕ) (choices : List Choice) (o : Option BallotLine) → line_at v choices ≡ o → Fits v s → MayVote s place → AreFirst v.lines choices
     → IsStanding v (call v s place choices o).standing
@@ -88,8 +74,8 @@ on_line_stands v s place choices f k l (Some m) setting valid e at fits may firs
 
 typed_stands : (v : Setting) (s : State) (m : Mode) (choices : List Choice) (f : Field) (k : Key) → IsSetting v → IsKey k
     → Fits v s → IsPlaced v (record { state = s; mode = m; choices = choices; field = f }) m → IsStanding v (typed v s m choices f k).standing
-typed_stands v s mode.Idle choices f k setting valid fits placed = record { roll = fits.roll; panels = fits.panels; placed = placed }
-typed_stands v s (mode.Identified place) choices f k setting valid fits placed = record { roll = fits.roll; panels = fits.panels; placed = placed }
+typed_stands v s mode.Idle choices f k setting valid fits placed = record { roll = fits.roll; places = fits.places; placed = placed }
+typed_stands v s (mode.Identified place) choices f k setting valid fits placed = record { roll = fits.roll; places = fits.places; placed = placed }
 typed_stands v s (mode.Voting place) choices f k setting valid fits placed =
     on_line_stands v s place choices f k placed.2.0 (line_at v choices) setting valid placed.2.1 placed.2.1 fits placed.0 placed.1 placed.2.2
 
@@ -101,14 +87,14 @@ suspended_stands v s place (c ∷ choices) fits = idle_stands v (after_suspensio
 
 answered_stands : (v : Setting) (x : Standing) (k : ClerkKey) (a : ClerkAnswer) → IsStanding v x → IsAnswer v x.state x.choices k a → IsStanding v (answered v x k a).standing
 answered_stands v x k (answer.Refused n) h may = h
-answered_stands v x k (answer.Opens m) h may = idle_stands v (opened_at x.state m) (record { roll = h.roll; panels = h.panels })
-answered_stands v x k (answer.Identifies place) h may = identified_stands v x.state place (record { roll = h.roll; panels = h.panels }) may
-answered_stands v x k (answer.Releases place) h may = call_stands v x.state place [] (line_at v []) refl (record { roll = h.roll; panels = h.panels }) may tt
-answered_stands v x k (answer.Cancels place) h may = idle_stands v x.state (record { roll = h.roll; panels = h.panels })
-answered_stands v x k (answer.Suspends place) h may = suspended_stands v x.state place x.choices (record { roll = h.roll; panels = h.panels })
-answered_stands v x k (answer.Seals m) h may = idle_stands v (sealed_at x.state m) (record { roll = h.roll; panels = h.panels })
+answered_stands v x k (answer.Opens m) h may = idle_stands v (opened_at x.state m) (record { roll = h.roll; places = h.places })
+answered_stands v x k (answer.Identifies place) h may = identified_stands v x.state place (record { roll = h.roll; places = h.places }) may
+answered_stands v x k (answer.Releases place) h may = call_stands v x.state place [] (line_at v []) refl (record { roll = h.roll; places = h.places }) may tt
+answered_stands v x k (answer.Cancels place) h may = idle_stands v x.state (record { roll = h.roll; places = h.places })
+answered_stands v x k (answer.Suspends place) h may = suspended_stands v x.state place x.choices (record { roll = h.roll; places = h.places })
+answered_stands v x k (answer.Seals m) h may = idle_stands v (sealed_at x.state m) (record { roll = h.roll; places = h.places })
 
 -- One event leaves what may stand at a station.
 pub press_stands : (v : Setting) (x : Standing) (e : Event) → IsSetting v → IsEvent e → IsStanding v x → IsStanding v (press v x e).standing
-press_stands v x (Voter k) setting valid h = typed_stands v x.state x.mode x.choices x.field k setting valid (record { roll = h.roll; panels = h.panels }) h.placed
+press_stands v x (Voter k) setting valid h = typed_stands v x.state x.mode x.choices x.field k setting valid (record { roll = h.roll; places = h.places }) h.placed
 press_stands v x (Clerk k) setting valid h = answered_stands v x k (reply_at v x.state x.mode k) h (answer_of v x k h.roll h.placed)

@@ -1,6 +1,6 @@
 -- What does not change while a station works
-use Rattle.std.specs.Prelude.{◌≡◌, ◌<◌, ℕ, List, Some, length, slice_get}
-use Rattle.election_tables.specs.TablesData.{TablesData}
+use Rattle.std.specs.Prelude.{◌≡◌, ◌<◌, ℕ, List, Some, slice_get}
+use Rattle.election_tables.specs.TablesData.{TablesData, places_of}
 use Rattle.vote_kinds.specs.Ballot.{BallotLine, ballot_lines}
 use Rattle.key_script.specs.declared.keys.ClerkKey.{ClerkKey}
 use Rattle.clerk_term.specs.declared.replies.Mode.{Mode}
@@ -8,14 +8,14 @@ use Rattle.clerk_term.specs.declared.replies.ClerkAnswer.{ClerkAnswer}
 use Rattle.clerk_term.specs.Reply.{answer_to}
 use Rattle.image_codec.specs.State.{State}
 
--- the lines of the ballot, the number of its panels, and the titles of the roll
+-- the lines of the ballot, how many votes a voter has in each panel, and the titles of the roll
 pub record Setting : Type 0 where
   pub lines : List BallotLine
-  pub panels : ℕ
+  pub places : List ℕ
   pub roll : List ℕ
 
 abbrev pub setting_of : TablesData → List ℕ → Setting
-setting_of t titles = record { lines = ballot_lines t; panels = length t.panels; roll = titles }
+setting_of t titles = record { lines = ballot_lines t; places = places_of t; roll = titles }
 
 -- on each line of the ballot a digit may be typed
 abbrev pub IsSetting : Setting → Type 0

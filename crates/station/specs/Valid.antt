@@ -25,7 +25,7 @@ IsPlaced v x (mode.Voting place) =
 
 pub record IsStanding (v : Setting) (x : Standing) : Type 0 where
   pub roll : length x.state.came ≡ length v.roll
-  pub panels : length x.state.bags ≡ v.panels
+  pub places : x.state.places ≡ v.places
   pub placed : IsPlaced v x x.mode
 
 -- the answer to a key may be acted on

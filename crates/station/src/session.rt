@@ -1,6 +1,6 @@
 //! The terminals in memory: what one event changes, and what it asks to be done.
 ghost use Rattle.std.specs.Prelude.{◌≡◌, ◌<◌, ◌^◌, [], ◌∷◌, length, map};
-ghost use Rattle.election_tables.specs.TablesData.{IsTables};
+ghost use Rattle.election_tables.specs.TablesData.{IsTables, places_of};
 ghost use Rattle.key_script.specs.Event.{IsClerkKey, IsEvent, IsKey};
 ghost use Rattle.vote_kinds.specs.Ballot.{ballot_lines};
 ghost use Rattle.image_codec.specs.State.{AreFirst, MayVote};
@@ -200,7 +200,7 @@ impl Session {
         requires voter { MayVote self.old.state place }
         requires choices { AreFirst (ballot_lines tables.now) self.old.choices }
         requires roll { length self.old.state.came ≡ length roll.now.titles }
-        requires panels { length self.old.state.bags ≡ length tables.now.panels }
+        requires places { self.old.state.places ≡ places_of tables.now }
         ensures standing { self.new ≡ (goes_on (setting_of tables.now roll.now.titles) self.old.state place self.old.choices).standing }
         ensures act { result ∷ [] ≡ map act_of (goes_on (setting_of tables.now roll.now.titles) self.old.state place self.old.choices).out }
     {
@@ -226,7 +226,7 @@ impl Session {
         requires voter { MayVote self.old.state place }
         requires choices { AreFirst (ballot_lines tables.now) self.old.choices }
         requires roll { length self.old.state.came ≡ length roll.now.titles }
-        requires panels { length self.old.state.bags ≡ length tables.now.panels }
+        requires places { self.old.state.places ≡ places_of tables.now }
         ensures standing { self.new ≡ idle_at (after_suspension (setting_of tables.now roll.now.titles) self.old.state place self.old.choices) }
         ensures act { result ≡ act_of (suspension (setting_of tables.now roll.now.titles) self.old.state place self.old.choices) }
     {

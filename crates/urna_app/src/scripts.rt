@@ -191,3 +191,47 @@ fn a_general_election(rt: HostRuntime) -> Result<(), Fail> {
     let open = pressed(&rt, GENERAL_ON, ready, b"M ABRE 20221002080000\n")?;
     play_all(&rt, GENERAL_ON, &open, GENERAL_PANELS)
 }
+
+/// Two days with the same ballots, by the same three voters: in the one each comes in the order of the roll; in the other
+/// they come in another order, each with another's ballot, with refused keys and an interrupted visit between them.
+const IN_ORDER: &[u8] = b"\
+M TITULO 010000000001
+M LIBERA
+E 45C13C
+M TITULO 010000000002
+M LIBERA
+E 13001C45C
+M TITULO 010000000003
+M LIBERA
+E BC99C
+M ENCERRA 20261004170000
+";
+
+const IN_DISORDER: &[u8] = b"\
+M TITULO 010000000003
+M LIBERA
+E 13R45C1B3CC
+M TITULO 010000000003
+M TITULO 010000000002
+M LIBERA
+E 7
+M SUSPENDE
+M TITULO 010000000001
+M LIBERA
+E 13001C
+M LIBERA
+E 45C
+M TITULO 010000000002
+M LIBERA
+E BC99C
+M ENCERRA 20261004170000
+";
+
+#[test]
+fn the_order_of_the_voters_leaves_no_trace(rt: HostRuntime) -> Result<(), Fail> {
+    let one = pressed(&rt, ON, opened(&rt)?, IN_ORDER)?;
+    let other = pressed(&rt, ON, opened(&rt)?, IN_DISORDER)?;
+    assert!(rt; one.internal == other.internal);
+    assert!(rt; one.external == other.external);
+    Ok(())
+}

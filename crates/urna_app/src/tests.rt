@@ -445,7 +445,7 @@ fn tables_at_fault(rt: HostRuntime) -> Result<(), Fail> {
     Ok(())
 }
 
-// A section is loaded, loaded again, opened and sealed; from its opening on it can't be loaded.
+// A section is loaded, loaded again, opened and sealed; then it can't be loaded.
 #[test]
 fn a_poll_from_its_load_to_its_end(rt: HostRuntime) -> Result<(), Fail> {
     let told = b"CARGA 1 42 1\n";
@@ -491,6 +491,27 @@ fn a_poll_from_its_load_to_its_end(rt: HostRuntime) -> Result<(), Fail> {
         31,
         b"ERRO SEM IMAGEM\n",
     )?;
+    Ok(())
+}
+
+// A poll that is open is in use, before its first voter too.
+#[test]
+fn an_open_poll_is_not_loaded_again(rt: HostRuntime) -> Result<(), Fail> {
+    let opening = Given {
+        keys: Some(b"M ABRE 20261004080000\n"),
+        ..VOTA
+    };
+    let open = step(
+        &rt,
+        opening,
+        loaded(&rt, CARGA)?,
+        Status::Done,
+        0,
+        b"URNA PRONTA 0\nZERESIMA\nCARGO 11\n13 0\n45 0\nBRANCO 0\nNULO 0\nTOTAL 0\nABERTA 20261004080000\n",
+    )?;
+    let told = b"ERRO EM USO INTERNA\n";
+    let still = step(&rt, CARGA, open, Status::Busy(Dev::Internal), 32, told)?;
+    step(&rt, NO_KEYS, still, Status::Done, 0, b"URNA ABERTA 0\n")?;
     Ok(())
 }
 

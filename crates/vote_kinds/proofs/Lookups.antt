@@ -1,6 +1,6 @@
 -- Look-ups in the tables, as the lines of the ballot see them
-use Rattle.std.proofs.Common.{◌≡◌, ℕ, ◌+◌, ◌≤◌, nat_le, ◌||◌, zero, suc, Bool, true, false, cond, List, [], ◌∷◌, map, length, slice_get, Option, Some, None, option_map, unwrap_or, nat_eq, find, is_some, Bor, option_copied, refl, sym, ap, subst, ◌∙◌, inl, inr, arith}
-use Rattle.std.specs.List.{list_any, All}
+use Rattle.std.proofs.Common.{◌≡◌, ℕ, ◌+◌, ◌≤◌, nat_le, ◌||◌, zero, suc, Bool, true, false, cond, List, [], ◌∷◌, map, length, replicate, slice_get, Option, Some, None, option_map, unwrap_or, nat_eq, find, is_some, Bor, option_copied, refl, sym, ap, subst, ◌∙◌, inl, inr, arith}
+use Rattle.std.specs.List.{flat_map, list_any, All}
 use Rattle.std.proofs.lemmas.Option.{slice_get_cases}
 use Rattle.election_tables.proofs.Kept.{code_digits-range}
 use Rattle.std.specs.Option.{option_map_or}
@@ -9,8 +9,8 @@ use Rattle.std.proofs.lemmas.Bool.Decides.{nat_tests}
 use Rattle.election_tables.specs.declared.office.Office.{Office}
 use Rattle.election_tables.specs.declared.tables.panels.Panel.{Panel}
 use Rattle.election_tables.specs.declared.tables.candidates.NamedCandidate.{NamedCandidate}
-use Rattle.election_tables.specs.TablesData.{TablesData, IsTables, IsPanel, candidates_at, candidate_name, party_name}
-use Rattle.vote_kinds.specs.Ballot.{BallotLine, no_panel, panel_at, line_for, line_of, lines_from, ballot_lines}
+use Rattle.election_tables.specs.TablesData.{TablesData, IsTables, IsPanel, candidates_at, candidate_name, party_name, places_in, places_of}
+use Rattle.vote_kinds.specs.Ballot.{BallotLine, no_panel, panel_at, line_for, line_of, lines_from, lines_by_panel, ballot_lines}
 
 office_in : (o : Option Panel) (r : Office) → option_map (λ p. p.office) o ≡ Some r → r ≡ (unwrap_or o no_panel).office
 office_in None r e = absurd (cc)
@@ -65,19 +65,44 @@ from_at t first (p ∷ panels) zero = ap (λ (k : ℕ). Some (line_for t k p)) (
 from_at t first (p ∷ panels) (suc n) =
     from_at t (first + 1) panels n ∙ ap (λ (k : ℕ). option_map (line_for t k) (slice_get panels n)) (omega arith)
 
--- the line of a number is that of the panel of this number
-pub line_get : (t : TablesData) (n : ℕ) → slice_get (ballot_lines t) n ≡ option_map (line_for t n) (slice_get t.panels n)
-unfolding ballot_lines
-line_get t n = from_at t 0 t.panels n ∙ ap (λ (k : ℕ). option_map (line_for t k) (slice_get t.panels n)) (omega arith)
+-- the line of a panel's number is that of the panel
+pub panel_line_get : (t : TablesData) (n : ℕ) → slice_get (lines_by_panel t) n ≡ option_map (line_for t n) (slice_get t.panels n)
+unfolding lines_by_panel
+panel_line_get t n = from_at t 0 t.panels n ∙ ap (λ (k : ℕ). option_map (line_for t k) (slice_get t.panels n)) (omega arith)
 
 from_length : (t : TablesData) (first : ℕ) (panels : List Panel) → length (lines_from t first panels) ≡ length panels
 from_length t first [] = refl
 from_length t first (p ∷ panels) = ap suc (from_length t (first + 1) panels)
 
--- there are as many lines as panels
+-- there are as many of these lines as panels
+pub panel_lines_length : (t : TablesData) → length (lines_by_panel t) ≡ length t.panels
+unfolding lines_by_panel
+panel_lines_length t = from_length t 0 t.panels
+
+-- Where a voter has one vote in each panel, the ballot has one line for each panel.
+
+one_each : (t : TablesData) (first : ℕ) (panels : List Panel) → flat_map (λ line. replicate line.places line) (lines_from t first panels) ≡ lines_from t first panels
+one_each t first [] = refl
+one_each t first (p ∷ panels) = ap (λ (lines : List BallotLine). line_for t first p ∷ lines) (one_each t (first + 1) panels)
+
+pub one_line : (t : TablesData) → ballot_lines t ≡ lines_by_panel t
+unfolding ballot_lines lines_by_panel
+one_line t = one_each t 0 t.panels
+
+pub line_get : (t : TablesData) (n : ℕ) → slice_get (ballot_lines t) n ≡ option_map (line_for t n) (slice_get t.panels n)
+line_get t n = ap (λ (lines : List BallotLine). slice_get lines n) (one_line t) ∙ panel_line_get t n
+
 pub lines_length : (t : TablesData) → length (ballot_lines t) ≡ length t.panels
-unfolding ballot_lines
-lines_length t = from_length t 0 t.panels
+lines_length t = ap length (one_line t) ∙ panel_lines_length t
+
+-- how many votes a voter has in each panel, by the lines
+from_places : (t : TablesData) (first : ℕ) (panels : List Panel) → map (λ line. line.places) (lines_from t first panels) ≡ map places_in panels
+from_places t first [] = refl
+from_places t first (p ∷ panels) = ap (λ (places : List ℕ). places_in p ∷ places) (from_places t (first + 1) panels)
+
+pub panel_places : (t : TablesData) → map (λ line. line.places) (lines_by_panel t) ≡ places_of t
+unfolding lines_by_panel
+panel_places t = from_places t 0 t.panels
 
 -- A field that may be confirmed has at least two digits.
 pub confirmable_count : (p : Bool) (count digits : ℕ) → cond p (nat_le 2 count) (nat_eq count digits) ≡ true → 2 ≤ digits → 2 ≤ count

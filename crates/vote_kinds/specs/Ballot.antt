@@ -1,7 +1,7 @@
 -- The lines of a ballot, and the choice that a field stands for
-use Rattle.std.specs.Prelude.{ℕ, ◌+◌, ◌-◌, ◌/◌, ◌^◌, ◌<◌, ◌≤◌, Bool, true, false, not, ◌&&◌, List, [], ◌∷◌, map, Option, Some, None, unwrap_or, slice_get, nat_eq, nat_le, ◌==◌, if◌then◌else◌}
-use Rattle.std.specs.List.{list_any}
-use Rattle.election_tables.specs.TablesData.{TablesData}
+use Rattle.std.specs.Prelude.{ℕ, ◌+◌, ◌-◌, ◌/◌, ◌^◌, ◌<◌, ◌≤◌, Bool, true, false, not, ◌&&◌, List, [], ◌∷◌, map, replicate, Option, Some, None, unwrap_or, slice_get, nat_eq, nat_le, ◌==◌, if◌then◌else◌}
+use Rattle.std.specs.List.{flat_map, list_any}
+use Rattle.election_tables.specs.TablesData.{TablesData, places_in}
 use Rattle.election_tables.specs.declared.tables.panels.Panel.{Panel}
 use Rattle.election_tables.specs.declared.office.Kind.{Kind}
 use Rattle.election_tables.specs.declared.office.Kind.TheVariants as kind
@@ -10,12 +10,13 @@ use Rattle.vote_kinds.specs.declared.choice.Choice.TheVariants as choice
 use Rattle.vote_kinds.specs.declared.choice.Field.{Field}
 use Rattle.vote_kinds.specs.declared.choice.Field.TheVariants as field
 
--- what the voting rules need to know of one line of the ballot
+-- what the voting rules need to know of a line of the ballot
 pub record BallotLine : Type 0 where
   pub panel : ℕ  -- the panel that it stands in, counted from 0
   pub code : ℕ  -- of the office
   pub digits : ℕ  -- of the office
   pub proportional : Bool
+  pub places : ℕ  -- how many votes a voter has in the panel
   pub candidates : List ℕ  -- the numbers of the office's candidates
   pub parties : List ℕ  -- the numbers of the parties
 
@@ -24,13 +25,14 @@ is_proportional kind.Proportional = true
 is_proportional kind.Absolute = false
 is_proportional kind.Simple = false
 
--- the line of the ballot in which a panel stands, which has this number
+-- a line of the panel whose number is this
 abbrev pub line_for : TablesData → ℕ → Panel → BallotLine
 line_for t number p = record {
   panel = number;
   code = p.office.code;
   digits = p.office.digits;
   proportional = is_proportional p.office.kind;
+  places = places_in p;
   candidates = map (λ c. c.number) p.candidates;
   parties = map (λ q. q.number) t.parties;
 }
@@ -42,7 +44,7 @@ no_panel = record { office = record { code = 0; digits = 0; kind = kind.Simple; 
 abbrev pub panel_at : TablesData → ℕ → Panel
 panel_at t number = unwrap_or (slice_get t.panels number) no_panel
 
--- the line in which the panel of a number stands
+-- a line of the panel of a number
 abbrev pub line_of : TablesData → ℕ → BallotLine
 line_of t number = line_for t number (panel_at t number)
 
@@ -51,9 +53,13 @@ abbrev pub lines_from : TablesData → ℕ → List Panel → List BallotLine
 lines_from t first [] = []
 lines_from t first (p ∷ panels) = line_for t first p ∷ lines_from t (first + 1) panels
 
--- the lines of the ballot: one for each panel, in the order of the tables
+-- one line for each panel, in the order of the tables
+unfoldable pub lines_by_panel : TablesData → List BallotLine
+lines_by_panel t = lines_from t 0 t.panels
+
+-- the lines of the ballot: for each panel one line for each vote that a voter has in it, panels in order
 unfoldable pub ballot_lines : TablesData → List BallotLine
-ballot_lines t = lines_from t 0 t.panels
+ballot_lines t = flat_map (λ line. replicate line.places line) (lines_by_panel t)
 
 -- A field of a line with so many digits.
 abbrev pub IsField : ℕ → Field → Type 0

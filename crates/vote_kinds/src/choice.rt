@@ -1,7 +1,7 @@
 ghost use Rattle.std.specs.Prelude.{◌≡◌, ◌≤◌, ◌<◌, IfNone, IfSome};
 ghost use Rattle.vote_kinds.specs.Choice.{kind_of, number_of, choice_with, choice_le};
 
-/// What a voter chose in one panel.
+/// What a voter chose on one line of the ballot.
 #[derive(Clone, Copy, Debug, Default, PartialEq, Eq)]
 pub enum Choice {
     /// The candidate of this number.

@@ -52,13 +52,16 @@ rooms-set (b ∷ bags) (suc panel) before after lt read same =
 
 -- new bags
 
-pub members-replicate : (n room : ℕ) → members_of (replicate n (record { members = []; room = room })) ≡ replicate n []
-members-replicate zero room = refl
-members-replicate (suc n) room = ap (λ (m : List (List Choice)). [] ∷ m) (members-replicate n room)
+abbrev pub empty_bag : ℕ → ℕ → BagData
+empty_bag voters votes = record { members = []; room = voters * votes }
 
-pub rooms-replicate : (n voters votes : ℕ) → rooms_of (replicate n (record { members = []; room = voters * votes })) ≡ map (λ m. voters * m) (replicate n votes)
-rooms-replicate zero voters votes = refl
-rooms-replicate (suc n) voters votes = ap (λ (m : List ℕ). voters * votes ∷ m) (rooms-replicate n voters votes)
+pub no_members : (voters : ℕ) (places : List ℕ) → members_of (map (empty_bag voters) places) ≡ replicate (length places) []
+no_members voters [] = refl
+no_members voters (n ∷ places) = ap (λ (m : List (List Choice)). [] ∷ m) (no_members voters places)
+
+pub all_rooms : (voters : ℕ) (places : List ℕ) → rooms_of (map (empty_bag voters) places) ≡ map (λ n. voters * n) places
+all_rooms voters [] = refl
+all_rooms voters (n ∷ places) = ap (λ (m : List ℕ). voters * n ∷ m) (all_rooms voters places)
 
 -- a bag that was read, where the record is seen as `now`
 

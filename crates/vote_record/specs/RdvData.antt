@@ -1,8 +1,8 @@
 -- What contracts see of the digital vote record
 use Rattle.std.specs.Prelude.{◌≡◌, ℕ, ◌*◌, ◌≤◌, true, List, [], length, replicate, map, slice_get, slice_index, IsSomeAnd}
-use Rattle.election_tables.specs.TablesData.{TablesData}
+use Rattle.election_tables.specs.TablesData.{TablesData, places_of}
 use Rattle.vote_kinds.specs.declared.choice.Choice.{Choice}
-use Rattle.vote_kinds.specs.Ballot.{ballot_lines, is_choice}
+use Rattle.vote_kinds.specs.Ballot.{lines_by_panel, is_choice}
 use Rattle.vote_record.specs.Bag.{with_vote}
 use Rattle.vote_record.specs.BagData.{BagData}
 
@@ -14,7 +14,7 @@ pub record RdvData : Type 0 where
 
 -- the record of these voters where nobody has voted
 abbrev pub empty_record : TablesData → ℕ → RdvData
-empty_record t voters = record { bags = replicate (length t.panels) []; voters = voters; places = replicate (length t.panels) 1 }
+empty_record t voters = record { bags = replicate (length t.panels) []; voters = voters; places = places_of t }
 
 -- the most votes that a panel can have
 abbrev pub room_at : RdvData → ℕ → ℕ
@@ -26,7 +26,7 @@ with_vote_in panel c r = record { bags = with_vote panel c r.bags; voters = r.vo
 
 -- what may be chosen in a panel
 abbrev pub IsVote : TablesData → ℕ → Choice → Type 0
-IsVote t panel c = IsSomeAnd (slice_get (ballot_lines t) panel) (λ line. is_choice line c ≡ true)
+IsVote t panel c = IsSomeAnd (slice_get (lines_by_panel t) panel) (λ line. is_choice line c ≡ true)
 
 -- Each bag has room for every vote that its panel can have, and there are at most 600 voters.
 pub record AreReserved (bags : List BagData) (voters : ℕ) (places : List ℕ) : Type 0 where

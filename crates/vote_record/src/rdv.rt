@@ -1,4 +1,4 @@
-ghost use Rattle.std.specs.Prelude.{◌≡◌, ◌<◌, ◌≤◌, length, IfOk, Some, slice_get, replicate, []};
+ghost use Rattle.std.specs.Prelude.{◌≡◌, ◌<◌, ◌≤◌, length, IfOk, Some, slice_get};
 ghost use Rattle.vote_record.specs.Bag.{IsInOrder, count_of, bag_at};
 ghost use Rattle.vote_record.specs.RdvData.{IsVote, empty_record, room_at, with_vote_in};
 
@@ -8,9 +8,6 @@ use std::alloc::Global;
 use std::marker::Model;
 use urna_base::Memory;
 use vote_kinds::Choice;
-
-// How many votes a voter has in a panel.
-const VOTES_OF_A_VOTER: u32 = 1;
 
 /// The digital vote record of a section (docs/RULES.md, "The state of a poll"): for each panel a bag of choices, with the
 /// memory for all votes that there can be. A bag keeps no order of its own, so the record doesn't tell who voted when.
@@ -35,15 +32,21 @@ impl Model for Rdv {
 }
 
 impl Rdv {
-    /// The record of a section with so many voters, where nobody has voted: a bag for each panel of the tables, in which
-    /// each voter has one vote. All its memory is taken here; `Memory` comes only where an allocation failed.
+    /// The record of a section with so many voters, where nobody has voted: a bag for each panel of the tables, with room
+    /// for as many votes as all voters have there. All its memory is taken here; `Memory` comes only where an allocation
+    /// failed.
     pub fn new(alloc: Global, tables: &Tables, voters: u32) -> Result<Rdv, Memory>
         requires { voters ≤ 600 }
         ensures { IfOk result (λ r. r ≡ empty_record tables.now voters) }
     {
-        let panels = tables.panels() as usize;
-        let places = vec![in alloc; VOTES_OF_A_VOTER; panels]?;
-        let bags = empty_bags(alloc, panels, voters * VOTES_OF_A_VOTER)?;
+        let panels = tables.panels();
+        let mut bags = Vec::with_capacity(alloc, panels as usize)?;
+        let mut places = Vec::with_capacity(alloc, panels as usize)?;
+        for panel in 0..panels {
+            let votes = tables.places(panel);
+            bags.push(Bag::with_room(alloc, voters * votes)?)?;
+            places.push(votes)?;
+        }
         Ok(Rdv {
             bags,
             voters,
@@ -52,8 +55,8 @@ impl Rdv {
     }
 
     /// One vote more in a panel, wherever its choice stands among the others. It takes no memory. The caller owes that
-    /// the panel is one of the record, that the choice is one of the panel's line in the tables, and that a voter is left
-    /// whose vote is not there.
+    /// the panel is one of the record, that the choice is one of the panel's, and that the panel has fewer votes than all
+    /// voters have there.
     pub fn add(&mut self, tables: &Tables, panel: u32, choice: Choice)
         requires panel { panel < length self.old.bags }
         requires choice { IsVote tables.now panel choice }
@@ -63,7 +66,7 @@ impl Rdv {
         self.bags[panel as usize].add(choice);
     }
 
-    /// How many votes of a panel, which is one of the record, are this choice: 0 for a choice that is none of the panel's.
+    /// How many votes of a panel, which is one of the record, are this choice; 0 where none is.
     pub fn count(&self, panel: u32, choice: Choice) -> u32
         requires { panel < length self.now.bags }
         ensures { result ≡ count_of choice (bag_at self.now.bags panel) }
@@ -90,17 +93,6 @@ impl Rdv {
     {
         self.bags[panel as usize].get(i)
     }
-}
-
-// So many empty bags, each with this room.
-fn empty_bags(alloc: Global, count: usize, room: u32) -> Result<Vec<Bag>, Memory>
-    ensures { IfOk result (λ bags. bags.items ≡ replicate count (record { members = []; room = room })) }
-{
-    let mut bags = Vec::with_capacity(alloc, count)?;
-    for _ in 0..count {
-        bags.push(Bag::with_room(alloc, room)?)?;
-    }
-    Ok(bags)
 }
 
 #[cfg(test)]

@@ -9,10 +9,10 @@ use Rattle.vote_kinds.specs.declared.choice.Choice.{Choice}
 use Rattle.vote_kinds.specs.declared.choice.Choice.TheVariants as choice
 
 abbrev councillor : BallotLine
-councillor = record { panel = 0; code = 13; digits = 5; proportional = true; candidates = 13001 ∷ 45001 ∷ []; parties = 13 ∷ 45 ∷ [] }
+councillor = record { panel = 0; code = 13; digits = 5; proportional = true; places = 1; candidates = 13001 ∷ 45001 ∷ []; parties = 13 ∷ 45 ∷ [] }
 
 abbrev mayor : BallotLine
-mayor = record { panel = 1; code = 11; digits = 2; proportional = false; candidates = 13 ∷ 45 ∷ []; parties = 13 ∷ 45 ∷ [] }
+mayor = record { panel = 1; code = 11; digits = 2; proportional = false; places = 1; candidates = 13 ∷ 45 ∷ []; parties = 13 ∷ 45 ∷ [] }
 
 -- the choice after a word, without its last CONFIRMA
 abbrev chosen : BallotLine → List Key → Choice

@@ -1,6 +1,10 @@
+use Rattle.image_codec.proofs.Counting.{counts_each_line}
 use Rattle.image_codec.proofs.Ballots.{with_votes-swap}
 use Rattle.image_codec.proofs.Steps.{rank-opened_at, rank-with_ballot, rank-sealed_at}
 use Rattle.image_codec.proofs.laws.ballots.Goals as goal
+
+pub returns-clause-counted : goal.returns-clause-counted
+returns-clause-counted _ = counts_each_line
 
 pub returns-clause-either_order : goal.returns-clause-either_order
 returns-clause-either_order _ = with_votes-swap

@@ -12,7 +12,7 @@ put_bags-end-requires-clause-room c =
     let s : State = c.args.state.now in
     let came = ap number_came c.turnout.ensures in
     let bags = ap (λ (b : List (List Choice)). length (flat_map bag_bytes b)) c.votes.ensures.bags in
-    let fits = fits_body s (length c.args.tables.now.panels) c.requires.state.valid.full c.requires.state.panels c.panels-panels.ensures.tables.panel_count.1 (omega (arith, c.len-came.ensures.few, c.len-came.ensures.count)) in
+    let fits = fits_body c.args.tables.now s c.requires.state.valid.full c.requires.state.places c.panels-panels.ensures.tables.panel_count.1 (omega (arith, c.len-came.ensures.few, c.len-came.ensures.count)) in
     let size = written_parts s in
     omega (arith, c.put_head-end.ensures.end, c.requires.body)
 

@@ -11,7 +11,8 @@ use Rattle.state_store.specs.Rest.{body_size}
 use Rattle.state_store.specs.Store.{AreDevices}
 use Rattle.state_store.specs.declared.load.Load.{Load}
 use Rattle.state_store.proofs.Formatting.{fails_laying, fails_testing, laid_rests, loaded}
-use Rattle.state_store.proofs.Ready.{ready_is_state, ready_named, ready_unused}
+use Rattle.image_codec.proofs.OfTables.{of_tables-ready_state}
+use Rattle.state_store.proofs.Ready.{ready_named, ready_unused}
 use Rattle.state_store.proofs.Recovering.{clean_after}
 use Rattle.state_store.proofs.store.Store.format.Goals as goal
 
@@ -49,7 +50,7 @@ returns-in-Ok-lay-clause-kept g c =
     let voters : load.section.voters ≡ length r.titles = ap (λ (l : Load). l.section.voters) c.of-load.ensures ∙ c.requires.section.voters in
     record {
       encoding = record {
-        state = subst (λ (n : ℕ). IsStateOf t n ready) (sym voters) (ready_is_state t (length r.titles));
+        state = subst (λ (n : ℕ). IsStateOf t n ready) (sym voters) (of_tables-ready_state t (length r.titles));
         same = moved ∙ written;
       };
       rest = λ fs told.
