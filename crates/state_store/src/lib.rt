@@ -15,5 +15,5 @@ mod room;
 mod store;
 mod sync;
 
-pub use load::{Load, header};
+pub use load::header;
 pub use store::{LoadError, Store, StoreError};

@@ -15,7 +15,7 @@ pub(crate) const MAGIC: [u8; 8] = *b"URNAU1\0\0";
 
 /// What two flashes are loaded with: the SHA-256 of the tables' bytes and of the roll's bytes, and the section.
 #[derive(Clone, Copy, Debug, PartialEq, Eq)]
-pub struct Load {
+pub(crate) struct Load {
     pub tables: [u8; 32],
     pub roll: [u8; 32],
     pub section: Section,
@@ -23,7 +23,7 @@ pub struct Load {
 
 impl Load {
     /// A load of these tables and this roll for a section.
-    pub fn of(tables: &Tables, roll: &Roll, section: Section) -> Load
+    pub(crate) fn of(tables: &Tables, roll: &Roll, section: Section) -> Load
         ensures { result ≡ load_of tables.now roll.now section }
     {
         Load {
@@ -35,7 +35,7 @@ impl Load {
 
     /// The header of a device with this load (docs/FORMATS.md, "Flash layout").
     #[tactic(auto, unfolding(crate::specs::Load::header))]
-    pub fn header(&self, dev: Dev) -> [u8; 512]
+    pub(crate) fn header(&self, dev: Dev) -> [u8; 512]
         ensures { result ≡ header self.now dev }
     {
         let mut bytes = ArrayVec::<u8, 512>::new();

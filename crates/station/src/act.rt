@@ -2,7 +2,7 @@ use crate::line::{Line, Title};
 
 /// What a station asks to be done.
 #[derive(Clone, Copy, Debug, PartialEq, Eq)]
-pub enum Act {
+pub(crate) enum Act {
     /// Show a line.
     Say(Line),
     /// Commit the state, and then show the line that tells it.

@@ -17,7 +17,5 @@ mod session;
 mod station;
 mod visit;
 
-pub use act::Act;
 pub use laws::{event_commits, one_run, run_commits, run_goes_on, stands_for};
-pub use line::{Line, Title};
 pub use station::{StartError, Station};

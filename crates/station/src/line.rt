@@ -11,14 +11,14 @@ use voter_term::screen_line;
 
 /// The two reports of counts.
 #[derive(Clone, Copy, Debug, PartialEq, Eq)]
-pub enum Title {
+pub(crate) enum Title {
     Zeresima,
     Boletim,
 }
 
 /// A line of the display (docs/FORMATS.md, "Shown texts"), but for the lines of a report of counts.
 #[derive(Clone, Copy, Debug, PartialEq, Eq)]
-pub enum Line {
+pub(crate) enum Line {
     /// Where the poll stands, and how many came.
     Poll {
         phase: Phase,
