@@ -10,6 +10,7 @@ use Rattle.urna_outside.specs.ShownLines.{HasShown}
 use Rattle.urna_outside.specs.Told.{Told}
 use Rattle.election_tables.specs.Roll.{RollData}
 use Rattle.election_tables.specs.TablesData.{TablesData}
+use Rattle.turnout.specs.Turnout.{number_came}
 use Rattle.image_codec.specs.State.{State}
 use Rattle.state_store.specs.Rest.{AreAtRest}
 use Rattle.state_store.specs.Steps.{AreFull, Step, quiet, state_after}
@@ -25,6 +26,7 @@ use Rattle.vote_record.specs.Bag.{bag_at, count_of}
 use Rattle.turnout.specs.declared.phase.Phase.{Phase}
 use Rattle.turnout.specs.declared.phase.Phase.TheVariants as phase
 use Rattle.poll_report.specs.Counts.{candidate_line, candidate_lines, count_lines, kind_lines, lines_of_panels, panel_lines, party_line, total_lines, votes_line}
+use Rattle.station.specs.Start.{opening_line}
 use Rattle.station.specs.declared.line.Line.{Line}
 use Rattle.station.specs.declared.line.Line.TheVariants as line
 use Rattle.station.specs.declared.line.Title.{Title}
@@ -101,7 +103,7 @@ full_poll t phase.Ready came = omega arith
 full_poll t (phase.Polling opened) came = omega arith
 full_poll t (phase.Sealed opened closed) came = omega arith
 
-pub full_line : (t : TablesData) (l : Line) → 0 < length (line_text t l)
+full_line : (t : TablesData) (l : Line) → 0 < length (line_text t l)
 full_line t (line.Poll p came) = full_poll t p came
 full_line t (line.Refused n) = omega arith
 full_line t (line.Voter number) = omega arith
@@ -113,6 +115,9 @@ full_line t (line.Screen panel f chosen) = omega arith
 full_line t (line.Opened m) = omega arith
 full_line t line.Ended = omega arith
 full_line t (line.Sealed m came) = omega arith
+
+pub full_opening : (t : TablesData) (s : State) → 0 < length (opening_line t s)
+full_opening t s = full_poll t s.phase (number_came s.came)
 
 pub full_quiet : (lines : List (List ℕ)) → AllByRecursion IsFullLine lines → AreFull (quiet lines)
 full_quiet [] all = tt

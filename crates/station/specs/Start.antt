@@ -1,5 +1,5 @@
 -- How a station starts
-use Rattle.std.specs.Prelude.{◌≡◌, ◌++◌, List, [], ◌∷◌}
+use Rattle.std.specs.Prelude.{◌≡◌, ◌++◌, ℕ, List, [], ◌∷◌}
 use Rattle.std.specs.Option.{ForSome}
 use Rattle.urna_outside.specs.Faults.{IsFaultless}
 use Rattle.urna_outside.specs.Flash.{Op}
@@ -25,8 +25,11 @@ use Rattle.station.specs.declared.station.StartError.{StartError}
 use Rattle.station.specs.declared.station.StartError.TheVariants as start
 
 -- the line that tells where the poll stands
+abbrev pub opening_line : TablesData → State → List ℕ
+opening_line t s = line_text t (Poll s.phase (number_came s.came))
+
 abbrev pub opening : TablesData → State → List Step
-opening t s = quiet (line_text t (Poll s.phase (number_came s.came)) ∷ [])
+opening t s = quiet (opening_line t s ∷ [])
 
 -- The flashes were synced and recovered, which touched no slot that was right already, and left them at rest with a state of this
 -- load.

@@ -5,7 +5,6 @@ use Rattle.urna_outside.specs.declared.device.Port.{Port}
 use Rattle.election_tables.specs.Roll.{RollData}
 use Rattle.election_tables.specs.TablesData.{TablesData}
 use Rattle.key_script.specs.declared.keys.Event.{Event}
-use Rattle.turnout.specs.Turnout.{number_came}
 use Rattle.image_codec.specs.State.{State}
 use Rattle.state_store.specs.Played.{HasPut, HasStopped, IsSafe, Plays}
 use Rattle.state_store.specs.Steps.{Step}
@@ -15,11 +14,10 @@ use Rattle.station.specs.Output.{Output}
 use Rattle.station.specs.Press.{Standing}
 use Rattle.station.specs.Run.{IsRun}
 use Rattle.station.specs.Setting.{setting_of}
-use Rattle.station.specs.Start.{IsStarted, opening}
+use Rattle.station.specs.Start.{IsStarted, opening, opening_line}
 use Rattle.station.specs.Station.{StationData}
-use Rattle.station.specs.Text.{line_text, session_steps}
-use Rattle.station.specs.declared.line.Line.TheVariants.{Poll}
-use Rattle.station.proofs.Steps.{full_line}
+use Rattle.station.specs.Text.{session_steps}
+use Rattle.station.proofs.Steps.{full_opening}
 use Rattle.urna_app.specs.Ending.{HasVoted, IsCutShort}
 
 module _ (t : TablesData) (r : RollData) (es : List Event) (a c e : Told) (station : StationData) (is : IsStarted t r station a c) where
@@ -36,8 +34,7 @@ module _ (t : TablesData) (r : RollData) (es : List Event) (a c e : Told) (stati
   safe : (steps : List Step) → Runs (Plays t station.store.load is.state steps c.flashes) c e
       → IsSafe t station.store.load is.state (opening t is.state ++ steps) a e
   safe steps plays =
-      let line = line_text t (Poll is.state.phase (number_came is.state.came)) in
-      whole_call t r station.store.load is.state line [] a is.opens.between c e steps (full_line t (Poll is.state.phase (number_came is.state.came)), tt)
+      whole_call t r station.store.load is.state (opening_line t is.state) [] a is.opens.between c e steps (full_opening t is.state, tt)
       is.opens.recovered.ran is.opens.shown plays
 
   pub voted : (last : State) (out : List Output) → IsRun (setting_of t r.titles) station.standing.state es last out
