@@ -1,4 +1,5 @@
-//! Laws of what is found on two flashes, and of sessions over them (`specs/Laws.antt`). Each function here does nothing: its contract is the law.
+//! Laws of what is found on two flashes, and of sessions over them (`specs/Laws.antt`). Each function here does nothing: its
+//! contract is the law.
 ghost use Rattle.state_store.specs.Laws.{CostsAreBounded, ForeignOnce, LoadedOnce, LoadedOrForeign, RecoveryGoesOn, SessionGoesOn};
 
 /// Two flashes are loaded for one section at most; loaded flashes are not foreign; and not both sides are.
