@@ -8,15 +8,12 @@ use Rattle.vote_kinds.specs.declared.choice.Choice.{Choice}
 use Rattle.vote_kinds.specs.Choice.{is_same}
 use Rattle.vote_kinds.specs.Ballot.{BallotLine, is_choice, line_of, lines_by_panel}
 use Rattle.vote_record.specs.Bag.{bag_at, count_of, with_vote}
-use Rattle.vote_record.proofs.Bags.{bag_at-with_vote_same, bag_at-with_vote_other, count_of-with_choice, length-with_vote, same_true, test_cases}
+use Rattle.vote_record.proofs.Bags.{bag_at-with_vote_same, bag_at-with_vote_other, count_cons, count_of-with_choice, length-with_vote, same_true, test_cases}
 use Rattle.image_codec.specs.State.{State, with_votes}
 use Rattle.image_codec.specs.Valid.{HasChoices}
 use Rattle.image_codec.specs.Encoding.{IsStateOf}
 use Rattle.image_codec.specs.Laws.{votes_for}
 use Rattle.image_codec.proofs.ReadParts.{line_found}
-
-count_cons : (c d : Choice) (bag : List Choice) → count_of c (d ∷ bag) ≡ cond (is_same c d) 1 0 + count_of c bag
-count_cons c d bag = sum_by-cons (λ x. cond {A = ℕ} (is_same c x) 1 0) d bag
 
 -- one vote more
 one_counted : (p panel : ℕ) (c x : Choice) (bags : List (List Choice)) → panel < length bags

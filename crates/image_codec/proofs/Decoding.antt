@@ -8,7 +8,7 @@ use Rattle.election_tables.specs.TablesData.{TablesData, IsTables, places_of}
 use Rattle.vote_kinds.specs.declared.choice.Choice.{Choice}
 use Rattle.vote_kinds.specs.declared.choice.Choice.TheVariants as choice
 use Rattle.vote_kinds.specs.Ballot.{lines_by_panel}
-use Rattle.vote_kinds.proofs.Lookups.{panel_lines_length, panel_places}
+use Rattle.vote_kinds.proofs.Lookups.{by_panel_length, panel_places}
 use Rattle.turnout.specs.Turnout.{number_came}
 use Rattle.turnout.specs.declared.phase.Phase.{Phase}
 use Rattle.turnout.specs.declared.phase.Phase.TheVariants as phase
@@ -23,7 +23,7 @@ use Rattle.image_codec.proofs.ReadHead.{fields_of, TakesHead, head_takes, head_o
 use Rattle.image_codec.proofs.ReadParts.{length-marks_in, few_marked}
 use Rattle.image_codec.proofs.ReadVotes.{bytes_drop, bytes_take, bind_some, map_some, test_some}
 use Rattle.image_codec.proofs.SmallNumbers.{panels_small}
-use Rattle.image_codec.proofs.Valid.{bags_many}
+use Rattle.image_codec.proofs.Valid.{bag_for_each}
 use Rattle.image_codec.proofs.WholeBody.{AreBytes, bytes_are, state_with, bags_of, rest_of, decoded_body}
 use Rattle.image_codec.proofs.Written.{written_is, written_parts, fits_body}
 
@@ -82,7 +82,7 @@ read_text : (t : TablesData) (voters : ℕ) (bytes : List ℕ) (p : Phase) (bags
 read_text t voters bytes p bags are whole head body =
     let s : State = state_with t voters bytes p bags in
     let marks : List ℕ = turnout_of bytes in
-    let panels : length t.panels ≡ length bags = sym (body.as_many ∙ panel_lines_length t) in
+    let panels : length t.panels ≡ length bags = sym (body.as_many ∙ by_panel_length t) in
     let turnout : turnout_bytes s.came ≡ marks = turnout_back voters marks (omega (arith, length-take 75 (drop 22 bytes), length-drop 22 bytes)) (bytes_take 75 (drop 22 bytes) (bytes_drop 22 bytes are)) head.none_past in
     let zeros : length (drop 98 bytes) - length (flat_map bag_bytes bags) ≡ 65536 - length (written s) = omega (arith, length-drop 98 bytes, written_parts s) in
     let fields : List ℕ → ℕ → List ℕ → List ℕ = λ m k r. fields_of 1 (phase_byte p) (to_be_bytes w64 (opening_in p)) (to_be_bytes w64 (closing_in p)) (to_be_bytes w32 (number_came s.came)) m k r in
@@ -107,7 +107,7 @@ decoded_takes t voters bytes s is few e =
     let are : AreBytes bytes = bytes_are bytes parts.1 in
     let head = head_takes voters (length t.panels) bytes p are (omega arith) a.1 in
     let many = few_marked voters (turnout_of bytes) in
-    let room = room_for_bags (length (lines_by_panel t)) n (omega (arith, panel_lines_length t, is.panel_count.1)) (omega arith) in
+    let room = room_for_bags (length (lines_by_panel t)) n (omega (arith, by_panel_length t, is.panel_count.1)) (omega arith) in
     let body = bags_take (lines_by_panel t) n (drop 98 bytes) b.0 (bytes_drop 98 bytes are) (panels_few t) (omega (arith, length-drop 98 bytes)) b.1 in
     let made : IsEncoding t voters (state_with t voters bytes p b.0) bytes = record {
       state = read_state t voters bytes p b.0 n (drop 98 bytes) refl head body;
@@ -190,7 +190,7 @@ pub decoded_back : (t : TablesData) (voters : ℕ) (bytes : List ℕ) (s : State
 decoded_back t voters bytes s is few of =
     let st = of.state in
     let room = room_of_state t voters s is few st in
-    let many = bags_many t s st.valid st.places in
+    let many = bag_for_each t s st.valid st.places in
     let panels : length s.bags ≤ 8 = omega (arith, many, is.panel_count.1) in
     let body : is_body (encode s) ≡ true =
     and_from (length (encode s) == 65536) (list_all (λ b. nat_lt b 256) (encode s)) (eq-eqb (length (encode s)) 65536 (length-encode s (omega arith))) (pass_small (encode s) (encode_small s panels)) in

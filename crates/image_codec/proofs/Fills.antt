@@ -8,7 +8,7 @@ use Rattle.vote_kinds.specs.declared.choice.Choice.{Choice}
 use Rattle.vote_kinds.specs.declared.choice.Choice.TheVariants as choice
 use Rattle.vote_kinds.specs.Choice.{choice_le, choice_with}
 use Rattle.vote_kinds.specs.Ballot.{BallotLine, lines_by_panel, line_of, is_choice}
-use Rattle.vote_kinds.proofs.Lookups.{panel_lines_length}
+use Rattle.vote_kinds.proofs.Lookups.{by_panel_length}
 use Rattle.vote_record.specs.Bag.{IsInOrder, bag_at, with_choice, with_vote}
 use Rattle.vote_record.proofs.Bags.{with_choice-last}
 use Rattle.turnout.specs.Turnout.{has_come}
@@ -198,9 +198,6 @@ panel_bag t n panel rest bags lt many has =
 abbrev pub first_bags : List (List Choice) → ℕ → ℕ → List (List Choice)
 first_bags bags panels i = take i bags ++ replicate (panels - i) []
 
-pub bags_none : (bags : List (List Choice)) (panels : ℕ) → replicate panels [] ≡ first_bags bags panels 0
-bags_none bags panels = ap (λ (k : ℕ). replicate {A = List Choice} k []) (omega arith)
-
 bags_at : (bags : List (List Choice)) (panels i : ℕ) → i < panels → first_bags bags panels i ≡ take i bags ++ [] ∷ replicate (panels - (i + 1)) []
 bags_at bags panels i lt =
     let left : panels - i ≡ suc (panels - (i + 1)) = omega arith in
@@ -231,7 +228,4 @@ bags_all bags panels i many le =
 -- what is so of the bags that are there
 pub bags_found : (t : TablesData) (n : ℕ) (bytes : List ℕ) → IsSome (bags_in (lines_by_panel t) n bytes) → length (unwrap_or (bags_in (lines_by_panel t) n bytes) []) ≡ length t.panels
 bags_found t n bytes is =
-    bags_many (lines_by_panel t) n bytes (unwrap_or (bags_in (lines_by_panel t) n bytes) []) (value_of (bags_in (lines_by_panel t) n bytes) [] is) ∙ panel_lines_length t
-
-pub all_rest : (t : TablesData) (n : ℕ) (bytes : List ℕ) → IsSome (bags_in (lines_by_panel t) n bytes) → HasRest t n 0 bytes (unwrap_or (bags_in (lines_by_panel t) n bytes) [])
-all_rest t n bytes is = value_of (bags_in (lines_by_panel t) n bytes) [] is
+    bags_many (lines_by_panel t) n bytes (unwrap_or (bags_in (lines_by_panel t) n bytes) []) (value_of (bags_in (lines_by_panel t) n bytes) [] is) ∙ by_panel_length t

@@ -16,7 +16,7 @@ use Rattle.image_codec.specs.Head.{head_of}
 use Rattle.image_codec.specs.declared.reading.Head.{Head}
 use Rattle.image_codec.proofs.Decoding.{decoded_takes}
 use Rattle.image_codec.proofs.Full.{no_votes, fewer_votes}
-use Rattle.image_codec.proofs.Valid.{IsKept, state_of, bags_many}
+use Rattle.image_codec.proofs.Valid.{IsKept, state_of, bag_for_each}
 use Rattle.image_codec.proofs.ReadVotes.{bind_some, map_some, test_some}
 use Rattle.image_codec.proofs.WholeBody.{state_with, bags_of, rest_of, head_known}
 
@@ -38,7 +38,7 @@ ready_marks p came r kept ready = nobody_came came (none_yet p came r kept ready
 pub ready_bags : (t : TablesData) (p : Phase) (came : List Bool) (r : RdvData) → IsKept p came r → p ≡ phase.Ready → r.places ≡ places_of t → r.bags ≡ replicate (length t.panels) []
 ready_bags t p came r kept ready places =
     no_votes r.places r.bags (subst (λ (n : ℕ). AllHaveVoted n r.places r.bags) (none_yet p came r kept ready) kept.0.full)
-    ∙ ap (λ (n : ℕ). replicate {A = List Choice} n []) (bags_many t (state_of p came r) kept.0 places)
+    ∙ ap (λ (n : ℕ). replicate {A = List Choice} n []) (bag_for_each t (state_of p came r) kept.0 places)
 
 -- each panel has room for the votes of all who came
 pub room_for_all : (t : TablesData) (r : RdvData) (voters came : ℕ) → r.voters ≡ voters → r.places ≡ places_of t → came ≤ voters → (panel : ℕ) → panel < length t.panels

@@ -13,7 +13,7 @@ use Rattle.image_codec.specs.Valid.{ready_state, MayClose}
 use Rattle.image_codec.specs.Encoding.{IsStateOf}
 use Rattle.image_codec.proofs.Full.{full_at}
 use Rattle.image_codec.proofs.Ballots.{choices-empty, choices-with_votes}
-use Rattle.image_codec.proofs.Valid.{bags_many, valid-ready_state, valid-opened_at, valid-with_ballot, valid-sealed_at}
+use Rattle.image_codec.proofs.Valid.{bag_for_each, valid-ready_state, valid-opened_at, valid-with_ballot, valid-sealed_at}
 
 pub of_tables-ready_state : (t : TablesData) (voters : ℕ) → IsStateOf t voters (ready_state t voters)
 of_tables-ready_state t voters = record {
@@ -32,7 +32,7 @@ of_tables-with_ballot t voters s place choices of may ballot = record {
   valid = valid-with_ballot t s place choices of.valid may ballot of.places;
   roll = length-set s.came place true ∙ of.roll;
   places = of.places;
-  choices = choices-with_votes t choices s.bags (bags_many t s of.valid of.places) ballot.0 of.choices;
+  choices = choices-with_votes t choices s.bags (bag_for_each t s of.valid of.places) ballot.0 of.choices;
 }
 
 pub of_tables-sealed_at : (t : TablesData) (voters : ℕ) (s : State) (m : ℕ) → IsStateOf t voters s → MayClose s.phase m → is_moment m ≡ true → IsStateOf t voters (sealed_at s m)
@@ -40,7 +40,7 @@ of_tables-sealed_at t voters s m of may moment = record { valid = valid-sealed_a
 
 -- there is a bag for each panel, with all votes of those who came
 pub panels_of : (t : TablesData) (voters : ℕ) (s : State) → IsStateOf t voters s → length s.bags ≡ length t.panels
-panels_of t voters s of = bags_many t s of.valid of.places
+panels_of t voters s of = bag_for_each t s of.valid of.places
 
 pub votes_of : (t : TablesData) (voters : ℕ) (s : State) (panel : ℕ) → IsStateOf t voters s → panel < length t.panels → length (bag_at s.bags panel) ≡ number_came s.came * places_at t panel
 votes_of t voters s panel of lt =

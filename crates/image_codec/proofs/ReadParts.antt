@@ -12,7 +12,7 @@ use Rattle.vote_kinds.specs.declared.choice.Choice.{Choice}
 use Rattle.vote_kinds.specs.declared.choice.Choice.TheVariants as choice
 use Rattle.election_tables.specs.declared.tables.panels.Panel.{Panel}
 use Rattle.vote_kinds.specs.Ballot.{BallotLine, lines_by_panel, line_of, line_for, no_panel}
-use Rattle.vote_kinds.proofs.Lookups.{panel_line_get, panel_lines_length}
+use Rattle.vote_kinds.proofs.Lookups.{by_panel_get, by_panel_length}
 use Rattle.turnout.specs.Turnout.{number_came}
 use Rattle.turnout.proofs.Marks.{number_came-le-length}
 use Rattle.image_codec.specs.Decoded.{number4_at, is_marked, marks_in, has_no_more, vote_in, votes_in, bag_in, bags_in}
@@ -120,7 +120,7 @@ line_places t panel lt = places_found t.panels panel lt
 -- the line of a panel of the tables
 pub line_found : (t : TablesData) (panel : ℕ) → panel < length t.panels → slice_get (lines_by_panel t) panel ≡ Some (line_of t panel)
 line_found t panel lt =
-    panel_line_get t panel ∙ ap (option_map (line_for t panel)) (slice_get-get_or t.panels panel no_panel lt)
+    by_panel_get t panel ∙ ap (option_map (line_for t panel)) (slice_get-get_or t.panels panel no_panel lt)
     ∙ ap (λ (p : Panel). Some (line_for t panel p)) (sym (unwrap_or-slice_get t.panels panel no_panel))
 
 pub bags_more : (line : BallotLine) (lines : List BallotLine) (n : ℕ) (bytes : List ℕ) → is_some (bag_in line (n * line.places) bytes) ≡ true
@@ -135,14 +135,14 @@ bags_missing line lines n bytes has = missing_at line lines n bytes (bag_in line
 -- the lines from a panel on, of which the first is that of the panel
 pub lines_from_panel : (t : TablesData) (panel : ℕ) → panel < length t.panels → drop panel (lines_by_panel t) ≡ line_of t panel ∷ drop (panel + 1) (lines_by_panel t)
 lines_from_panel t panel lt =
-    let many = panel_lines_length t in
+    let many = by_panel_length t in
     drop_more (lines_by_panel t) panel (line_of t panel) (omega arith)
     ∙ ap (λ (l : BallotLine). l ∷ drop (panel + 1) (lines_by_panel t)) (get_or_from_slice_get (lines_by_panel t) panel (line_of t panel) (line_of t panel) (line_found t panel lt))
 
 pub bags_end : (t : TablesData) (panel n : ℕ) (bytes : List ℕ) → length t.panels ≤ panel → is_some (bags_in (drop panel (lines_by_panel t)) n bytes) ≡ list_all (λ b. b == 0) bytes
 unfolding bags_in
 bags_end t panel n bytes le =
-    let many = panel_lines_length t in
+    let many = by_panel_length t in
     ap (λ (ls : List BallotLine). is_some (bags_in ls n bytes)) (drop_all panel (lines_by_panel t) (omega arith)) ∙ some_test (list_all (λ b. b == 0) bytes)
 
 -- there is room for the parts that are left

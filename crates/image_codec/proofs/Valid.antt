@@ -63,8 +63,8 @@ started_polling (phase.Polling opened) n polling = tt
 started_polling (phase.Sealed opened closed) n polling = tt
 
 -- there is a bag for each panel of the tables
-pub bags_many : (t : TablesData) (s : State) → IsValid s → s.places ≡ places_of t → length s.bags ≡ length t.panels
-bags_many t s valid places = full_many (number_came s.came) s.places s.bags valid.full ∙ ap length places ∙ length-map t.panels places_in
+pub bag_for_each : (t : TablesData) (s : State) → IsValid s → s.places ≡ places_of t → length s.bags ≡ length t.panels
+bag_for_each t s valid places = full_many (number_came s.came) s.places s.bags valid.full ∙ ap length places ∙ length-map t.panels places_in
 
 pub valid-with_ballot : (t : TablesData) (s : State) (place : ℕ) (choices : List Choice) → IsValid s → MayVote s place → IsBallot (ballot_lines t) choices
     → s.places ≡ places_of t → IsValid (with_ballot (ballot_lines t) s place choices)
@@ -77,7 +77,7 @@ valid-with_ballot t s place choices valid may ballot places =
       moments = valid.moments;
       started = started_polling s.phase (number_came (slice_set s.came place true)) may.polling;
       full = subst (λ (n : ℕ). AllHaveVoted n s.places bags) (sym more) (subst (λ (p : List ℕ). AllHaveVoted (number_came s.came + 1) p bags) (sym places) full);
-      in_order = in_order-with_votes t choices s.bags (bags_many t s valid places) valid.in_order;
+      in_order = in_order-with_votes t choices s.bags (bag_for_each t s valid places) valid.in_order;
     }
 
 -- the parts of a state that is seen as `now`, after a ballot

@@ -66,18 +66,18 @@ from_at t first (p ∷ panels) (suc n) =
     from_at t (first + 1) panels n ∙ ap (λ (k : ℕ). option_map (line_for t k) (slice_get panels n)) (omega arith)
 
 -- the line of a panel's number is that of the panel
-pub panel_line_get : (t : TablesData) (n : ℕ) → slice_get (lines_by_panel t) n ≡ option_map (line_for t n) (slice_get t.panels n)
+pub by_panel_get : (t : TablesData) (n : ℕ) → slice_get (lines_by_panel t) n ≡ option_map (line_for t n) (slice_get t.panels n)
 unfolding lines_by_panel
-panel_line_get t n = from_at t 0 t.panels n ∙ ap (λ (k : ℕ). option_map (line_for t k) (slice_get t.panels n)) (omega arith)
+by_panel_get t n = from_at t 0 t.panels n ∙ ap (λ (k : ℕ). option_map (line_for t k) (slice_get t.panels n)) (omega arith)
 
 from_length : (t : TablesData) (first : ℕ) (panels : List Panel) → length (lines_from t first panels) ≡ length panels
 from_length t first [] = refl
 from_length t first (p ∷ panels) = ap suc (from_length t (first + 1) panels)
 
 -- there are as many of these lines as panels
-pub panel_lines_length : (t : TablesData) → length (lines_by_panel t) ≡ length t.panels
+pub by_panel_length : (t : TablesData) → length (lines_by_panel t) ≡ length t.panels
 unfolding lines_by_panel
-panel_lines_length t = from_length t 0 t.panels
+by_panel_length t = from_length t 0 t.panels
 
 -- Where a voter has one vote in each panel, the ballot has one line for each panel.
 
@@ -90,10 +90,10 @@ unfolding ballot_lines lines_by_panel
 one_line t = one_each t 0 t.panels
 
 pub line_get : (t : TablesData) (n : ℕ) → slice_get (ballot_lines t) n ≡ option_map (line_for t n) (slice_get t.panels n)
-line_get t n = ap (λ (lines : List BallotLine). slice_get lines n) (one_line t) ∙ panel_line_get t n
+line_get t n = ap (λ (lines : List BallotLine). slice_get lines n) (one_line t) ∙ by_panel_get t n
 
 pub lines_length : (t : TablesData) → length (ballot_lines t) ≡ length t.panels
-lines_length t = ap length (one_line t) ∙ panel_lines_length t
+lines_length t = ap length (one_line t) ∙ by_panel_length t
 
 -- how many votes a voter has in each panel, by the lines
 from_places : (t : TablesData) (first : ℕ) (panels : List Panel) → map (λ line. line.places) (lines_from t first panels) ≡ map places_in panels

@@ -99,7 +99,7 @@ with_vote-swap (suc p) (suc q) a b (bag ∷ bags) = ap (λ (t : List (List Choic
 
 -- Counts
 
-count_cons : (c d : Choice) (bag : List Choice) → count_of c (d ∷ bag) ≡ cond (is_same c d) 1 0 + count_of c bag
+pub count_cons : (c d : Choice) (bag : List Choice) → count_of c (d ∷ bag) ≡ cond (is_same c d) 1 0 + count_of c bag
 count_cons c d bag = sum_by-cons (λ e. cond (is_same c e) 1 0) d bag
 
 pub count_of-with_choice : (c d : Choice) (bag : List Choice) → count_of c (with_choice d bag) ≡ cond (is_same c d) 1 0 + count_of c bag

@@ -1,7 +1,7 @@
 use Rattle.std.proofs.Common.{◌≡◌, sym, ap, subst, ◌∙◌}
 use Rattle.election_tables.specs.TablesData.{places_of}
 use Rattle.image_codec.specs.State.{State, MayVote}
-use Rattle.image_codec.proofs.Valid.{bags_many, has_room, ballot_valid, state_of}
+use Rattle.image_codec.proofs.Valid.{bag_for_each, has_room, ballot_valid, state_of}
 use Rattle.image_codec.proofs.state.State.ballot.Goals as goal
 
 pub add_choices-requires-clause-room : goal.add_choices-requires-clause-room
@@ -12,7 +12,7 @@ add_choices-requires-clause-room c =
 pub add_choices-requires-clause-panels : goal.add_choices-requires-clause-panels
 add_choices-requires-clause-panels c =
     let places : c.self.inside.votes.places ≡ places_of c.args.tables.now = ap (λ (s : State). s.places) c.self.view_is ∙ c.requires.places in
-    bags_many c.args.tables.now (state_of c.self.inside.phase c.self.inside.turnout c.self.inside.votes) c.self.invariant.0 places
+    bag_for_each c.args.tables.now (state_of c.self.inside.phase c.self.inside.turnout c.self.inside.votes) c.self.invariant.0 places
 
 pub invariant_of-self : goal.invariant_of-self
 invariant_of-self c =
