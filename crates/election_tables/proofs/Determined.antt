@@ -1,5 +1,5 @@
 -- What is read from bytes is determined by them.
-use Rattle.std.proofs.Common.{◌≡◌, ℕ, zero, suc, ◌<◌, pos, List, [], ◌∷◌, ◌⊎◌, length, map, get_or, Some, Ordering, Less, Equal, Greater, IsPermutation, refl, ap, sym, ◌∙◌, subst, inl, inr, arith}
+use Rattle.std.proofs.Common.{◌≡◌, ℕ, zero, suc, ◌<◌, pos, List, [], ◌∷◌, ◌⊎◌, length, map, get_or, Some, Ordering, Less, Equal, Greater, IsPermutation, nat_le, refl, ap, sym, ◌∙◌, subst, inl, inr, arith}
 use Rattle.std.specs.Cmp.{IsTotalOrder}
 use Rattle.std.specs.List.{All, Contains}
 use Rattle.std.specs.List.Sorted.{IsStrictlySortedBy}
@@ -18,11 +18,15 @@ use Rattle.election_tables.specs.declared.tables.panels.Panel.{Panel}
 use Rattle.election_tables.specs.DocumentData.{DocumentData}
 use Rattle.election_tables.specs.Entries.{document_of}
 use Rattle.election_tables.specs.Offices.{code_digits}
-use Rattle.election_tables.specs.Roll.{IsRollOf, RollData}
+use Rattle.election_tables.specs.Roll.{IsRoll, IsRollOf, RollData}
 use Rattle.election_tables.specs.Tables.{AreTablesOf, IsPanelOf, IsReadAs, candidates_of, entry_of_candidate, entry_of_office, entry_of_party, entry_of_section}
 use Rattle.election_tables.specs.TablesData.{TablesData}
 use Rattle.election_tables.proofs.Keys.{pair_cmp_total}
 use Rattle.election_tables.proofs.Reading.{one_document}
+use Rattle.election_tables.proofs.RollLines.{roll_valid}
+use Rattle.sha2.proofs.Facts256.{length-sha256}
+use Rattle.std.proofs.lemmas.Bool.{leb-true, and_parts}
+use Rattle.urna_base.specs.Lines.{lines_of}
 
 -- ---- two rising lists of the same elements
 
@@ -178,3 +182,11 @@ roll_determined bytes r s a b =
     let titles : r.titles ≡ s.titles = same_titles r.titles s.titles (sym a.titles ∙ b.titles) in
     let digest : r.digest ≡ s.digest = a.digest ∙ sym b.digest in
     λ i. record { titles = titles i; digest = digest i }
+
+-- a roll that was read is a roll
+pub roll_is : (bytes : List ℕ) (r : RollData) → IsRollOf bytes r → IsRoll r
+roll_is bytes r is =
+    let n = length (lines_of bytes) in
+    let (least, most) = and_parts (nat_le 1 n) (nat_le n 600) is.count in
+    roll_valid (lines_of bytes) r.titles r.digest (leb-true 1 n least) (leb-true n 600 most)
+    (is.titles, is.lines) (ap length is.digest ∙ length-sha256 bytes)

@@ -10,7 +10,7 @@ pub mod Kept
 mod Valid
 mod RollLines
 mod Reading
-mod Determined
+pub mod Determined
 pub mod Named
 pub mod Places
 pub mod PlacesOfPanels

@@ -16,5 +16,6 @@ pub mod Fills
 pub mod Loaded
 pub mod OfTables
 mod Counting
+pub mod Growing
 mod AddChoices
 mod Rows

@@ -5,3 +5,4 @@ pub mod Encoding
 pub mod Decoded
 pub mod Head
 pub mod CodecLaws
+pub mod Also

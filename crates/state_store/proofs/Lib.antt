@@ -15,4 +15,5 @@ pub mod Ready
 pub mod Unused
 pub mod Formatting
 pub mod Going
+pub mod Loaded
 mod Costs

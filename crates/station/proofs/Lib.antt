@@ -15,3 +15,5 @@ pub mod Leading
 pub mod Steps
 pub mod Doing
 pub mod Starting
+pub mod Fims
+pub mod Casting

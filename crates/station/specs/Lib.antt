@@ -10,3 +10,4 @@ pub mod Text
 pub mod Station
 pub mod Doing
 pub mod Start
+pub mod Cast

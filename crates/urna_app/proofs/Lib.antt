@@ -1,7 +1,11 @@
 mod Asked
 mod Calls
+mod Days
 mod Endings
 mod Faults
 mod FiveWords
+mod Headline
+mod Keeping
+mod Loads
 mod Once
 mod Sessions

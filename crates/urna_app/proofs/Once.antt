@@ -92,7 +92,7 @@ lacks_not_taken files d name bytes none taken = lacks_not_held files name bytes 
 longer_not_taken : (files : Files) (d : Doc) (name bytes : List ℕ) → ForSome (Some files) (HoldsLonger name (limit_of d)) → IsTaken (Some files) d name bytes → ⊥
 longer_not_taken files d name bytes long taken = long_not_short (file_at name files) (limit_of d) bytes (long files refl) (taken.held files refl) taken.short
 
-same_bytes : (files : Files) (d : Doc) (name a b : List ℕ) → IsTaken (Some files) d name a → IsTaken (Some files) d name b → a ≡ b
+pub same_bytes : (files : Files) (d : Doc) (name a b : List ℕ) → IsTaken (Some files) d name a → IsTaken (Some files) d name b → a ≡ b
 same_bytes files d name a b h i = let p = h.held files refl in let q = i.held files refl in cc
 
 fault_once : (files : Files) (name : List ℕ) (d : Doc) (s t : Status) → IsFault (Some files) name d s → IsFault (Some files) name d t → s ≡ t

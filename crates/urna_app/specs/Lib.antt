@@ -4,6 +4,7 @@ pub mod Documents
 pub mod Ending
 pub mod Errors
 pub mod FaultLines
+pub mod Headline
 pub mod Laws
 pub mod Taking
 pub mod Holding

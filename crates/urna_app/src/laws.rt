@@ -1,8 +1,20 @@
-//! Laws of endings (`specs/Ending.antt`).
+//! Laws of endings (`specs/Ending.antt`), and the headline (`specs/Headline.antt`).
+ghost use Rattle.urna_app.specs.Headline.{AllAreCounted, DayKeepsVotes, KeysHaveRun, LoadBeginsDay, VotesAreKept};
 ghost use Rattle.urna_app.specs.Laws.{RefusedOnce, RefusedOrGiven};
 
 /// Where the cabinet tells its files, the words and the files determine whether they are refused, and with which status.
 pub fn one_ending()
     ensures once { RefusedOnce }
     ensures either { RefusedOrGiven }
+{}
+
+/// The headline. Wherever the power stops a call of `vota`, both flashes, and from the first shown byte on each alone, hold the poll
+/// that was found with the ballots whose FIM was shown, and with at most one more; over a day of calls, which a load begins, with at
+/// most one more of each call. Where a call ends with Done they hold all ballots of its run. Each list of keys has a run.
+pub fn votes_are_kept()
+    ensures kept { VotesAreKept }
+    ensures day { DayKeepsVotes }
+    ensures load { LoadBeginsDay }
+    ensures counted { AllAreCounted }
+    ensures run { KeysHaveRun }
 {}

@@ -1,0 +1,334 @@
+-- However a call of vota ends, what a power cut leaves keeps its votes
+use Rattle.std.proofs.Common.{◌≡◌, ◌⊎◌, inl, inr, ℕ, ◌&&◌, Bool, true, false, List, [], ◌∷◌, ◌++◌, Option, Some, None, length, refl, sym, ap, subst, ◌∙◌, arith}
+use Rattle.std.specs.Prelude.{codes, if◌then◌else◌, nat_eq}
+use Rattle.std.specs.Option.{ForSome}
+use Rattle.std.specs.Str.{bytes_eq}
+use Rattle.std.proofs.lemmas.Bool.{eqb-true}
+use Rattle.urna_outside.specs.Cabinet.{CabinetTold, Files}
+use Rattle.urna_outside.specs.Flash.{Flashes, IsClean, Op, after, flash_of}
+use Rattle.urna_outside.specs.Stop.{AtEachStop, Left}
+use Rattle.urna_outside.specs.Told.{Told, Does, Runs}
+use Rattle.urna_outside.specs.declared.device.Dev.{Dev}
+use Rattle.urna_outside.specs.declared.device.Dev.TheVariants as dev
+use Rattle.urna_outside.specs.declared.device.Port.{Port}
+use Rattle.urna_outside.specs.declared.device.Port.TheVariants as port
+use Rattle.urna_outside.proofs.Courses.{stops_silent}
+use Rattle.urna_outside.proofs.Keeping.{synced_clean}
+use Rattle.urna_outside.proofs.Stops.{stops_none}
+use Rattle.election_tables.specs.Roll.{IsRollOf, RollData}
+use Rattle.election_tables.specs.Tables.{IsReadAs}
+use Rattle.election_tables.specs.TablesData.{IsTables, TablesData}
+use Rattle.election_tables.specs.declared.tables.sections.Section.{Section}
+use Rattle.election_tables.proofs.Determined.{roll_determined, tables_determined}
+use Rattle.key_script.specs.Script.{events_of}
+use Rattle.key_script.specs.declared.keys.Event.{Event}
+use Rattle.vote_kinds.specs.Ballot.{ballot_lines}
+use Rattle.image_codec.specs.Also.{HasAlso}
+use Rattle.image_codec.specs.State.{State}
+use Rattle.state_store.specs.Calls.{AreFound, FromSyncs, IsUntouched, KeepFrames, Recovers, both_synced}
+use Rattle.state_store.specs.Held.{held_by_both}
+use Rattle.state_store.specs.Load.{IsSectionOf}
+use Rattle.state_store.specs.Played.{Survives}
+use Rattle.state_store.specs.Rest.{AreAtRest}
+use Rattle.state_store.specs.Steps.{state_after}
+use Rattle.state_store.specs.declared.load.Load.{Load}
+use Rattle.state_store.proofs.Going.{loaded_or_foreign}
+use Rattle.state_store.proofs.Resting.{clean_image, frames_same}
+use Rattle.station.specs.Cast.{ballots_of}
+use Rattle.station.specs.Output.{Output}
+use Rattle.station.specs.Run.{IsRun}
+use Rattle.station.specs.Setting.{setting_of}
+use Rattle.station.specs.Start.{FailsToStart, IsCutAtOpening, IsRecovered, opening}
+use Rattle.station.specs.Text.{session_steps}
+use Rattle.station.specs.declared.station.StartError.{StartError}
+use Rattle.station.specs.declared.station.StartError.TheVariants as starting
+use Rattle.station.proofs.Performing.{tables_setting}
+use Rattle.station.proofs.Casting.{run_counts, run_last}
+use Rattle.station.proofs.RunLaws.{run_exists, run_unique}
+use Rattle.urna_app.specs.Command.{Carga, Vota, carga_of, vota_of}
+use Rattle.urna_app.specs.Ending.{CommandEnds, HasVoted, IsCutShort, IsGiven, VotaEnds, carga, cut, done, no_cabinet, no_command, no_memory, not_started, port_status, refused, start_status, vota, IsRefused}
+use Rattle.urna_app.specs.FaultLines.{Tells, fault_text}
+use Rattle.urna_app.specs.Headline.{AllAreCounted, KeepsVotes, KeysHaveRun, VotesAreKept, session_lines}
+use Rattle.urna_app.specs.declared.status.Doc.TheVariants as doc
+use Rattle.urna_app.specs.declared.status.Status.{Status}
+use Rattle.urna_app.specs.declared.status.Status.TheVariants as status
+use Rattle.urna_app.proofs.Keeping.{behind_is, found_roll, kept_silent, not_done, not_within, opening_kept, safe_stops, session_kept}
+use Rattle.urna_app.proofs.Once.{refused_or_given, same_bytes}
+
+-- ---- a session in which the opening line began, and what else there is behind the two syncs
+
+module _ (t : TablesData) (r : RollData) (s last : State) (es : List Event) (out : List Output) (run : IsRun (setting_of t r.titles) s es last out) (tables : IsTables t)
+    (section : Section) (m n : Told) (start : Flashes) (before rest : List Op) (found : AreFound t r section s start)
+    (flashes : m.flashes ≡ Some start) (trail : m.trail ≡ Some before) (trailed : n.trail ≡ Some (before ++ (both_synced ++ rest))) where
+  abbrev Kept : Left → Type 0
+  Kept left = KeepsVotes t r s start (session_lines t s out) (ballots_of run) left
+
+  abbrev AreKept : Type 0
+  AreKept = AtEachStop (after both_synced start) rest Kept
+
+  roll : length s.came ≡ length r.titles
+  roll = found_roll t r section s start tables found
+
+  -- the state of a recovery is that which the flashes hold
+  found_here : (other : Section) (first : State) → AreFound t r other first start → (first ≡ s) × (other.voters ≡ length r.titles)
+  found_here other first also =
+      let this = found.held in
+      let that = also.held in
+      let one : Some first ≡ Some s = sym that ∙ this in
+      let same : first ≡ s = cc in
+      (same, also.loaded.section_fits.voters)
+
+  recovered_here : (load : Load) (first : State) (b : Told) → IsRecovered t r load first m b → (first ≡ s) × (load.section.voters ≡ length r.titles)
+  recovered_here load first b is = found_here load.section first (is.ran.2.2.stops start flashes).0
+
+  -- a session that was held or cut short
+  session_stops : (load : Load) (first u : State) (b : Told) (put : List Output) → IsRecovered t r load first m b → IsRun (setting_of t r.titles) first es u put
+      → AtEachStop (after both_synced start) rest (Survives t load first (opening t first ++ session_steps t put) start) → AreKept
+  session_stops load first u b put recovered ran survives ops stop left is =
+      let here = recovered_here load first b recovered in
+      let again : IsRun (setting_of t r.titles) s es u put = subst (λ (x : State). IsRun (setting_of t r.titles) x es u put) here.0 ran in
+      let same : put ≡ out = (run_unique (setting_of t r.titles) s u last es put out (tables_setting t r.titles tables) again run).1 in
+      session_kept t r s last es out run roll load here.1 start left
+      (subst (λ (o : List Output). Survives t load s (opening t s ++ session_steps t o) start left) same
+      (subst (λ (x : State). Survives t load x (opening t x ++ session_steps t put) start left) here.0 (survives ops stop left is)))
+
+  pub voted_kept : HasVoted t r es m n → AreKept
+  voted_kept voted =
+      session_stops voted.load voted.first voted.last voted.opens.between voted.out voted.opens.recovered voted.run
+      (safe_stops m n start before rest flashes trail trailed t voted.load voted.first (opening t voted.first ++ session_steps t voted.out) voted.survives)
+
+  pub cut_kept : (p : Port) → IsCutShort t r es p m n → AreKept
+  cut_kept p h =
+      session_stops h.load h.first h.last h.opens.between h.out h.opens.recovered h.run
+      (safe_stops m n start before rest flashes trail trailed t h.load h.first (opening t h.first ++ session_steps t h.out) h.survives)
+
+  -- where it was held, both flashes are at rest with all ballots in the end
+  pub voted_counted : HasVoted t r es m n → HasAlso (ballot_lines t) s (ballots_of run) last × ForSome n.flashes (λ x. (load : Load) × AreAtRest load last x)
+  voted_counted voted =
+      let here = recovered_here voted.load voted.first voted.opens.between voted.opens.recovered in
+      let again : IsRun (setting_of t r.titles) s es voted.last voted.out = subst (λ (x : State). IsRun (setting_of t r.titles) x es voted.last voted.out) here.0 voted.run in
+      let same : voted.out ≡ out = (run_unique (setting_of t r.titles) s voted.last last es voted.out out (tables_setting t r.titles tables) again run).1 in
+      let end : state_after voted.first (session_steps t voted.out) ≡ last =
+      ap (λ (x : State). state_after x (session_steps t voted.out)) here.0 ∙ ap (λ (o : List Output). state_after s (session_steps t o)) same ∙ run_last t r.titles roll run in
+      (run_counts t r.titles roll run, λ x is. (voted.load, subst (λ (y : State). AreAtRest voted.load y x) end (voted.put.rest x is)))
+
+  pub opening_cut_kept : IsCutAtOpening t r m n → AreKept
+  opening_cut_kept h ops stop left is =
+      let here = recovered_here h.load h.state h.between h.recovered in
+      let survives = safe_stops m n start before rest flashes trail trailed t h.load h.state (opening t h.state) h.survives ops stop left is in
+      opening_kept t r s last es out run roll h.load here.1 start left (subst (λ (x : State). Survives t h.load x (opening t x) start left) here.0 survives)
+
+  silent : (left : Left) → left.shown ≡ [] → held_by_both t (length r.titles) left.internal left.external ≡ Some s → KeepFrames start left → Kept left
+  silent left none held frames = kept_silent t r s start (session_lines t s out) (ballots_of run) left none held frames
+
+  synced_both : (e : Dev) → IsClean (flash_of e (after both_synced start))
+  synced_both dev.Internal = synced_clean start.internal
+  synced_both dev.External = synced_clean start.external
+
+  frames_before : (left : Left) → KeepFrames (after both_synced start) left → KeepFrames start left
+  frames_before left keeps dev.Internal = keeps dev.Internal
+  frames_before left keeps dev.External = keeps dev.External
+
+  -- nothing was done behind the syncs
+  nothing_kept : (behind : List Op) → behind ≡ [] → AtEachStop (after both_synced start) behind Kept
+  nothing_kept behind none =
+      subst (λ (l : List Op). AtEachStop (after both_synced start) l Kept) (sym none) (stops_none (after both_synced start) Kept (λ left is.
+      let internal = clean_image (after both_synced start).internal left.internal (synced_clean start.internal) is.internal in
+      let external = clean_image (after both_synced start).external left.external (synced_clean start.external) is.external in
+      silent left is.shown (ap (λ (x : List ℕ). held_by_both t (length r.titles) x left.external) internal
+      ∙ ap (λ (x : List ℕ). held_by_both t (length r.titles) start.internal.content x) external ∙ found.held)
+      (frames_before left (frames_same (after both_synced start) left synced_both is.internal is.external))))
+
+  -- a recovery that a flash cut short
+  recovering_kept : (behind : List Op) (other : Section) (first : State) → Recovers t r other first m behind → AtEachStop (after both_synced start) behind Kept
+  recovering_kept behind other first recovers ops stop left is =
+      let at = recovers.stops start flashes in
+      let here = found_here other first at.0 in
+      let held = (at.1 ops stop left is).0 in
+      silent left (stops_silent _ (after both_synced start) behind recovers.slots.within ops stop left is)
+      (subst (λ (x : State). held_by_both t (length r.titles) left.internal left.external ≡ Some x) here.0 held) (at.1 ops stop left is).1
+
+  flash_kept : Runs (FromSyncs (λ ops. (ops ≡ []) ⊎ ((other : Section) × (first : State) × IsSectionOf t r other × Recovers t r other first m ops))) m n → AreKept
+  flash_kept (ops, does, inl (inl none)) = absurd (not_done m n start before rest flashes trail trailed (subst (λ (l : List Op). Does l m n) none does))
+  flash_kept (ops, does, inl (inr one)) = absurd (not_within m n start before rest flashes trail trailed (subst (λ (l : List Op). Does l m n) one does))
+  flash_kept (ops, does, inr (behind, is, inl none)) =
+      subst (λ (l : List Op). AtEachStop (after both_synced start) l Kept) (behind_is m n start before rest flashes trail trailed ops behind does is) (nothing_kept behind none)
+  flash_kept (ops, does, inr (behind, is, inr (other, first, fits, recovers))) =
+      subst (λ (l : List Op). AtEachStop (after both_synced start) l Kept) (behind_is m n start before rest flashes trail trailed ops behind does is) (recovering_kept behind other first recovers)
+
+  pub untouched_kept : IsUntouched m n → AreKept
+  untouched_kept h = absurd (not_done m n start before rest flashes trail trailed h.does)
+
+  -- a station that didn't start
+  pub start_cut_kept : (p : Port) → FailsToStart t r m n (starting.Port p) → AreKept
+  start_cut_kept port.Internal h = flash_kept h.1
+  start_cut_kept port.External h = flash_kept h.1
+  start_cut_kept port.Display h = opening_cut_kept h
+
+-- where a poll is found, neither flash is foreign, and a slot stands
+module _ (t : TablesData) (r : RollData) (s : State) (tables : IsTables t) (section : Section) (m b : Told) (start : Flashes) (found : AreFound t r section s start) (flashes : m.flashes ≡ Some start) where
+  not_foreign : (d : Dev) → FailsToStart t r m b (starting.Foreign d) → ⊥
+  not_foreign dev.Internal h =
+      loaded_or_foreign t r section dev.Internal start.internal.content start.external.content tables found.loaded (h.1 start flashes)
+  not_foreign dev.External h =
+      loaded_or_foreign t r section dev.External start.internal.content start.external.content tables found.loaded (h.1 start flashes)
+
+  not_empty : FailsToStart t r m b starting.NoImage → ⊥
+  not_empty h =
+      let none = (h.1.2 start flashes).1 in
+      let some = found.held in
+      absurd (cc)
+
+-- ---- what was given
+
+given_once : (files : Files) (names : Vota) (t u : TablesData) (r q : RollData) (es fs : List Event) → IsGiven (Some files) names t r es → IsGiven (Some files) names u q fs
+    → (t ≡ u) × (r ≡ q) × (es ≡ fs)
+given_once files names t u r q es fs a b =
+    let one = same_bytes files doc.Tables names.tables a.tables.bytes b.tables.bytes a.tables.taken b.tables.taken in
+    let two = same_bytes files doc.Roll names.roll a.roll.bytes b.roll.bytes a.roll.taken b.roll.taken in
+    let three = same_bytes files doc.Keys names.keys a.keys.bytes b.keys.bytes a.keys.taken b.keys.taken in
+    let first : events_of b.keys.bytes ≡ Some es = ap events_of (sym three) ∙ a.keys.read in
+    let second = b.keys.read in
+    let both : Some es ≡ Some fs = sym first ∙ second in
+    let keys : es ≡ fs = cc in (
+      tables_determined b.tables.bytes t u (subst (λ (x : List ℕ). IsReadAs x t) one a.tables.read) b.tables.read,
+      roll_determined b.roll.bytes r q (subst (λ (x : List ℕ). IsRollOf x r) two a.roll.read) b.roll.read,
+      keys,
+    )
+
+-- ---- a command
+
+and_left : (a b : Bool) → (a && b) ≡ true → a ≡ true
+and_left true b h = refl
+and_left false b h = absurd (cc)
+
+-- a word is not both
+one_word : (word : List ℕ) → bytes_eq word (codes "vota") ≡ true → bytes_eq word (codes "carga") ≡ true → ⊥
+one_word [] a b = absurd (cc)
+one_word (x ∷ word) a b =
+    let v : x ≡ 118 = eqb-true x 118 (and_left (nat_eq x 118) (bytes_eq word (codes "ota")) a) in
+    let c : x ≡ 99 = eqb-true x 99 (and_left (nat_eq x 99) (bytes_eq word (codes "arga")) b) in
+    absurd (omega (arith, v, c))
+
+if_some : {A : Type 0} (b : Bool) (x y : A) → (if b then Some x else None) ≡ Some y → b ≡ true
+if_some true x y h = refl
+if_some false x y h = absurd (cc)
+
+if_found : {A : Type 0} (b : Bool) (x : Option A) (y : A) → (if b then x else None) ≡ Some y → b ≡ true
+if_found true x y h = refl
+if_found false x y h = absurd (cc)
+
+pub one_command : (words : List (List ℕ)) (a : Vota) (b : Carga) → vota_of words ≡ Some a → carga_of words ≡ Some b → ⊥
+one_command [] a b v c = absurd (cc)
+one_command (w ∷ []) a b v c = absurd (cc)
+one_command (w ∷ x ∷ []) a b v c = absurd (cc)
+one_command (w ∷ x ∷ y ∷ []) a b v c = absurd (cc)
+one_command (w ∷ x ∷ y ∷ z ∷ []) a b v c = absurd (cc)
+one_command (w ∷ x ∷ y ∷ z ∷ o ∷ []) a b v c =
+    one_word w (if_some (bytes_eq w (codes "vota")) _ a v) (if_found (bytes_eq w (codes "carga")) _ b c)
+one_command (w ∷ x ∷ y ∷ z ∷ o ∷ p ∷ more) a b v c = absurd (cc)
+
+-- ---- the headline
+
+-- where a status has no fault line, nothing is done after the command
+port_silent : (p : Port) (b n : Told) → Tells (fault_text (port_status p)) b n → n ≡ b
+port_silent port.Internal b n tells = tells
+port_silent port.External b n tells = tells
+port_silent port.Display b n tells = tells
+
+module _ (names : Vota) (files : Files) (c d : CabinetTold) (told : c.files ≡ Some files) (t : TablesData) (r : RollData) (es : List Event) (given : IsGiven (Some files) names t r es)
+    (section : Section) (s last : State) (out : List Output) (run : IsRun (setting_of t r.titles) s es last out) (m b n : Told) (start : Flashes) (before rest : List Op)
+    (found : AreFound t r section s start) (flashes : m.flashes ≡ Some start) (trail : m.trail ≡ Some before) (trailed : n.trail ≡ Some (before ++ (both_synced ++ rest))) where
+  abbrev All : Type 0
+  All = AtEachStop (after both_synced start) rest (KeepsVotes t r s start (session_lines t s out) (ballots_of run))
+
+  tables : IsTables t
+  tables = given.tables.valid
+
+  -- what is so of what the command did, where nothing was done after it
+  at_end : (P : Told → Type 0) → n ≡ b → P b → P n
+  at_end P same h = subst P (sym same) h
+
+  -- what is so of the documents that were taken
+  of_given : (u : TablesData) (q : RollData) (fs : List Event) (P : TablesData → RollData → List Event → Type 0) → IsGiven c.files names u q fs → P u q fs → P t r es
+  of_given u q fs P also h =
+      let one = given_once files names u t q r fs es (subst (λ (o : Option Files). IsGiven o names u q fs) told also) given in
+      subst (λ (x : TablesData). P x r es) one.0 (subst (λ (x : RollData). P u x es) one.1 (subst (λ (x : List Event). P u q x) one.2 h))
+
+  untouched : IsUntouched m b → n ≡ b → All
+  untouched h same = untouched_kept t r s last es out run tables section m n start before rest found flashes trail trailed (at_end (λ x. IsUntouched m x) same h)
+
+  not_begun : (e : StartError) → FailsToStart t r m b e → Tells (fault_text (start_status e)) b n → All
+  not_begun starting.Memory h tells = untouched h tells
+  not_begun (starting.Port p) h tells =
+      start_cut_kept t r s last es out run tables section m n start before rest found flashes trail trailed p
+      (at_end (λ x. FailsToStart t r m x (starting.Port p)) (port_silent p b n tells) h)
+  not_begun (starting.Foreign e) h tells = absurd (not_foreign t r s tables section m b start found flashes e h)
+  not_begun starting.NoImage h tells = absurd (not_empty t r s tables section m b start found flashes h)
+
+  vota_kept : (answer : Status) → VotaEnds names c d m b answer → Tells (fault_text answer) b n → All
+  vota_kept answer (refused bad taken un) tells = absurd (refused_or_given files names answer t r es (subst (λ (o : Option Files). IsRefused o names answer) told bad) given)
+  vota_kept _ (no_memory taken un) tells = untouched un tells
+  vota_kept _ (no_cabinet taken un) tells = untouched un tells
+  vota_kept _ (not_started {t = u} {r = q} {es = fs} e also taken h) tells =
+      not_begun e (of_given u q fs (λ x y z. FailsToStart x y m b e) also h) tells
+  vota_kept _ (cut {t = u} {r = q} {es = fs} p also taken h) tells =
+      cut_kept t r s last es out run tables section m n start before rest found flashes trail trailed p
+      (at_end (λ x. IsCutShort t r es p m x) (port_silent p b n tells) (of_given u q fs (λ x y z. IsCutShort x y z p m b) also h))
+  vota_kept _ (done {t = u} {r = q} {es = fs} also taken h) tells =
+      voted_kept t r s last es out run tables section m n start before rest found flashes trail trailed
+      (at_end (λ x. HasVoted t r es m x) tells (of_given u q fs (λ x y z. HasVoted x y z m b) also h))
+
+  -- the command is vota
+  command_is : (words : List (List ℕ)) (answer : Status) → vota_of words ≡ Some names → CommandEnds words c d m b answer → VotaEnds names c d m b answer
+  command_is words _ is (no_command none also taken un) = absurd (cc)
+  command_is words answer is (vota {names = other} that h) =
+      let same : other ≡ names = cc in
+      subst (λ (x : Vota). VotaEnds x c d m b answer) same h
+  command_is words answer is (carga {names = other} that h) = absurd (one_command words names other is that)
+
+  pub command_kept : (words : List (List ℕ)) (answer : Status) → vota_of words ≡ Some names → CommandEnds words c d m b answer → Tells (fault_text answer) b n → All
+  command_kept words answer is h tells = vota_kept answer (command_is words answer is h) tells
+
+  -- with Done
+  abbrev Counted : Type 0
+  Counted = HasAlso (ballot_lines t) s (ballots_of run) last × ForSome n.flashes (λ x. (load : Load) × AreAtRest load last x)
+
+  start_not_done : (e : StartError) → start_status e ≡ status.Done → ⊥
+  start_not_done starting.Memory is = absurd (cc)
+  start_not_done (starting.Port port.Internal) is = absurd (cc)
+  start_not_done (starting.Port port.External) is = absurd (cc)
+  start_not_done (starting.Port port.Display) is = absurd (cc)
+  start_not_done (starting.Foreign e) is = absurd (cc)
+  start_not_done starting.NoImage is = absurd (cc)
+
+  port_not_done : (p : Port) → port_status p ≡ status.Done → ⊥
+  port_not_done port.Internal is = absurd (cc)
+  port_not_done port.External is = absurd (cc)
+  port_not_done port.Display is = absurd (cc)
+
+  vota_counted : (answer : Status) → answer ≡ status.Done → VotaEnds names c d m b answer → Tells (fault_text answer) b n → Counted
+  vota_counted answer ok (refused bad taken un) tells = absurd (refused_or_given files names answer t r es (subst (λ (o : Option Files). IsRefused o names answer) told bad) given)
+  vota_counted _ ok (no_memory taken un) tells = absurd (cc)
+  vota_counted _ ok (no_cabinet taken un) tells = absurd (cc)
+  vota_counted _ ok (not_started e also taken h) tells = absurd (start_not_done e ok)
+  vota_counted _ ok (cut p also taken h) tells = absurd (port_not_done p ok)
+  vota_counted _ ok (done {t = u} {r = q} {es = fs} also taken h) tells =
+      voted_counted t r s last es out run tables section m n start before rest found flashes trail trailed
+      (at_end (λ x. HasVoted t r es m x) tells (of_given u q fs (λ x y z. HasVoted x y z m b) also h))
+
+  pub command_counted : (words : List (List ℕ)) → vota_of words ≡ Some names → CommandEnds words c d m b status.Done → Tells None b n → Counted
+  command_counted words is h tells = vota_counted status.Done refl (command_is words status.Done is h) tells
+
+pub votes_are_kept : VotesAreKept
+votes_are_kept words c d m n answer ends t r es start ops is section s found last out run =
+    command_kept is.names is.files c d is.cabinet t r es is.given section s last out run m ends.between n start is.before ops found is.flashes is.trail is.done words answer
+    is.command ends.command ends.told
+
+pub all_are_counted : AllAreCounted
+all_are_counted words c d m n ends t r es start ops is section s found last out run =
+    command_counted is.names is.files c d is.cabinet t r es is.given section s last out run m ends.between n start is.before ops found is.flashes is.trail is.done words
+    is.command ends.command ends.told
+
+pub keys_have_run : KeysHaveRun
+keys_have_run files names t r es s given = run_exists (setting_of t r.titles) s es (tables_setting t r.titles given.tables.valid)

@@ -1,0 +1,179 @@
+-- What a power cut leaves of a call of vota keeps its votes
+use Rattle.std.proofs.Common.{◌≡◌, ◌⊎◌, inl, inr, ℕ, ◌+◌, ◌-◌, ◌<◌, ◌≤◌, List, [], ◌∷◌, ◌++◌, Option, Some, None, length, refl, sym, ap, subst, ◌∙◌, arith, append_assoc, length-append}
+use Rattle.std.specs.List.{concat}
+use Rattle.std.specs.Option.{option_and_then, option_map}
+use Rattle.std.proofs.lemmas.List.{append-nil, append_cancel_left}
+use Rattle.std.proofs.lemmas.List.Elements.{All-contains}
+use Rattle.urna_outside.specs.Flash.{Flashes, Op, Sync, after}
+use Rattle.urna_outside.specs.Stop.{AtEachStop, Left}
+use Rattle.urna_outside.specs.Told.{Told, Does}
+use Rattle.urna_outside.specs.declared.device.Dev.TheVariants as dev
+use Rattle.election_tables.specs.Roll.{RollData}
+use Rattle.election_tables.specs.TablesData.{IsSection, IsTables, TablesData}
+use Rattle.election_tables.specs.declared.tables.sections.Section.{Section}
+use Rattle.key_script.specs.declared.keys.Event.{Event}
+use Rattle.vote_kinds.specs.Ballot.{ballot_lines}
+use Rattle.image_codec.specs.CodecLaws.{Ballot}
+use Rattle.image_codec.specs.Decoded.{decoded}
+use Rattle.image_codec.specs.State.{State}
+use Rattle.image_codec.proofs.Decoding.{decoded_takes}
+use Rattle.image_codec.proofs.Growing.{also_none}
+use Rattle.state_store.specs.Calls.{AreFound, KeepFrames, both_synced}
+use Rattle.state_store.specs.Held.{held_alone, held_by_both}
+use Rattle.state_store.specs.Played.{Follows, IsSafe, IsStateOrNext, Survives}
+use Rattle.state_store.specs.Steps.{Step, commits_in, commits_reached, lines_in}
+use Rattle.state_store.specs.declared.load.Load.{Load}
+use Rattle.state_store.proofs.Counting.{only_state}
+use Rattle.station.specs.Cast.{ballots_of, fims_reached}
+use Rattle.station.specs.Output.{Output}
+use Rattle.station.specs.Run.{IsRun}
+use Rattle.station.specs.Setting.{setting_of}
+use Rattle.station.specs.Start.{opening, opening_line}
+use Rattle.station.specs.Text.{session_steps}
+use Rattle.station.proofs.Casting.{opening_other, run_shown}
+use Rattle.station.proofs.Fims.{AreShown, fims_none, fims_past}
+use Rattle.urna_app.specs.Headline.{HoldsShown, KeepsVotes, session_lines}
+
+-- ---- what is held
+
+held_roll : (t : TablesData) (voters : ℕ) (s : State) (body : Option (List ℕ)) → IsTables t → voters ≤ 600 → option_and_then (decoded t voters) body ≡ Some s → length s.came ≡ voters
+held_roll t voters s None tables few is = absurd (cc)
+held_roll t voters s (Some body) tables few is = (decoded_takes t voters body s tables few is).state.roll
+
+-- as many marks as the roll has voters
+pub found_roll : (t : TablesData) (r : RollData) (section : Section) (s : State) (flashes : Flashes) → IsTables t → AreFound t r section s flashes → length s.came ≡ length r.titles
+found_roll t r section s flashes tables found =
+    let is : IsSection section = All-contains IsSection t.sections section tables.sections found.loaded.section_fits.listed in
+    let few : length r.titles ≤ 600 = omega (arith, is.voters.1, found.loaded.section_fits.voters) in
+    held_roll t (length r.titles) s _ tables few found.held
+
+module _ (t : TablesData) (s : State) (ballots : List Ballot) where
+  holds : (states : List State) (c f : ℕ) (held : Option State) → AreShown (ballot_lines t) s ballots states c f → IsStateOrNext (s ∷ states) c held
+      → HoldsShown (ballot_lines t) s ballots f held
+  holds states c f None shown (some, which) = absurd (cc)
+  holds states c f (Some u) shown (some, inl is) =
+      let got = shown c u (inl refl) (sym is) in
+      record { state = u; is = refl; number = got.0; shown = got.1; cast = got.2; has = got.3 }
+  holds states c f (Some u) shown (some, inr is) =
+      let got = shown (c + 1) u (inr refl) (sym is) in
+      record { state = u; is = refl; number = got.0; shown = got.1; cast = got.2; has = got.3 }
+
+  holds_first : (f : ℕ) (held : Option State) → f ≡ 0 → held ≡ Some s → HoldsShown (ballot_lines t) s ballots f held
+  holds_first f held none is = record { state = s; is = is; number = 0; shown = inl (sym none); cast = omega arith; has = also_none (ballot_lines t) s }
+
+-- ---- what is left
+
+-- a text has no byte, or some
+pub text_cases : (bytes : List ℕ) → (bytes ≡ []) ⊎ (0 < length bytes)
+text_cases [] = inl refl
+text_cases (byte ∷ bytes) = inr (omega arith)
+
+module _ (t : TablesData) (r : RollData) (s : State) (start : Flashes) (lines : List (List ℕ)) (ballots : List Ballot) (left : Left) where
+  -- before the first byte
+  pub kept_silent : left.shown ≡ [] → held_by_both t (length r.titles) left.internal left.external ≡ Some s → KeepFrames start left → KeepsVotes t r s start lines ballots left
+  kept_silent none held frames =
+      record {
+        rest = concat lines;
+        front = ap (λ (l : List ℕ). l ++ concat lines) (sym none);
+        before = λ shown. held;
+        both = holds_first t s ballots (fims_reached lines (length left.shown)) (held_by_both t (length r.titles) left.internal left.external)
+            (ap (λ (l : List ℕ). fims_reached lines (length l)) none ∙ fims_none lines) held;
+        internal = λ some. absurd (omega (arith, ap length none, some));
+        external = λ some. absurd (omega (arith, ap length none, some));
+        frames = frames;
+      }
+
+module _ (t : TablesData) (r : RollData) (s last : State) (es : List Event) (out : List Output) (run : IsRun (setting_of t r.titles) s es last out) (roll : length s.came ≡ length r.titles) (load : Load)
+    (voters : load.section.voters ≡ length r.titles) (start : Flashes) (left : Left) where
+  abbrev steps : List Step
+  steps = opening t s ++ session_steps t out
+
+  abbrev lines : List (List ℕ)
+  lines = session_lines t s out
+
+  abbrev Kept : Type 0
+  Kept = KeepsVotes t r s start lines (ballots_of run) left
+
+  -- behind it, in a session
+  kept_shown : 0 < length left.shown → Follows t (length r.titles) s steps left → KeepFrames start left → Kept
+  kept_shown some follows frames =
+      let n : ℕ = length left.shown in
+      let shown = run_shown t r.titles roll run n in
+      let states = commits_in steps in
+      let c = commits_reached steps n in
+      let f = fims_reached lines n in
+      record {
+        rest = follows.rest;
+        front = follows.front;
+        before = λ none. absurd (omega (arith, ap length none, some));
+        both = holds t s (ballots_of run) states c f (held_by_both t (length r.titles) left.internal left.external) shown follows.both;
+        internal = λ _. holds t s (ballots_of run) states c f (held_alone t (length r.titles) left.internal) shown follows.internal;
+        external = λ _. holds t s (ballots_of run) states c f (held_alone t (length r.titles) left.external) shown follows.external;
+        frames = frames;
+      }
+
+  pub session_kept : Survives t load s steps start left → Kept
+  session_kept survives = elim (text_cases left.shown) [
+    | inl none ↦ kept_silent t r s start lines (ballots_of run) left none (subst (λ (k : ℕ). held_by_both t k left.internal left.external ≡ Some s) voters (survives.0 none)) survives.2
+    | inr some ↦ kept_shown some (subst (λ (k : ℕ). Follows t k s steps left) voters (survives.1 some)) survives.2
+  ]
+
+  -- in the opening line
+  kept_opening : 0 < length left.shown → Follows t (length r.titles) s (opening t s) left → KeepFrames start left → Kept
+  kept_opening some follows frames =
+      let n : ℕ = length left.shown in
+      let c = commits_reached (opening t s) n in
+      let more : List (List ℕ) = lines_in (session_steps t out) in
+      let line = opening_line t s in
+      let short : n - length (line ++ []) ≡ 0 = omega (arith, ap length follows.front, length-append left.shown follows.rest) in
+      let none : fims_reached lines n ≡ 0 =
+      fims_past (line ∷ []) more n (opening_other t s, tt) ∙ ap (λ (k : ℕ). fims_reached more k) short ∙ fims_none more in
+      let whole : concat lines ≡ left.shown ++ (follows.rest ++ concat more) =
+      ap (λ (l : List ℕ). l ++ concat more) (sym (append-nil line) ∙ follows.front) ∙ append_assoc left.shown follows.rest (concat more) in
+      record {
+        rest = follows.rest ++ concat more;
+        front = whole;
+        before = λ nothing. absurd (omega (arith, ap length nothing, some));
+        both = holds_first t s (ballots_of run) (fims_reached lines n) (held_by_both t (length r.titles) left.internal left.external) none
+            (only_state s c (held_by_both t (length r.titles) left.internal left.external) follows.both);
+        internal = λ _. holds_first t s (ballots_of run) (fims_reached lines n) (held_alone t (length r.titles) left.internal) none
+            (only_state s c (held_alone t (length r.titles) left.internal) follows.internal);
+        external = λ _. holds_first t s (ballots_of run) (fims_reached lines n) (held_alone t (length r.titles) left.external) none
+            (only_state s c (held_alone t (length r.titles) left.external) follows.external);
+        frames = frames;
+      }
+
+  pub opening_kept : Survives t load s (opening t s) start left → Kept
+  opening_kept survives = elim (text_cases left.shown) [
+    | inl none ↦ kept_silent t r s start lines (ballots_of run) left none (subst (λ (k : ℕ). held_by_both t k left.internal left.external ≡ Some s) voters (survives.0 none)) survives.2
+    | inr some ↦ kept_opening some (subst (λ (k : ℕ). Follows t k s (opening t s) left) voters (survives.1 some)) survives.2
+  ]
+
+-- ---- what was done
+
+module _ (m n : Told) (start : Flashes) (before rest : List Op) (flashes : m.flashes ≡ Some start) (trail : m.trail ≡ Some before)
+    (trailed : n.trail ≡ Some (before ++ (both_synced ++ rest))) where
+  -- these operations are those of the trail
+  pub trail_is : (ops : List Op) → Does ops m n → ops ≡ both_synced ++ rest
+  trail_is ops does =
+      let one : n.trail ≡ Some (before ++ ops) = does.trail ∙ ap (option_map (λ (l : List Op). l ++ ops)) trail in
+      let same : before ++ ops ≡ before ++ (both_synced ++ rest) = cc in
+      append_cancel_left before ops (both_synced ++ rest) same
+
+  pub behind_is : (ops behind : List Op) → Does ops m n → ops ≡ both_synced ++ behind → behind ≡ rest
+  behind_is ops behind does is = append_cancel_left both_synced behind rest (sym is ∙ trail_is ops does)
+
+  -- what holds of a safe call holds at the stops of the trail
+  pub safe_stops : (t : TablesData) (load : Load) (s : State) (steps : List Step) → IsSafe t load s steps m n
+      → AtEachStop (after both_synced start) rest (Survives t load s steps start)
+  safe_stops t load s steps safe =
+      subst (λ (l : List Op). AtEachStop (after both_synced start) l (Survives t load s steps start)) (behind_is safe.0 safe.2.0 safe.1 safe.2.1) (safe.2.2 start flashes)
+
+  pub not_done : Does [] m n → ⊥
+  not_done does = let is = trail_is [] does in absurd (cc)
+
+  pub not_within : Does (Sync dev.Internal ∷ []) m n → ⊥
+  not_within does =
+      let is = trail_is (Sync dev.Internal ∷ []) does in
+      let long : 1 ≡ length (both_synced ++ rest) = ap length is in
+      absurd (omega arith)

@@ -1,0 +1,84 @@
+-- What carga leaves is a poll before it begins
+use Rattle.std.proofs.Common.{◌≡◌, ℕ, List, [], ◌∷◌, Option, Some, length, refl, sym, ap, subst, ◌∙◌}
+use Rattle.urna_outside.specs.Cabinet.{CabinetTold, Files}
+use Rattle.urna_outside.specs.Flash.{Flashes}
+use Rattle.urna_outside.specs.ShownLines.{shows}
+use Rattle.urna_outside.specs.Told.{Told}
+use Rattle.urna_outside.specs.declared.device.Dev.TheVariants as dev
+use Rattle.urna_outside.proofs.Showing.{shows_keep}
+use Rattle.urna_outside.proofs.ShowingLines.{shows_lines}
+use Rattle.election_tables.specs.Roll.{IsRoll, IsRollOf, RollData}
+use Rattle.election_tables.specs.Tables.{IsReadAs}
+use Rattle.election_tables.specs.TablesData.{TablesData}
+use Rattle.election_tables.specs.declared.tables.sections.Section.{Section}
+use Rattle.election_tables.proofs.Determined.{roll_determined, roll_is, tables_determined}
+use Rattle.image_codec.specs.Valid.{ready_state}
+use Rattle.image_codec.proofs.OfTables.{of_tables-ready_state}
+use Rattle.state_store.specs.Calls.{AreFound}
+use Rattle.state_store.specs.Laws.{AreWhole}
+use Rattle.state_store.specs.declared.store.LoadError.{LoadError}
+use Rattle.state_store.specs.declared.store.LoadError.TheVariants as load
+use Rattle.state_store.proofs.Loaded.{rest_found, rest_whole}
+use Rattle.urna_app.specs.Command.{Carga, carga_of}
+use Rattle.urna_app.specs.Ending.{CargaEnds, CommandEnds, HasLoaded, IsAsked, IsGivenLoad, IsRefusedLoad, carga, load_no_cabinet, load_no_memory, load_refused, load_status, loaded, loaded_line, no_section, not_loaded, not_told, vota}
+use Rattle.urna_app.specs.Headline.{LoadBeginsDay}
+use Rattle.urna_app.specs.declared.status.Doc.TheVariants as doc
+use Rattle.urna_app.specs.declared.status.Status.{Status}
+use Rattle.urna_app.specs.declared.status.Status.TheVariants as status
+use Rattle.urna_app.proofs.Headline.{one_command}
+use Rattle.urna_app.proofs.Once.{refused_or_given_load, same_bytes}
+
+load_given_once : (files : Files) (names : Carga) (t u : TablesData) (r q : RollData) → IsGivenLoad (Some files) names t r → IsGivenLoad (Some files) names u q → (t ≡ u) × (r ≡ q)
+load_given_once files names t u r q a b =
+    let one = same_bytes files doc.Tables names.tables a.tables.bytes b.tables.bytes a.tables.taken b.tables.taken in
+    let two = same_bytes files doc.Roll names.roll a.roll.bytes b.roll.bytes a.roll.taken b.roll.taken in (
+      tables_determined b.tables.bytes t u (subst (λ (x : List ℕ). IsReadAs x t) one a.tables.read) b.tables.read,
+      roll_determined b.roll.bytes r q (subst (λ (x : List ℕ). IsRollOf x r) two a.roll.read) b.roll.read,
+    )
+
+error_not_done : (e : LoadError) → load_status e ≡ status.Done → ⊥
+error_not_done load.Memory is = absurd (cc)
+error_not_done (load.Flash dev.Internal) is = absurd (cc)
+error_not_done (load.Flash dev.External) is = absurd (cc)
+error_not_done (load.Busy d) is = absurd (cc)
+
+module _ (files : Files) (names : Carga) (c d : CabinetTold) (told : c.files ≡ Some files) (t : TablesData) (r : RollData) (given : IsGivenLoad (Some files) names t r) (m b : Told)
+    (start : Flashes) (flashes : b.flashes ≡ Some start) where
+  abbrev Begins : Type 0
+  Begins = (section : Section) × AreWhole start × AreFound t r section (ready_state t (length r.titles)) start
+
+  begins : (section : Section) (between : Told) → IsAsked names t r section → HasLoaded t r section m between → between.flashes ≡ Some start → Begins
+  begins section between asked done there =
+      let rest = done.rest start there in
+      let roll : IsRoll r = roll_is given.roll.bytes r given.roll.read in
+      let of = of_tables-ready_state t (length r.titles) in (
+        section,
+        rest_whole t r section (ready_state t (length r.titles)) start given.tables.valid roll asked.fits of rest,
+        rest_found t r section (ready_state t (length r.titles)) start given.tables.valid roll asked.fits of rest,
+      )
+
+  carga_begins : (answer : Status) → answer ≡ status.Done → CargaEnds names c d m b answer → Begins
+  carga_begins answer ok (load_refused bad taken un) =
+      absurd (refused_or_given_load files names answer t r (subst (λ (o : Option Files). IsRefusedLoad o names answer) told bad) given)
+  carga_begins _ ok (load_no_memory taken un) = absurd (cc)
+  carga_begins _ ok (load_no_cabinet taken un) = absurd (cc)
+  carga_begins _ ok (no_section also none taken un) = absurd (cc)
+  carga_begins _ ok (not_loaded e also asked taken h) = absurd (error_not_done e ok)
+  carga_begins _ ok (not_told between also asked taken h off) = absurd (cc)
+  carga_begins _ ok (loaded {t = u} {r = q} {section} between also asked taken h shown) =
+      let one = load_given_once files names u t q r (subst (λ (o : Option Files). IsGivenLoad o names u q) told also) given in
+      let there : between.flashes ≡ Some start =
+      sym (shows_keep (shows (loaded_line section ∷ [])) between b (shows_lines (loaded_line section ∷ [])).shows shown.does) ∙ flashes in
+      let asked_here = subst (λ (x : TablesData). IsAsked names x r section) one.0 (subst (λ (x : RollData). IsAsked names u x section) one.1 asked) in
+      let done_here = subst (λ (x : TablesData). HasLoaded x r section m between) one.0 (subst (λ (x : RollData). HasLoaded u x section m between) one.1 h) in
+      begins section between asked_here done_here there
+
+  pub command_begins : (words : List (List ℕ)) → carga_of words ≡ Some names → CommandEnds words c d m b status.Done → Begins
+  command_begins words is (vota {names = other} that h) = absurd (one_command words other names that is)
+  command_begins words is (carga {names = other} that h) =
+      let same : other ≡ names = cc in
+      carga_begins status.Done refl (subst (λ (x : Carga). CargaEnds x c d m b status.Done) same h)
+
+pub load_begins_day : LoadBeginsDay
+load_begins_day words c d m n ends names files t r is told given start flashes =
+    command_begins files names c d told t r given m ends.between start (ap (λ (x : Told). x.flashes) (sym ends.told) ∙ flashes) words is ends.command
