@@ -17,5 +17,6 @@ pub mod Loaded
 pub mod OfTables
 mod Counting
 pub mod Growing
+mod Parts
 mod AddChoices
 mod Rows

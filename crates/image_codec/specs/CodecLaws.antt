@@ -5,7 +5,7 @@ use Rattle.election_tables.specs.TablesData.{TablesData, IsTables, places_at}
 use Rattle.vote_kinds.specs.declared.choice.Choice.{Choice}
 use Rattle.vote_kinds.specs.Ballot.{BallotLine, ballot_lines, is_choice, line_of}
 use Rattle.vote_record.specs.Bag.{bag_at, count_of}
-use Rattle.turnout.specs.Turnout.{number_came}
+use Rattle.turnout.specs.Turnout.{has_come, number_came}
 use Rattle.image_codec.specs.State.{State, opened_at, with_ballot, sealed_at, MayVote, IsBallot}
 use Rattle.image_codec.specs.Valid.{ready_state, MayClose}
 use Rattle.image_codec.specs.Encoding.{IsStateOf, IsEncoding, encode, written}
@@ -70,3 +70,11 @@ with_ballots lines s (b ∷ ballots) = with_ballots lines (with_ballot lines s b
 abbrev pub IsInAnyOrder : Type 0
 IsInAnyOrder = (lines : List BallotLine) (s : State) (ballots others : List Ballot) → IsPermutation ballots others
     → encode (with_ballots lines s ballots) ≡ encode (with_ballots lines s others)
+
+-- A state of some tables is known by its phase, by who came, and by how many votes each choice has in each panel. So however the
+-- votes came, and with whatever voter, the encoding is the same.
+abbrev pub IsKnownByVotes : Type 0
+IsKnownByVotes = (t : TablesData) (voters : ℕ) (s u : State) → IsStateOf t voters s → IsStateOf t voters u → s.phase ≡ u.phase
+    → ((place : ℕ) → has_come s.came place ≡ has_come u.came place)
+    → ((panel : ℕ) (c : Choice) → panel < length t.panels → count_of c (bag_at s.bags panel) ≡ count_of c (bag_at u.bags panel))
+    → (s ≡ u) × (encode s ≡ encode u)

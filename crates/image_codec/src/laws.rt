@@ -1,6 +1,6 @@
 //! What is so of the steps of a poll and of its encodings. Each function here does nothing: its contract is the law.
 ghost use Rattle.image_codec.specs.Laws.{CountsEachLine, ComeInEitherOrder, OpeningRises, BallotRises, SealingRises, ReadyIsValid, OpeningKeeps, BallotKeeps, SealingKeeps};
-ghost use Rattle.image_codec.specs.CodecLaws.{IsDecodedExactly, IsOneState, HasRoomInBody, IsBodyLong, IsInAnyOrder, HasBagOfEachPanel, HasAllVotes, HasNoOtherVotes};
+ghost use Rattle.image_codec.specs.CodecLaws.{IsDecodedExactly, IsOneState, HasRoomInBody, IsBodyLong, IsInAnyOrder, IsKnownByVotes, HasBagOfEachPanel, HasAllVotes, HasNoOtherVotes};
 ghost use Rattle.image_codec.specs.CodecLaws.{ReadyIsOfTables, OpeningStaysOfTables, BallotStaysOfTables, SealingStaysOfTables};
 
 /// A ballot counts each of its lines once, the choices of two voters may come in either order, and each step leads to a greater
@@ -42,7 +42,9 @@ pub fn codec()
     ensures body { IsBodyLong }
 {}
 
-/// In whatever order the voters came, the encoding is the same.
+/// In whatever order the voters came, the encoding is the same. It tells who came and how many votes each choice has, and nothing of
+/// which voter chose what.
 pub fn order()
-    ensures { IsInAnyOrder }
+    ensures order { IsInAnyOrder }
+    ensures votes { IsKnownByVotes }
 {}

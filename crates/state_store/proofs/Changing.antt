@@ -1,24 +1,25 @@
 -- What a commit does to the states, and flashes at rest after it.
-use Rattle.std.proofs.Common.{◌≡◌, inl, inr, ℕ, ◌<◌, ◌≤◌, Option, Some, List, length, option_map, option_and_then, sym, ap, subst, ◌∙◌, arith}
+use Rattle.std.proofs.Common.{◌≡◌, ℕ, ◌<◌, ◌≤◌, Option, Some, List, length, option_map, sym, ap, subst, ◌∙◌, arith}
 use Rattle.std.specs.Option.{ForSome}
 use Rattle.urna_outside.specs.Flash.{Flashes, flash_of, after}
 use Rattle.urna_outside.specs.Stop.{Left}
 use Rattle.urna_outside.specs.Told.{Told, Runs, AreSized}
 use Rattle.urna_outside.proofs.Doing.{then_told}
-use Rattle.twin_image.specs.Held.{IsEither as IsEitherBody, LeavesEither, Outranks}
+use Rattle.twin_image.specs.Held.{Outranks}
 use Rattle.twin_image.specs.Level.{CommitsTo, HasTokens, IsLevel, Stands, body_of}
 use Rattle.twin_image.specs.declared.level.Level.{Level}
 use Rattle.twin_image.specs.Slots.{SlotCourse}
 use Rattle.election_tables.specs.TablesData.{IsTables, TablesData}
-use Rattle.image_codec.specs.Decoded.{decoded, rank_in}
+use Rattle.image_codec.specs.Decoded.{rank_in}
 use Rattle.image_codec.specs.Encoding.{IsEncoding, IsStateOf, encode}
 use Rattle.image_codec.specs.State.{State, rank_of}
-use Rattle.state_store.specs.Calls.{Commits, HoldEither, IsEither}
+use Rattle.state_store.specs.Calls.{Commits}
 use Rattle.state_store.specs.Load.{header}
 use Rattle.state_store.specs.Rest.{AreAtRest, body_size}
 use Rattle.state_store.specs.Store.{AreDevices, Keeps, StoreData}
 use Rattle.state_store.specs.declared.load.Load.{Load}
-use Rattle.state_store.proofs.Resting.{IsKnown, frames_at_end}
+use Rattle.state_store.proofs.Holding.{IsKnown, hold_either}
+use Rattle.state_store.proofs.Resting.{frames_at_end}
 use Rattle.state_store.proofs.Standing.{AreFramed, level_rests, rest_framed, stands_again}
 use Rattle.state_store.proofs.Stored.{known_state, long_state}
 use Rattle.twin_image.proofs.Laid.{frame_kept}
@@ -42,28 +43,15 @@ outranks t voters s u s_known u_known below =
       below = below;
     }
 
--- what holds one of two encodings holds one of the two states
-either_state : (t : TablesData) (voters : ℕ) (s u : State) (body : Option (List ℕ)) → IsKnown t voters s → IsKnown t voters u → IsEitherBody (encode s) (encode u) body → IsEither s u (option_and_then (decoded t voters) body)
-either_state t voters s u body s_known u_known (inl is) = inl (ap (option_and_then (decoded t voters)) is ∙ s_known)
-either_state t voters s u body s_known u_known (inr is) = inr (ap (option_and_then (decoded t voters)) is ∙ u_known)
-
-hold_either : (t : TablesData) (voters : ℕ) (s u : State) (left : Left) → IsKnown t voters s → IsKnown t voters u → LeavesEither (rank_in t voters) body_size (encode s) (encode u) left → HoldEither t voters s u left
-hold_either t voters s u left s_known u_known leaves =
-    record {
-      both = either_state t voters s u _ s_known u_known leaves.both;
-      internal = either_state t voters s u _ s_known u_known leaves.internal;
-      external = either_state t voters s u _ s_known u_known leaves.external;
-    }
-
 -- a commit of encodings is one of states
-pub commits : (t : TablesData) (voters : ℕ) (s u : State) (a b : Told) → IsKnown t voters s → IsKnown t voters u → Runs (CommitsTo a (rank_in t voters) body_size (encode s) (encode u)) a b → Runs (Commits t voters s u a) a b
-commits t voters s u a b s_known u_known run = (
+pub commits : (t : TablesData) (voters : ℕ) (s u : State) (a b : Told) → IsTables t → voters ≤ 600 → IsKnown t voters s → IsKnown t voters u → Runs (CommitsTo a (rank_in t voters) body_size (encode s) (encode u)) a b → Runs (Commits t voters s u a) a b
+commits t voters s u a b tables few s_known u_known run = (
   run.0,
   run.1,
   record {
     slots = record { within = run.2.within; syncs = run.2.syncs };
     stops = λ start told done stop left is. (
-      hold_either t voters s u left s_known u_known (run.2.stops start told done stop left is),
+      hold_either t voters tables few s u s_known u_known left (run.2.stops start told done stop left is),
       run.2.frames start told done stop left is,
     );
   },
@@ -149,7 +137,7 @@ module _ (t tables : TablesData) (voters count : ℕ) (s u : State) (old new : L
 
     -- at each stop one of the states is held
     pub followed_commits : Runs (Commits t voters s u a) a b
-    followed_commits = commits t voters s u a b old_known new_known moved
+    followed_commits = commits t voters s u a b is.whole few_voters old_known new_known moved
 
     -- and where all is level at the end, the flashes are at rest with the second
     pub followed_rests : (load : Load) → AreDevices a.sizes → ForSome a.flashes (AreSized a.sizes) → ForSome b.flashes (AreSized b.sizes) → ForSome a.flashes (AreAtRest load s) → ForSome b.flashes (IsLevel body_size new) → ForSome b.flashes (AreAtRest load u)

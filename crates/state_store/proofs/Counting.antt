@@ -139,44 +139,38 @@ get_more (x ∷ states) more zero v is = is
 get_more (x ∷ states) more (suc k) v is = get_more states more k v is
 
 -- among more states
-pub state_or_next_more : (states more : List State) (c : ℕ) (held : Option State) → IsStateOrNext states c held → IsStateOrNext (states ++ more) c held
-state_or_next_more states more c None is = absurd (cc)
-state_or_next_more states more c (Some v) is = (refl, go is.1)
-  where
-    go : (Some v ≡ slice_get states c) ⊎ (Some v ≡ slice_get states (c + 1)) → (Some v ≡ slice_get (states ++ more) c) ⊎ (Some v ≡ slice_get (states ++ more) (c + 1))
-    go (inl same) = inl (sym (get_more states more c v (sym same)))
-    go (inr same) = inr (sym (get_more states more (c + 1) v (sym same)))
+pub state_or_next_more : (states more : List State) (c : ℕ) (held : State → Type 0) → IsStateOrNext states c held → IsStateOrNext (states ++ more) c held
+state_or_next_more states more c held (u, is, inl same) = (u, is, inl (get_more states more c u same))
+state_or_next_more states more c held (u, is, inr same) = (u, is, inr (get_more states more (c + 1) u same))
 
 -- among the states of more steps
-pub state_or_next_before : (s : State) (xs ys : List Step) (c : ℕ) (held : Option State) → IsStateOrNext (s ∷ commits_in xs) c held → IsStateOrNext (s ∷ commits_in (xs ++ ys)) c held
+pub state_or_next_before : (s : State) (xs ys : List Step) (c : ℕ) (held : State → Type 0) → IsStateOrNext (s ∷ commits_in xs) c held → IsStateOrNext (s ∷ commits_in (xs ++ ys)) c held
 state_or_next_before s xs ys c held is =
     subst (λ (l : List State). IsStateOrNext (s ∷ l) c held) (sym (commits_in-append xs ys)) (state_or_next_more (s ∷ commits_in xs) (commits_in ys) c held is)
 
 -- by its number from the state before the first steps
-pub state_or_next_after : (s : State) (xs ys : List Step) (c : ℕ) (held : Option State) → IsStateOrNext (state_after s xs ∷ commits_in ys) c held → IsStateOrNext (s ∷ commits_in (xs ++ ys)) (length (commits_in xs) + c) held
-state_or_next_after s xs ys c held is =
-    subst (λ (l : List State). IsStateOrNext (s ∷ l) (length (commits_in xs) + c) held) (sym (commits_in-append xs ys)) (is.0, go is.1)
+pub state_or_next_after : (s : State) (xs ys : List Step) (c : ℕ) (held : State → Type 0) → IsStateOrNext (state_after s xs ∷ commits_in ys) c held → IsStateOrNext (s ∷ commits_in (xs ++ ys)) (length (commits_in xs) + c) held
+state_or_next_after s xs ys c held (u, is, which) =
+    subst (λ (l : List State). IsStateOrNext (s ∷ l) (length (commits_in xs) + c) held) (sym (commits_in-append xs ys)) (u, is, go which)
   where
-    go : (held ≡ slice_get (state_after s xs ∷ commits_in ys) c) ⊎ (held ≡ slice_get (state_after s xs ∷ commits_in ys) (c + 1))
-        → (held ≡ slice_get (s ∷ (commits_in xs ++ commits_in ys)) (length (commits_in xs) + c)) ⊎ (held ≡ slice_get (s ∷ (commits_in xs ++ commits_in ys)) (length (commits_in xs) + c + 1))
-    go (inl same) = inl (same ∙ sym (states_after s xs (commits_in ys) c))
+    go : (slice_get (state_after s xs ∷ commits_in ys) c ≡ Some u) ⊎ (slice_get (state_after s xs ∷ commits_in ys) (c + 1) ≡ Some u)
+        → (slice_get (s ∷ (commits_in xs ++ commits_in ys)) (length (commits_in xs) + c) ≡ Some u) ⊎ (slice_get (s ∷ (commits_in xs ++ commits_in ys)) (length (commits_in xs) + c + 1) ≡ Some u)
+    go (inl same) = inl (states_after s xs (commits_in ys) c ∙ same)
     go (inr same) =
-        let number : length (commits_in xs) + (c + 1) ≡ length (commits_in xs) + c + 1 = omega arith in
-        inr (same ∙ sym (states_after s xs (commits_in ys) (c + 1)) ∙ ap (λ (j : ℕ). slice_get (s ∷ (commits_in xs ++ commits_in ys)) j) number)
+        let number : length (commits_in xs) + c + 1 ≡ length (commits_in xs) + (c + 1) = omega arith in
+        inr (ap (λ (j : ℕ). slice_get (s ∷ (commits_in xs ++ commits_in ys)) j) number ∙ states_after s xs (commits_in ys) (c + 1) ∙ same)
 
 -- the only state
-pub only_state : (s : State) (c : ℕ) (held : Option State) → IsStateOrNext (s ∷ []) c held → held ≡ Some s
-only_state s c None is = absurd (cc)
-only_state s c (Some v) (some, inl is) = go c (Some v) some is
+pub only_state : (s : State) (c : ℕ) (held : State → Type 0) → IsStateOrNext (s ∷ []) c held → held s
+only_state s c held (u, is, inl same) = go c same
   where
-    go : (c : ℕ) (held : Option State) → IsSome held → held ≡ slice_get (s ∷ []) c → held ≡ Some s
-    go zero held some is = is
-    go (suc c) None some is = absurd (cc)
-    go (suc c) (Some v) some is = absurd (cc)
-only_state s c (Some v) (some, inr is) = absurd (past is)
+    go : (c : ℕ) → slice_get (s ∷ []) c ≡ Some u → held s
+    go zero same = let one : u ≡ s = cc in subst held one is
+    go (suc c) same = absurd (cc)
+only_state s c held (u, is, inr same) = absurd (past same)
   where
-    past : Some v ≡ slice_get (s ∷ []) (c + 1) → ⊥
-    past is = let same : c + 1 ≡ suc c = omega arith in let none : Some v ≡ None = is ∙ ap (λ (j : ℕ). slice_get (s ∷ []) j) same in cc
+    past : slice_get (s ∷ []) (c + 1) ≡ Some u → ⊥
+    past same = let number : c + 1 ≡ suc c = omega arith in let none : None ≡ Some u = ap (λ (j : ℕ). slice_get (s ∷ []) j) (sym number) ∙ same in cc
 
 -- Lines that tell no state
 

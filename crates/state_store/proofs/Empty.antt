@@ -1,17 +1,20 @@
 -- Flashes on which no slot stands.
-use Rattle.std.proofs.Common.{◌≡◌, ℕ, None, List, ◌++◌, option_and_then, ap, ◌∙◌}
+use Rattle.std.proofs.Common.{◌≡◌, ℕ, ◌≤◌, None, List, ◌++◌, ap, ◌∙◌}
 use Rattle.urna_outside.specs.Flash.{Flashes}
 use Rattle.urna_outside.specs.declared.device.Dev.TheVariants.{Internal, External}
 use Rattle.twin_image.specs.Held.{NoneStands, bodies_on, held_body}
-use Rattle.election_tables.specs.TablesData.{TablesData}
-use Rattle.image_codec.specs.Decoded.{decoded, rank_in}
-use Rattle.state_store.specs.Held.{held_by_both}
+use Rattle.election_tables.specs.TablesData.{IsTables, TablesData}
+use Rattle.image_codec.specs.Decoded.{rank_in}
+use Rattle.state_store.specs.Held.{HeldByNone, bodies_of_both}
 use Rattle.state_store.specs.Rest.{body_size}
+use Rattle.state_store.proofs.Holding.{both_ranked, found_none}
 
 -- they hold no state
-pub none_held : (t : TablesData) (voters : ℕ) (flashes : Flashes) → NoneStands (rank_in t voters) body_size flashes → held_by_both t voters flashes.internal.content flashes.external.content ≡ None
-none_held t voters flashes none =
+pub none_held : (t : TablesData) (voters : ℕ) (flashes : Flashes) → IsTables t → voters ≤ 600 → NoneStands (rank_in t voters) body_size flashes
+    → HeldByNone t voters flashes.internal.content flashes.external.content
+none_held t voters flashes tables few none =
     let rank = rank_in t voters in
-    let external = bodies_on rank body_size flashes.external.content in
-    ap (λ (bodies : List (List ℕ)). option_and_then (decoded t voters) (held_body rank (bodies ++ external))) (none Internal)
-    ∙ ap (λ (bodies : List (List ℕ)). option_and_then (decoded t voters) (held_body rank bodies)) (none External)
+    let internal = flashes.internal.content in
+    let external = flashes.external.content in
+    found_none t voters tables few (bodies_of_both internal external) _ (both_ranked t voters internal external)
+    (ap (λ (bodies : List (List ℕ)). held_body rank (bodies ++ bodies_on rank body_size external)) (none Internal) ∙ ap (held_body rank) (none External))

@@ -1,25 +1,29 @@
 -- What is found on two flashes is one, and what a power cut leaves is a poll again.
-use Rattle.std.proofs.Common.{◌≡◌, inl, inr, ℕ, ◌+◌, List, [], ◌∷◌, Option, Some, None, length, refl, sym, ap, subst, ◌∙◌, arith}
+use Rattle.std.proofs.Common.{◌≡◌, inl, inr, ℕ, ◌+◌, ◌≤◌, List, [], ◌∷◌, Some, length, refl, sym, ap, subst, ◌∙◌, arith}
 use Rattle.std.specs.Prelude.{Contains, slice_get}
 use Rattle.std.proofs.lemmas.Option.{get_or_from_slice_get, slice_get_within}
-use Rattle.std.proofs.lemmas.List.Elements.{Contains-get_or}
-use Rattle.urna_outside.specs.Flash.{Flashes, part}
+use Rattle.std.proofs.lemmas.List.Elements.{All-contains, Contains-get_or}
+use Rattle.urna_outside.specs.Flash.{Flash, Flashes, IsImage, Op, Sync, after, after_one, part, shown_by, synced}
 use Rattle.urna_outside.specs.Started.{clean_flashes}
-use Rattle.urna_outside.specs.Stop.{Left}
+use Rattle.urna_outside.specs.Stop.{IsLeft, IsStop, Left}
+use Rattle.urna_outside.specs.declared.device.Dev.{Dev}
 use Rattle.urna_outside.specs.declared.device.Dev.TheVariants.{Internal, External}
 use Rattle.election_tables.specs.Roll.{RollData}
-use Rattle.election_tables.specs.TablesData.{IsTables, TablesData}
+use Rattle.election_tables.specs.TablesData.{IsSection, IsTables, TablesData}
 use Rattle.election_tables.specs.declared.tables.sections.Section.{Section}
 use Rattle.image_codec.specs.State.{State}
 use Rattle.twin_image.proofs.Laid.{frame_kept}
-use Rattle.state_store.specs.Calls.{AreFound, KeepFrames}
-use Rattle.state_store.specs.Held.{HasFrameOf, held_by_both}
-use Rattle.state_store.specs.Laws.{AreWhole, ForeignOnce, IsPollOf, LoadedOnce, LoadedOrForeign, RecoveryGoesOn, SessionGoesOn}
+use Rattle.state_store.specs.Calls.{AreFound, KeepFrames, both_synced}
+use Rattle.state_store.specs.Held.{HasFrameOf, HeldByBoth, bodies_of_both}
+use Rattle.state_store.specs.Laws.{AreWhole, EndGoesOn, ForeignOnce, IsPollOf, LoadedOnce, LoadedOrForeign, RecoveryGoesOn, SessionGoesOn, SyncsLeaveNoMore}
 use Rattle.state_store.specs.Load.{IsSectionOf, header, load_of}
-use Rattle.state_store.specs.Played.{IsStateOrNext}
+use Rattle.state_store.specs.Played.{IsStateOrNext, Survives}
 use Rattle.state_store.specs.Rest.{body_size}
 use Rattle.state_store.specs.Steps.{commits_in}
+use Rattle.state_store.proofs.Holding.{one_held}
 use Rattle.state_store.proofs.Named.{named_there}
+use Rattle.state_store.proofs.Resting.{at_end}
+use Rattle.urna_outside.proofs.Keeping.{synced_clean}
 
 -- the internal frame is that of one section
 one_section : (t : TablesData) (r : RollData) (section other : Section) (internal : List ℕ) → IsTables t → IsSectionOf t r section → IsSectionOf t r other
@@ -44,9 +48,21 @@ loaded_or_foreign t r section External internal external tables loaded (other, f
 pub foreign_once : ForeignOnce
 foreign_once t r internal external none (section, fits, frame, differs) = none section fits frame
 
+-- a poll that is found has at most 600 voters
+pub found_few : (t : TablesData) (r : RollData) (section : Section) (s : State) (flashes : Flashes) → IsTables t → AreFound t r section s flashes → length r.titles ≤ 600
+found_few t r section s flashes tables found =
+    let is : IsSection section = All-contains IsSection t.sections section tables.sections found.loaded.section_fits.listed in
+    omega (arith, is.voters.1, found.loaded.section_fits.voters)
+
+-- and one state is found
+pub found_once : (t : TablesData) (r : RollData) (section : Section) (s u : State) (flashes : Flashes) → IsTables t → AreFound t r section s flashes
+    → HeldByBoth t (length r.titles) flashes.internal.content flashes.external.content u → u ≡ s
+found_once t r section s u flashes tables found also =
+    one_held t (length r.titles) tables (found_few t r section s flashes tables found) (bodies_of_both flashes.internal.content flashes.external.content) u s also found.held
+
 -- the frames stay those of the load
 module _ (t : TablesData) (r : RollData) (section : Section) (s u : State) (states : List State) (start : Flashes) (left : Left) (whole : AreWhole start) (found : AreFound t r section s start)
-    (keeps : KeepFrames start left) (held : held_by_both t (length r.titles) left.internal left.external ≡ Some u) (one : Contains states u) where
+    (keeps : KeepFrames start left) (held : HeldByBoth t (length r.titles) left.internal left.external u) (one : Contains states u) where
   whole_left : AreWhole (clean_flashes left.internal left.external)
   whole_left Internal = (keeps Internal).same_length ∙ whole Internal
   whole_left External = (keeps External).same_length ∙ whole External
@@ -76,10 +92,9 @@ got : (states : List State) (k : ℕ) (u : State) → slice_get states k ≡ Som
 got states k u is =
     subst (Contains states) (get_or_from_slice_get states k u u is) (Contains-get_or states k u (slice_get_within states k u is))
 
-next_held : (states : List State) (k : ℕ) (held : Option State) → IsStateOrNext states k held → (u : State) × (held ≡ Some u) × Contains states u
-next_held states k None (is, which) = absurd (cc)
-next_held states k (Some u) (is, inl this) = (u, refl, got states k u (sym this))
-next_held states k (Some u) (is, inr next) = (u, refl, got states (k + 1) u (sym next))
+next_held : (states : List State) (k : ℕ) (held : State → Type 0) → IsStateOrNext states k held → (u : State) × held u × Contains states u
+next_held states k held (u, is, inl this) = (u, is, got states k u this)
+next_held states k held (u, is, inr next) = (u, is, got states (k + 1) u next)
 
 pub session_goes_on : SessionGoesOn
 session_goes_on t r section s steps start left whole found survives = go left.shown refl
@@ -90,12 +105,12 @@ session_goes_on t r section s steps start left whole found survives = go left.sh
     states : List State
     states = s ∷ commits_in steps
 
-    held_now : (n : ℕ) → Option State
-    held_now n = held_by_both t n left.internal left.external
+    held_now : (n : ℕ) → State → Type 0
+    held_now n u = HeldByBoth t n left.internal left.external u
 
-    end : (u : State) → held_now section.voters ≡ Some u → Contains states u → IsPollOf t r section states left
+    end : (u : State) → held_now section.voters u → Contains states u → IsPollOf t r section states left
     end u held one =
-        poll_left t r section s u states start left whole found survives.2 (subst (λ (n : ℕ). held_now n ≡ Some u) fits held) one
+        poll_left t r section s u states start left whole found survives.2 (subst (λ (n : ℕ). held_now n u) fits held) one
 
     go : (shown : List ℕ) → left.shown ≡ shown → IsPollOf t r section states left
     go [] none = end s (survives.0 none) (Contains-get_or states 0 s (omega arith))
@@ -103,3 +118,45 @@ session_goes_on t r section s steps start left whole found survives = go left.sh
         let follows = survives.1 (omega (arith, ap length some)) in
         let next = next_held states _ (held_now section.voters) follows.both in
         end next.0 next.1 next.2
+
+-- ---- where a session ends
+
+pub end_goes_on : EndGoesOn
+end_goes_on t r section s steps start ops whole found survives =
+    let mid = after both_synced start in
+    let end = after ops mid in
+    let left : Left = record { internal = end.internal.content; external = end.external.content; shown = shown_by ops } in
+    let poll = session_goes_on t r section s steps start left whole found (at_end mid ops (Survives t (load_of t r section) s steps start) survives) in (
+      poll.state,
+      poll.one,
+      whole_end end poll.whole,
+      record { loaded = poll.found.loaded; held = poll.found.held },
+    )
+  where
+    whole_end : (end : Flashes) → AreWhole (clean_flashes end.internal.content end.external.content) → AreWhole end
+    whole_end end is Internal = is Internal
+    whole_end end is External = is External
+
+-- ---- before the second sync
+
+-- a sync takes images away, and adds none
+synced_image : (f : Flash) (image : List ℕ) → IsImage (synced f) image → IsImage f image
+synced_image f image is = record { same_length = is.same_length; clean = λ k clean. is.clean k (synced_clean f k) }
+
+sync_leaves : (d : Dev) (flashes : Flashes) (text : List ℕ) (left : Left) → IsLeft (after_one (Sync d) flashes) text left → IsLeft flashes text left
+sync_leaves Internal flashes text left is = record { internal = synced_image flashes.internal left.internal is.internal; external = is.external; shown = is.shown }
+sync_leaves External flashes text left is = record { internal = is.internal; external = synced_image flashes.external left.external is.external; shown = is.shown }
+
+within_second : (flashes : Flashes) (done : List Op) (left : Left) → IsStop (Sync External ∷ []) done → IsLeft (after done flashes) (shown_by done) left → IsLeft flashes [] left
+within_second flashes [] left stop is = is
+within_second flashes (one ∷ []) left (inl whole) is =
+    sync_leaves External flashes [] left (subst (λ (op : Op). IsLeft (after_one op flashes) (shown_by (op ∷ [])) left) whole.0 is)
+within_second flashes (one ∷ two ∷ done) left (inl whole) is = absurd whole.1
+within_second flashes (one ∷ done) left (inr part) is = absurd part.0
+
+pub syncs_leave_no_more : SyncsLeaveNoMore
+syncs_leave_no_more start [] left stop is = is
+syncs_leave_no_more start (one ∷ done) left (inl whole) is =
+    sync_leaves Internal start [] left
+    (within_second (after_one (Sync Internal) start) done left whole.1 (subst (λ (op : Op). IsLeft (after done (after_one op start)) (shown_by (op ∷ done)) left) whole.0 is))
+syncs_leave_no_more start (one ∷ done) left (inr part) is = absurd part.0

@@ -3,6 +3,7 @@ pub mod Looking
 pub mod Named
 pub mod Bytes
 pub mod Counting
+pub mod Holding
 pub mod Resting
 pub mod ShowStops
 pub mod Playing

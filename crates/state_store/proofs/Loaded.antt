@@ -1,5 +1,5 @@
 -- Flashes at rest are a poll.
-use Rattle.std.proofs.Common.{◌≡◌, inl, inr, ℕ, [], Option, Some, length, refl, sym, ap, subst, ◌∙◌, arith}
+use Rattle.std.proofs.Common.{◌≡◌, inl, inr, ℕ, [], length, refl, sym, ap, subst, ◌∙◌, arith}
 use Rattle.urna_outside.specs.Flash.{Flashes, flash_of}
 use Rattle.urna_outside.specs.Stop.{Left}
 use Rattle.urna_outside.specs.declared.device.Dev.{Dev}
@@ -13,8 +13,8 @@ use Rattle.twin_image.proofs.Renewing.{content_image}
 use Rattle.image_codec.specs.Encoding.{IsStateOf, encode}
 use Rattle.image_codec.specs.State.{State}
 use Rattle.state_store.specs.Calls.{AreFound, IsEither}
-use Rattle.state_store.specs.Held.{held_by_both}
-use Rattle.state_store.specs.Laws.{AreWhole}
+use Rattle.state_store.specs.Held.{HeldByBoth}
+use Rattle.state_store.specs.Laws.{AreWhole, RestIsFound}
 use Rattle.state_store.specs.Load.{IsSectionOf, header, load_of}
 use Rattle.state_store.specs.Rest.{AreAtRest, body_size}
 use Rattle.state_store.specs.Store.{IsLoadedWith}
@@ -44,7 +44,7 @@ module _ (t : TablesData) (r : RollData) (section : Section) (s : State) (flashe
   abbrev contents : Left
   contents = record { internal = flashes.internal.content; external = flashes.external.content; shown = [] }
 
-  one_state : (held : Option State) → IsEither s s held → held ≡ Some s
+  one_state : (held : State → Type 0) → IsEither s s held → held s
   one_state held (inl is) = is
   one_state held (inr is) = is
 
@@ -55,6 +55,12 @@ module _ (t : TablesData) (r : RollData) (section : Section) (s : State) (flashe
       record {
         loaded = record { section_fits = fits; internal_frame = framed Internal; external_frame = framed External };
         held =
-            subst (λ (n : ℕ). held_by_both t n flashes.internal.content flashes.external.content ≡ Some s) fits.voters
-            (one_state (held_by_both t section.voters flashes.internal.content flashes.external.content) holds.both);
+            subst (λ (n : ℕ). HeldByBoth t n flashes.internal.content flashes.external.content s) fits.voters
+            (one_state (HeldByBoth t section.voters flashes.internal.content flashes.external.content) holds.both);
       }
+
+pub rest_is_found : RestIsFound
+rest_is_found t r section s flashes tables roll fits of rest = (
+  rest_whole t r section s flashes tables roll fits of rest,
+  rest_found t r section s flashes tables roll fits of rest,
+)

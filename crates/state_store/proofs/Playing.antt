@@ -26,7 +26,7 @@ use Rattle.election_tables.specs.Roll.{RollData}
 use Rattle.election_tables.specs.TablesData.{TablesData}
 use Rattle.image_codec.specs.State.{State}
 use Rattle.state_store.specs.Calls.{Commits, HoldEither, IsEither, KeepFrames, Recovers, both_synced}
-use Rattle.state_store.specs.Held.{held_alone, held_by_both}
+use Rattle.state_store.specs.Held.{HeldAlone, HeldByBoth}
 use Rattle.state_store.specs.Played.{AreInOrder, AreInOrderTo, IsCommitOf, Follows, HasPut, HasStopped, IsCutAt, IsSafe, IsStateOrNext, Plays, Puts, Survives, shows_in}
 use Rattle.state_store.specs.Rest.{AreAtRest, body_size}
 use Rattle.state_store.specs.Steps.{AreFull, Step, commits_in, commits_reached, lines_in, quiet, state_after, telling, text_in}
@@ -41,9 +41,12 @@ Leaves t load s steps start left = Follows t load.section.voters s steps left ×
 
 -- Lines that tell no state
 
-quiet_state : (s : State) (lines : List (List ℕ)) (n : ℕ) (held : Option State) → IsEither s s held → IsStateOrNext (s ∷ commits_in (quiet lines)) (commits_reached (quiet lines) n) held
-quiet_state s lines n held (inl is) = (ap is_some is, inl (is ∙ ap (λ (k : ℕ). slice_get (s ∷ commits_in (quiet lines)) k) (sym (reached-quiet lines n))))
-quiet_state s lines n held (inr is) = (ap is_some is, inl (is ∙ ap (λ (k : ℕ). slice_get (s ∷ commits_in (quiet lines)) k) (sym (reached-quiet lines n))))
+quiet_state : (s : State) (lines : List (List ℕ)) (n : ℕ) (held : State → Type 0) → IsEither s s held → IsStateOrNext (s ∷ commits_in (quiet lines)) (commits_reached (quiet lines) n) held
+quiet_state s lines n held either = (s, own either, inl (ap (λ (k : ℕ). slice_get (s ∷ commits_in (quiet lines)) k) (reached-quiet lines n)))
+  where
+    own : IsEither s s held → held s
+    own (inl is) = is
+    own (inr is) = is
 
 -- shows of a front of their text, from flashes at rest on
 plays_quiet : (t : TablesData) (load : Load) (s : State) (lines : List (List ℕ)) (start : Option Flashes) (ops : List Op) → IsStored t load s → ForSome start (AreAtRest load s) → ShowsFront (concat lines) ops → Plays t load s (quiet lines) start ops
@@ -57,9 +60,9 @@ plays_quiet t load s lines start ops stored rest part =
             record {
               rest = more ++ part.back;
               front = text_in-quiet lines ∙ part.front ∙ ap (λ (l : List ℕ). l ++ part.back) split ∙ append_assoc left.shown more part.back;
-              both = quiet_state s lines (length left.shown) (held_by_both t load.section.voters left.internal left.external) holds.both;
-              internal = quiet_state s lines (length left.shown) (held_alone t load.section.voters left.internal) holds.internal;
-              external = quiet_state s lines (length left.shown) (held_alone t load.section.voters left.external) holds.external;
+              both = quiet_state s lines (length left.shown) (HeldByBoth t load.section.voters left.internal left.external) holds.both;
+              internal = quiet_state s lines (length left.shown) (HeldAlone t load.section.voters left.internal) holds.internal;
+              external = quiet_state s lines (length left.shown) (HeldAlone t load.section.voters left.external) holds.external;
             },
             frames_same flashes left resting.clean internal external,
           ));
@@ -157,27 +160,27 @@ module _ (t : TablesData) (load : Load) (s u : State) (line : List ℕ) where
         record {
           rest = line ++ [];
           front = ap (λ (l : List ℕ). l ++ (line ++ [])) (sym silent);
-          both = either (commits_reached (telling u line) (length left.shown)) number (held_by_both t load.section.voters left.internal left.external) holds.0.both;
-          internal = either (commits_reached (telling u line) (length left.shown)) number (held_alone t load.section.voters left.internal) holds.0.internal;
-          external = either (commits_reached (telling u line) (length left.shown)) number (held_alone t load.section.voters left.external) holds.0.external;
+          both = either (commits_reached (telling u line) (length left.shown)) number (HeldByBoth t load.section.voters left.internal left.external) holds.0.both;
+          internal = either (commits_reached (telling u line) (length left.shown)) number (HeldAlone t load.section.voters left.internal) holds.0.internal;
+          external = either (commits_reached (telling u line) (length left.shown)) number (HeldAlone t load.section.voters left.external) holds.0.external;
         },
         holds.1,
       ))
     where
-      either : (c : ℕ) → c ≡ 0 → (held : Option State) → IsEither s u held → IsStateOrNext (s ∷ u ∷ []) c held
-      either c none held (inl old) = (ap is_some old, inl (old ∙ ap (λ (k : ℕ). slice_get (s ∷ u ∷ []) k) (sym none)))
-      either c none held (inr new) = (ap is_some new, inr (new ∙ ap (λ (k : ℕ). slice_get (s ∷ u ∷ []) (k + 1)) (sym none)))
+      either : (c : ℕ) → c ≡ 0 → (held : State → Type 0) → IsEither s u held → IsStateOrNext (s ∷ u ∷ []) c held
+      either c none held (inl old) = (s, old, inl (ap (λ (k : ℕ). slice_get (s ∷ u ∷ []) k) none))
+      either c none held (inr new) = (u, new, inr (ap (λ (k : ℕ). slice_get (s ∷ u ∷ []) (k + 1)) none))
 
   -- the state is kept, and some of the line was shown, or none of it
-  told_state : (n : ℕ) (held : Option State) → IsEither u u held → IsStateOrNext (s ∷ u ∷ []) (commits_reached (telling u line) n) held
+  told_state : (n : ℕ) (held : State → Type 0) → IsEither u u held → IsStateOrNext (s ∷ u ∷ []) (commits_reached (telling u line) n) held
   told_state n held either = elim (cases_lt 0 n) [
-    | inl some ↦ (ap is_some (own either), inl (own either ∙ ap (λ (k : ℕ). slice_get (s ∷ u ∷ []) k) (sym (reached-telling u line n some))))
+    | inl some ↦ (u, own either, inl (ap (λ (k : ℕ). slice_get (s ∷ u ∷ []) k) (reached-telling u line n some)))
     | inr nothing ↦
         let none : n ≡ 0 = omega arith in
-        (ap is_some (own either), inr (own either ∙ ap (λ (m : ℕ). slice_get (s ∷ u ∷ []) (commits_reached (telling u line) m + 1)) (sym none)))
+        (u, own either, inr (ap (λ (m : ℕ). slice_get (s ∷ u ∷ []) (commits_reached (telling u line) m + 1)) none))
   ]
     where
-      own : IsEither u u held → held ≡ Some u
+      own : IsEither u u held → held u
       own (inl is) = is
       own (inr is) = is
 
@@ -204,9 +207,9 @@ module _ (t : TablesData) (load : Load) (s u : State) (line : List ℕ) where
               record {
                 rest = more ++ part.back;
                 front = part.front ∙ ap (λ (l : List ℕ). l ++ part.back) split ∙ append_assoc left.shown more part.back;
-                both = told_state (length left.shown) (held_by_both t load.section.voters left.internal left.external) holds.both;
-                internal = told_state (length left.shown) (held_alone t load.section.voters left.internal) holds.internal;
-                external = told_state (length left.shown) (held_alone t load.section.voters left.external) holds.external;
+                both = told_state (length left.shown) (HeldByBoth t load.section.voters left.internal left.external) holds.both;
+                internal = told_state (length left.shown) (HeldAlone t load.section.voters left.internal) holds.internal;
+                external = told_state (length left.shown) (HeldAlone t load.section.voters left.external) holds.external;
               },
               frames_trans start mid left kept (frames_same mid left resting.clean internal external),
             )));
@@ -284,15 +287,15 @@ follows_before t voters s xs ys left follows =
     record {
       rest = follows.rest ++ text_in ys;
       front = text_in-append xs ys ∙ ap (λ (l : List ℕ). l ++ text_in ys) follows.front ∙ append_assoc left.shown follows.rest (text_in ys);
-      both = each (held_by_both t voters left.internal left.external) follows.both;
-      internal = each (held_alone t voters left.internal) follows.internal;
-      external = each (held_alone t voters left.external) follows.external;
+      both = each (HeldByBoth t voters left.internal left.external) follows.both;
+      internal = each (HeldAlone t voters left.internal) follows.internal;
+      external = each (HeldAlone t voters left.external) follows.external;
     }
   where
     within : length left.shown ≤ length (text_in xs)
     within = let fits = ap length follows.front in omega (arith, fits, length-append left.shown follows.rest)
 
-    each : (held : Option State) → IsStateOrNext (s ∷ commits_in xs) (commits_reached xs (length left.shown)) held → IsStateOrNext (s ∷ commits_in (xs ++ ys)) (commits_reached (xs ++ ys) (length left.shown)) held
+    each : (held : State → Type 0) → IsStateOrNext (s ∷ commits_in xs) (commits_reached xs (length left.shown)) held → IsStateOrNext (s ∷ commits_in (xs ++ ys)) (commits_reached (xs ++ ys) (length left.shown)) held
     each held is =
         subst (λ (n : ℕ). IsStateOrNext (s ∷ commits_in (xs ++ ys)) n held) (sym (reached_before xs ys (length left.shown) within)) (state_or_next_before s xs ys (commits_reached xs (length left.shown)) held is)
 
@@ -302,12 +305,12 @@ follows_after t voters s xs ys left full follows =
     record {
       rest = follows.rest;
       front = text_in-append xs ys ∙ ap (λ (l : List ℕ). text_in xs ++ l) follows.front ∙ sym (append_assoc (text_in xs) left.shown follows.rest);
-      both = each (held_by_both t voters left.internal left.external) follows.both;
-      internal = each (held_alone t voters left.internal) follows.internal;
-      external = each (held_alone t voters left.external) follows.external;
+      both = each (HeldByBoth t voters left.internal left.external) follows.both;
+      internal = each (HeldAlone t voters left.internal) follows.internal;
+      external = each (HeldAlone t voters left.external) follows.external;
     }
   where
-    each : (held : Option State) → IsStateOrNext (state_after s xs ∷ commits_in ys) (commits_reached ys (length left.shown)) held → IsStateOrNext (s ∷ commits_in (xs ++ ys)) (commits_reached (xs ++ ys) (length (text_in xs ++ left.shown))) held
+    each : (held : State → Type 0) → IsStateOrNext (state_after s xs ∷ commits_in ys) (commits_reached ys (length left.shown)) held → IsStateOrNext (s ∷ commits_in (xs ++ ys)) (commits_reached (xs ++ ys) (length (text_in xs ++ left.shown))) held
     each held is =
         subst (λ (n : ℕ). IsStateOrNext (s ∷ commits_in (xs ++ ys)) n held) (sym (reached_after xs ys left.shown full)) (state_or_next_after s xs ys (commits_reached ys (length left.shown)) held is)
 
@@ -470,18 +473,18 @@ module _ (t : TablesData) (r : RollData) (load : Load) (s : State) (line : List 
   while_recovered : (a : Told) (xs : List Op) (steps : List Step) → Recovers t r load.section s a xs → (start : Flashes) → a.flashes ≡ Some start → AtEachStop (after both_synced start) xs (Survives t load s steps start)
   while_recovered a xs steps recovers start told =
       let there = recovers.stops start told in
-      stops_both (after both_synced start) xs (λ left. (held_by_both t (length r.titles) left.internal left.external ≡ Some s) × KeepFrames start left) (λ left. left.shown ≡ []) (Survives t load s steps start)
+      stops_both (after both_synced start) xs (λ left. HeldByBoth t (length r.titles) left.internal left.external s × KeepFrames start left) (λ left. left.shown ≡ []) (Survives t load s steps start)
       there.1 (stops_silent (λ d k. IsOfTwin body_size k) (after both_synced start) xs recovers.slots.within) (λ left holds silent. (
-        λ none. ap (λ (voters : ℕ). held_by_both t voters left.internal left.external) there.0.loaded.section_fits.voters ∙ holds.0,
+        λ none. subst (λ (voters : ℕ). HeldByBoth t voters left.internal left.external s) (sym there.0.loaded.section_fits.voters) holds.0,
         λ begun. absurd (omega (arith, ap length silent)),
         holds.1,
       ))
 
   -- what the opening lines leave
-  opening_holds : (left : Left) → Follows t load.section.voters s opening left → held_by_both t load.section.voters left.internal left.external ≡ Some s
+  opening_holds : (left : Left) → Follows t load.section.voters s opening left → HeldByBoth t load.section.voters left.internal left.external s
   opening_holds left follows =
       let reached = commits_reached opening (length left.shown) in
-      let held = held_by_both t load.section.voters left.internal left.external in
+      let held = HeldByBoth t load.section.voters left.internal left.external in
       only_state s reached held (subst (λ (l : List State). IsStateOrNext (s ∷ l) reached held) (commits_in-quiet (line ∷ lines)) follows.both)
 
   -- while they are shown, behind whatever kept the frames

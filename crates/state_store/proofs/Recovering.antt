@@ -1,5 +1,5 @@
 -- A recovery: two syncs, a look at the flashes, and a heal.
-use Rattle.std.proofs.Common.{◌≡◌, inl, inr, ℕ, Option, Some, None, List, [], ◌++◌, length, option_map, option_and_then, IsSome, refl, sym, ap, subst, ◌∙◌}
+use Rattle.std.proofs.Common.{◌≡◌, inl, inr, ℕ, Option, Some, None, ◌≤◌, List, [], ◌++◌, length, option_map, IsSome, refl, sym, subst}
 use Rattle.std.specs.Option.{ForSome}
 use Rattle.urna_outside.specs.Faults.{EndsAt, IsFaultless}
 use Rattle.urna_outside.specs.Flash.{Op, Flashes, after}
@@ -13,7 +13,7 @@ use Rattle.urna_outside.proofs.Keeping.{synced_clean}
 use Rattle.urna_outside.specs.Told.{AreSized}
 use Rattle.twin_image.specs.Heal.{Heals, IsHeal}
 use Rattle.twin_image.specs.Level.{IsLevel}
-use Rattle.twin_image.specs.Held.{HoldsBody}
+use Rattle.twin_image.specs.Held.{HoldsBody, held_on}
 use Rattle.twin_image.specs.Slots.{AreClean}
 use Rattle.election_tables.specs.Roll.{IsRoll, RollData}
 use Rattle.election_tables.specs.TablesData.{IsTables, TablesData}
@@ -24,13 +24,14 @@ use Rattle.image_codec.specs.State.{State, rank_of}
 use Rattle.image_codec.proofs.Decoding.{decoded_back}
 use Rattle.state_store.specs.Calls.{FailsToRecover, IsRecovery, IsSynced, KeepFrames, Recovers, both_synced}
 use Rattle.state_store.specs.Finding.{EndsFinding}
-use Rattle.state_store.specs.Held.{AreLoaded, IsForeign, held_by_both}
+use Rattle.state_store.specs.Held.{AreLoaded, HeldByBoth, HeldByNone, IsForeign, bodies_of_both}
 use Rattle.state_store.specs.Load.{IsSectionOf, load_of}
 use Rattle.state_store.specs.Rest.{AreAtRest, body_size}
 use Rattle.state_store.specs.Store.{AreDevices}
 use Rattle.state_store.specs.declared.store.StoreError.{StoreError}
 use Rattle.state_store.specs.declared.store.StoreError.TheVariants as store
 use Rattle.state_store.proofs.Changing.{rests_after}
+use Rattle.state_store.proofs.Holding.{both_ranked, found_held}
 use Rattle.state_store.proofs.Standing.{AreFramed}
 use Rattle.state_store.proofs.Stored.{long_state}
 
@@ -62,7 +63,7 @@ fails_finding t r a b c store.NoImage synced done ends = (
   (
     ends.1.0,
     ends.1.1,
-    told_before a b (λ internal external. AreLoaded t r ends.1.0 internal external × (held_by_both t (length r.titles) internal external ≡ None)) synced.does ends.1.2,
+    told_before a b (λ internal external. AreLoaded t r ends.1.0 internal external × HeldByNone t (length r.titles) internal external) synced.does ends.1.2,
   ),
 )
 
@@ -78,10 +79,12 @@ frames_before : (start : Flashes) (left : Left) → KeepFrames (after both_synce
 frames_before start left keeps Internal = keeps Internal
 frames_before start left keeps External = keeps External
 
-module _ (t : TablesData) (r : RollData) (section : Section) (s : State) (body : List ℕ) (known : decoded t (length r.titles) body ≡ Some s) where
+module _ (t : TablesData) (r : RollData) (section : Section) (tables : IsTables t) (few : length r.titles ≤ 600) (s : State) (body : List ℕ) (known : decoded t (length r.titles) body ≡ Some s) where
   -- what is held as a body is held as a state
-  held_state : (o : Option (List ℕ)) → o ≡ Some body → option_and_then (decoded t (length r.titles)) o ≡ Some s
-  held_state o is = ap (option_and_then (decoded t (length r.titles))) is ∙ known
+  held_state : (internal external : List ℕ) → held_on (rank_in t (length r.titles)) body_size internal external ≡ Some body
+      → HeldByBoth t (length r.titles) internal external s
+  held_state internal external is =
+      found_held t (length r.titles) tables few (bodies_of_both internal external) _ (both_ranked t (length r.titles) internal external) body s is known
 
   module _ (a b c d : Told) (synced : Does both_synced a b) (done : Does [] b c)
       (loaded : ForSome b.flashes (λ fs. AreLoaded t r section fs.internal.content fs.external.content))
@@ -96,9 +99,9 @@ module _ (t : TablesData) (r : RollData) (section : Section) (s : State) (body :
               let mid = after both_synced start in
               let told_b = told_after both_synced a b start synced told in
               let told_c = told_after [] b c mid done told_b in (
-                record { loaded = loaded mid told_b; held = held_state _ (held mid told_b) },
+                record { loaded = loaded mid told_b; held = held_state mid.internal.content mid.external.content (held mid told_b) },
                 λ done stop left is. (
-                  held_state _ ((run.2.stops mid told_c done stop left is).both (rank_in t (length r.titles)) (held mid told_b)),
+                  held_state left.internal left.external ((run.2.stops mid told_c done stop left is).both (rank_in t (length r.titles)) (held mid told_b)),
                   frames_before start left (run.2.frames mid told_c done stop left is),
                 ),
               );

@@ -1,5 +1,5 @@
 -- Flashes at rest: what their images hold, and what a session leaves alone.
-use Rattle.std.proofs.Common.{◌≡◌, inl, inr, ℕ, Option, Some, List, [], ◌∷◌, ◌++◌, length, option_map, option_and_then, refl, sym, ap, subst, ◌∙◌, arith, length-append, ext_get_or}
+use Rattle.std.proofs.Common.{◌≡◌, inl, inr, ℕ, ◌≤◌, Option, Some, List, [], ◌∷◌, ◌++◌, length, option_map, refl, sym, ap, subst, ◌∙◌, arith, length-append, ext_get_or}
 use Rattle.std.specs.List.{AllByRecursion}
 use Rattle.urna_outside.specs.Confined.{KeepsBut}
 use Rattle.urna_outside.specs.Flash.{Op, Put, Sync, Show, Flash, Flashes, flash_of, after_one, after, shown_by, IsImage, IsClean, part}
@@ -11,29 +11,27 @@ use Rattle.urna_outside.proofs.Frames.{course_keeps}
 use Rattle.urna_outside.proofs.Keeping.{HasPlaces, keeps_refl, keeps_trans, places_kept}
 use Rattle.urna_outside.proofs.Stages.{left_image}
 use Rattle.twin_image.specs.Frame.{device_image}
-use Rattle.twin_image.specs.Held.{IsEither as IsEitherBody, held_by_both, held_alone}
 use Rattle.twin_image.specs.Slots.{AreClean, KeepsFrame}
 use Rattle.twin_image.specs.Twin.{IsOfTwin, HoldsEither}
 use Rattle.twin_image.proofs.Holding.{leaves_either}
 use Rattle.twin_image.proofs.Laid.{device_bodies, device_gates}
 use Rattle.twin_image.proofs.Renewing.{content_image, twin_bounded}
-use Rattle.election_tables.specs.TablesData.{TablesData}
-use Rattle.image_codec.specs.Decoded.{decoded, rank_in}
+use Rattle.election_tables.specs.TablesData.{IsTables, TablesData}
+use Rattle.image_codec.specs.Decoded.{rank_in}
 use Rattle.image_codec.specs.Encoding.{encode}
 use Rattle.image_codec.specs.State.{State, rank_of}
-use Rattle.state_store.specs.Calls.{HoldEither, KeepFrames, IsEither}
+use Rattle.state_store.specs.Calls.{HoldEither, KeepFrames}
 use Rattle.state_store.specs.Load.{header}
 use Rattle.state_store.specs.Played.{IsOfSession}
 use Rattle.state_store.specs.Rest.{AreAtRest, body_size}
 use Rattle.state_store.specs.Store.{AreDevices}
 use Rattle.state_store.specs.declared.load.Load.{Load}
-
--- reading the encoding of a state gives it back
-abbrev pub IsKnown : TablesData → ℕ → State → Type 0
-IsKnown t voters s = decoded t voters (encode s) ≡ Some s
+use Rattle.state_store.proofs.Holding.{IsKnown, hold_either}
 
 -- a state that can stand in the slots of flashes of this load
 pub record IsStored (t : TablesData) (load : Load) (s : State) : Type 0 where
+  pub tables : IsTables t
+  pub few : load.section.voters ≤ 600
   pub known : IsKnown t load.section.voters s
   pub long : length (encode s) ≡ body_size
   pub headed : (d : Dev) → length (header load d) ≡ 512
@@ -59,11 +57,6 @@ rest_image t load s flashes d image stored rest is =
     subst (HoldsEither body_size (encode s) (encode s)) (sym (clean_image (flash_of d flashes) image (rest.clean d) is ∙ rest.content d))
     (whole_holds body_size (header load d) (encode s) (stored.headed d) stored.long)
 
--- a held body of a state is the state
-held_state : (t : TablesData) (voters : ℕ) (s : State) (body : Option (List ℕ)) → IsKnown t voters s → IsEitherBody (encode s) (encode s) body → IsEither s s (option_and_then (decoded t voters) body)
-held_state t voters s body known (inl is) = inl (ap (option_and_then (decoded t voters)) is ∙ known)
-held_state t voters s body known (inr is) = inl (ap (option_and_then (decoded t voters)) is ∙ known)
-
 -- Both flashes at rest, and each alone, hold their state.
 pub rest_holds : (t : TablesData) (load : Load) (s : State) (flashes : Flashes) (left : Left) → IsStored t load s → AreAtRest load s flashes → IsImage flashes.internal left.internal → IsImage flashes.external left.external
     → HoldEither t load.section.voters s s left
@@ -75,11 +68,7 @@ rest_holds t load s flashes left stored rest internal external =
     leaves_either rank body_size (encode s) (encode s) (rank_of s) (rank_of s) ranked ranked left
     (rest_image t load s flashes Internal left.internal stored rest internal)
     (rest_image t load s flashes External left.external stored rest external) in
-    record {
-      both = held_state t voters s (held_by_both rank body_size left) stored.known leaves.both;
-      internal = held_state t voters s (held_alone rank body_size left.internal) stored.known leaves.internal;
-      external = held_state t voters s (held_alone rank body_size left.external) stored.known leaves.external;
-    }
+    hold_either t voters stored.tables stored.few s s stored.known stored.known left leaves
 
 -- The frames
 

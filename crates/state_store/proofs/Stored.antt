@@ -13,7 +13,8 @@ use Rattle.state_store.specs.Load.{header}
 use Rattle.state_store.specs.Store.{IsLoadedWith}
 use Rattle.state_store.specs.declared.load.Load.{Load}
 use Rattle.state_store.specs.Rest.{body_size}
-use Rattle.state_store.proofs.Resting.{IsKnown, IsStored}
+use Rattle.state_store.proofs.Holding.{IsKnown}
+use Rattle.state_store.proofs.Resting.{IsStored}
 
 -- the section of a load has at most 600 voters
 pub few_voters : (t : TablesData) (r : RollData) (load : Load) → IsLoadedWith t r load → load.section.voters ≤ 600
@@ -44,6 +45,8 @@ pub stored : (t : TablesData) (r : RollData) (load : Load) (s : State) → IsLoa
 stored t r load s loaded is =
     let few = few_voters t r load loaded in
     record {
+      tables = loaded.tables;
+      few = few;
       known = known_state t load.section.voters s loaded.tables few is;
       long = long_state t load.section.voters s loaded.tables few is;
       headed = λ d. header_long t r load d loaded;

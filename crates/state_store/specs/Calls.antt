@@ -1,5 +1,5 @@
 -- What the calls of a store do on the flashes, also where the power goes
-use Rattle.std.specs.Prelude.{◌≡◌, ◌⊎◌, ℕ, ◌<◌, ◌≤◌, List, [], ◌∷◌, ◌++◌, Option, Some, None, length}
+use Rattle.std.specs.Prelude.{◌≡◌, ◌⊎◌, ℕ, ◌<◌, ◌≤◌, List, [], ◌∷◌, ◌++◌, length}
 use Rattle.std.specs.Option.{ForSome}
 use Rattle.urna_outside.specs.Confined.{AreIn, count_syncs}
 use Rattle.urna_outside.specs.Faults.{EndsAt, IsFaultless}
@@ -16,7 +16,7 @@ use Rattle.image_codec.specs.State.{State}
 use Rattle.twin_image.specs.Heal.{IsHeal}
 use Rattle.twin_image.specs.Slots.{KeepsFrame}
 use Rattle.twin_image.specs.Twin.{IsOfTwin}
-use Rattle.state_store.specs.Held.{AreLoaded, IsForeign, held_alone, held_by_both}
+use Rattle.state_store.specs.Held.{AreLoaded, IsForeign, HeldAlone, HeldByBoth, HeldByNone}
 use Rattle.state_store.specs.Load.{IsSectionOf}
 use Rattle.state_store.specs.Rest.{IsInUse, body_size, device_size}
 use Rattle.state_store.specs.declared.store.StoreError.{StoreError}
@@ -50,14 +50,15 @@ FromSyncs P ops = IsWithinSyncs ops ⊎ ((rest : List Op) × (ops ≡ both_synce
 abbrev pub KeepFrames : Flashes → Left → Type 0
 KeepFrames start left = (d : Dev) → KeepsFrame body_size (flash_of d start).content (left_on d left)
 
-abbrev pub IsEither : State → State → Option State → Type 0
-IsEither s u held = (held ≡ Some s) ⊎ (held ≡ Some u)
+-- the one state or the other is held
+abbrev pub IsEither : State → State → (State → Type 0) → Type 0
+IsEither s u held = held s ⊎ held u
 
 -- both flashes, and each alone, hold the one state or the other
 pub record HoldEither (t : TablesData) (voters : ℕ) (s u : State) (left : Left) : Type 0 where
-  pub both : IsEither s u (held_by_both t voters left.internal left.external)
-  pub internal : IsEither s u (held_alone t voters left.internal)
-  pub external : IsEither s u (held_alone t voters left.external)
+  pub both : IsEither s u (HeldByBoth t voters left.internal left.external)
+  pub internal : IsEither s u (HeldAlone t voters left.internal)
+  pub external : IsEither s u (HeldAlone t voters left.external)
 
 -- writes of gates and bodies alone, and few syncs
 pub record AreInSlots (ops : List Op) : Type 0 where
@@ -72,13 +73,13 @@ pub record Commits (t : TablesData) (voters : ℕ) (s u : State) (told : Told) (
 -- The state that both flashes hold together, with the frames of a section's load
 pub record AreFound (t : TablesData) (r : RollData) (section : Section) (s : State) (flashes : Flashes) : Type 0 where
   pub loaded : AreLoaded t r section flashes.internal.content flashes.external.content
-  pub held : held_by_both t (length r.titles) flashes.internal.content flashes.external.content ≡ Some s
+  pub held : HeldByBoth t (length r.titles) flashes.internal.content flashes.external.content s
 
 -- what a recovery does behind the two syncs
 pub record Recovers (t : TablesData) (r : RollData) (section : Section) (s : State) (told : Told) (ops : List Op) : Type 0 where
   pub slots : AreInSlots ops
   pub stops : ForSome told.flashes (λ start. AreFound t r section s start
-      × AtEachStop (after both_synced start) ops (λ left. (held_by_both t (length r.titles) left.internal left.external ≡ Some s) × KeepFrames start left))
+      × AtEachStop (after both_synced start) ops (λ left. HeldByBoth t (length r.titles) left.internal left.external s × KeepFrames start left))
 
 -- All that a recovery does over these flashes: behind the two syncs it brings each slot that isn't open with the state to it, and
 -- touches no other.
@@ -97,7 +98,7 @@ FailsToRecover t r old new store.NoImage =
     IsSynced old new
     × ((section : Section) × IsSectionOf t r section
     × ForSome old.flashes (λ flashes. AreLoaded t r section flashes.internal.content flashes.external.content
-    × (held_by_both t (length r.titles) flashes.internal.content flashes.external.content ≡ None)))
+    × HeldByNone t (length r.titles) flashes.internal.content flashes.external.content))
 
 -- the device is in use, and it is the first that is
 abbrev pub IsBusy : Dev → Flashes → Type 0

@@ -1,5 +1,5 @@
 -- How looking at the flashes behind the two syncs ends badly: no poll is found, or a device is in use
-use Rattle.std.specs.Prelude.{◌≡◌, None, length}
+use Rattle.std.specs.Prelude.{length}
 use Rattle.std.specs.Option.{ForSome}
 use Rattle.urna_outside.specs.Faults.{EndsAt, IsFaultless}
 use Rattle.urna_outside.specs.Told.{Told, port_of}
@@ -7,7 +7,7 @@ use Rattle.election_tables.specs.Roll.{RollData}
 use Rattle.election_tables.specs.TablesData.{TablesData}
 use Rattle.election_tables.specs.declared.tables.sections.Section.{Section}
 use Rattle.state_store.specs.Calls.{IsBusy}
-use Rattle.state_store.specs.Held.{AreLoaded, IsForeign, held_by_both}
+use Rattle.state_store.specs.Held.{AreLoaded, IsForeign, HeldByNone}
 use Rattle.state_store.specs.Load.{IsSectionOf}
 use Rattle.state_store.specs.declared.store.LoadError.{LoadError}
 use Rattle.state_store.specs.declared.store.LoadError.TheVariants as load
@@ -24,7 +24,7 @@ EndsFinding t r old new store.NoImage =
     IsFaultless old new
     × ((section : Section) × IsSectionOf t r section
     × ForSome old.flashes (λ flashes. AreLoaded t r section flashes.internal.content flashes.external.content
-    × (held_by_both t (length r.titles) flashes.internal.content flashes.external.content ≡ None)))
+    × HeldByNone t (length r.titles) flashes.internal.content flashes.external.content))
 
 -- a device failed, or is in use; memory is never wanted
 abbrev pub EndsTesting : Told → Told → LoadError → Type 0

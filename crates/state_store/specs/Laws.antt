@@ -1,20 +1,25 @@
 -- Laws of what is found on two flashes, of what a session costs, and of what a power cut leaves to the next call
-use Rattle.std.specs.Prelude.{◌≡◌, ◌⊎◌, ◌≤◌, ◌*◌, ℕ, List, [], ◌∷◌, Some, length, Contains}
+use Rattle.std.specs.Prelude.{◌≡◌, ◌⊎◌, ◌↔◌, ◌≤◌, ◌*◌, ℕ, List, [], ◌∷◌, Option, Some, None, length, Contains}
+use Rattle.std.specs.Option.{option_and_then}
 use Rattle.urna_outside.specs.Confined.{count_syncs}
-use Rattle.urna_outside.specs.Flash.{Flashes, Op, flash_of}
+use Rattle.urna_outside.specs.Flash.{Flashes, Op, after, flash_of, shown_by}
 use Rattle.urna_outside.specs.Started.{clean_flashes}
-use Rattle.urna_outside.specs.Stop.{Left}
+use Rattle.urna_outside.specs.Stop.{AtEachStop, IsLeft, IsStop, Left}
 use Rattle.urna_outside.specs.declared.device.Dev.{Dev}
 use Rattle.urna_outside.specs.declared.device.Dev.TheVariants.{Internal, External}
-use Rattle.election_tables.specs.Roll.{RollData}
+use Rattle.election_tables.specs.Roll.{IsRoll, RollData}
 use Rattle.election_tables.specs.TablesData.{IsTables, TablesData}
 use Rattle.election_tables.specs.declared.tables.sections.Section.{Section}
+use Rattle.image_codec.specs.Decoded.{decoded, rank_in}
+use Rattle.image_codec.specs.Encoding.{IsStateOf}
 use Rattle.image_codec.specs.State.{State}
-use Rattle.state_store.specs.Calls.{AreFound, KeepFrames}
-use Rattle.state_store.specs.Held.{AreLoaded, IsForeign, held_by_both}
-use Rattle.state_store.specs.Load.{load_of}
+use Rattle.twin_image.specs.Held.{held_on}
+use Rattle.twin_image.specs.Held.{held_alone as body_alone}
+use Rattle.state_store.specs.Calls.{AreFound, KeepFrames, both_synced}
+use Rattle.state_store.specs.Held.{AreLoaded, HeldByBoth, Hold, HoldNone, IsForeign, bodies_of_both, open_bodies}
+use Rattle.state_store.specs.Load.{IsSectionOf, load_of}
 use Rattle.state_store.specs.Played.{AreInOrder, AreInOrderTo, Survives, shows_in}
-use Rattle.state_store.specs.Rest.{device_size}
+use Rattle.state_store.specs.Rest.{AreAtRest, body_size, device_size}
 use Rattle.state_store.specs.Steps.{Step, commits_in}
 
 -- two flashes are loaded for one section at most
@@ -63,4 +68,41 @@ CostsAreBounded =
 abbrev pub RecoveryGoesOn : Type 0
 RecoveryGoesOn =
     (t : TablesData) (r : RollData) (section : Section) (s : State) (start : Flashes) (left : Left) → AreWhole start
-    → AreFound t r section s start → held_by_both t (length r.titles) left.internal left.external ≡ Some s → KeepFrames start left → IsPollOf t r section (s ∷ []) left
+    → AreFound t r section s start → HeldByBoth t (length r.titles) left.internal left.external s → KeepFrames start left → IsPollOf t r section (s ∷ []) left
+
+-- What is held by the encodings is what the decoder makes of the body of greatest rank, among equals the first: of both images
+-- together, and of each alone. Where it makes none, none is held.
+abbrev pub IsDecodedFrom : TablesData → ℕ → List (List ℕ) → Option State → Type 0
+IsDecodedFrom t voters bodies answer =
+    ((s : State) → Hold t voters bodies s ↔ (answer ≡ Some s)) × (HoldNone t voters bodies ↔ (answer ≡ None))
+
+abbrev pub HeldIsDecoded : Type 0
+HeldIsDecoded =
+    (t : TablesData) (voters : ℕ) (internal external : List ℕ) → IsTables t → voters ≤ 600
+    → IsDecodedFrom t voters (bodies_of_both internal external) (option_and_then (decoded t voters) (held_on (rank_in t voters) body_size internal external))
+    × IsDecodedFrom t voters (open_bodies internal) (option_and_then (decoded t voters) (body_alone (rank_in t voters) body_size internal))
+
+-- one state is held at most
+abbrev pub OneIsHeld : Type 0
+OneIsHeld =
+    (t : TablesData) (voters : ℕ) (bodies : List (List ℕ)) (s u : State) → IsTables t → voters ≤ 600
+    → Hold t voters bodies s → Hold t voters bodies u → s ≡ u
+
+-- Flashes at rest with a state of a poll are a poll that the next call finds: so is what a load leaves, and a session that is held.
+abbrev pub RestIsFound : Type 0
+RestIsFound =
+    (t : TablesData) (r : RollData) (section : Section) (s : State) (flashes : Flashes) → IsTables t → IsRoll r → IsSectionOf t r section
+    → IsStateOf t (length r.titles) s → AreAtRest (load_of t r section) s flashes → AreWhole flashes × AreFound t r section s flashes
+
+-- A session that ended, with its steps put out or by a fault, leaves the flashes so too, where no power cut comes.
+abbrev pub EndGoesOn : Type 0
+EndGoesOn =
+    (t : TablesData) (r : RollData) (section : Section) (s : State) (steps : List Step) (start : Flashes) (ops : List Op) → AreWhole start
+    → AreFound t r section s start → AtEachStop (after both_synced start) ops (Survives t (load_of t r section) s steps start)
+    → (u : State) × Contains (s ∷ commits_in steps) u × AreWhole (after ops (after both_synced start))
+    × AreFound t r section u (after ops (after both_synced start))
+
+-- Where the power stops a call before its second sync, it leaves what it might have left before the call, and nothing was shown.
+abbrev pub SyncsLeaveNoMore : Type 0
+SyncsLeaveNoMore =
+    (start : Flashes) (done : List Op) (left : Left) → IsStop both_synced done → IsLeft (after done start) (shown_by done) left → IsLeft start [] left

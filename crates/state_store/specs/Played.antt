@@ -14,7 +14,7 @@ use Rattle.election_tables.specs.TablesData.{TablesData}
 use Rattle.image_codec.specs.State.{State}
 use Rattle.twin_image.specs.Twin.{IsOfTwin}
 use Rattle.state_store.specs.Calls.{KeepFrames, both_synced}
-use Rattle.state_store.specs.Held.{held_alone, held_by_both}
+use Rattle.state_store.specs.Held.{HeldAlone, HeldByBoth}
 use Rattle.state_store.specs.Rest.{AreAtRest, body_size}
 use Rattle.state_store.specs.Steps.{Step, commits_in, commits_reached, lines_in, state_after, text_in}
 use Rattle.state_store.specs.declared.load.Load.{Load}
@@ -32,18 +32,18 @@ IsOfSession (Put d at bytes) = (k : ℕ) → at ≤ k → k < at + length bytes 
 IsOfSession (Sync d) = Unit {0}
 IsOfSession (Show bytes) = Unit {0}
 
--- the state of that number, or the next one if there is one
-abbrev pub IsStateOrNext : List State → ℕ → Option State → Type 0
-IsStateOrNext states c held = IsSome held × ((held ≡ slice_get states c) ⊎ (held ≡ slice_get states (c + 1)))
+-- the state of that number is held, or the next one
+abbrev pub IsStateOrNext : List State → ℕ → (State → Type 0) → Type 0
+IsStateOrNext states c held = (u : State) × held u × ((slice_get states c ≡ Some u) ⊎ (slice_get states (c + 1) ≡ Some u))
 
 -- What a power cut leaves while the steps are put out from a state. The shown text is a front of the whole. Where it reaches into c
 -- of the lines that tell a state, both flashes, and each alone, hold the state of number c, from the one at the start, or the next.
 pub record Follows (t : TablesData) (voters : ℕ) (s : State) (steps : List Step) (left : Left) : Type 0 where
   pub rest : List ℕ
   pub front : text_in steps ≡ left.shown ++ rest
-  pub both : IsStateOrNext (s ∷ commits_in steps) (commits_reached steps (length left.shown)) (held_by_both t voters left.internal left.external)
-  pub internal : IsStateOrNext (s ∷ commits_in steps) (commits_reached steps (length left.shown)) (held_alone t voters left.internal)
-  pub external : IsStateOrNext (s ∷ commits_in steps) (commits_reached steps (length left.shown)) (held_alone t voters left.external)
+  pub both : IsStateOrNext (s ∷ commits_in steps) (commits_reached steps (length left.shown)) (HeldByBoth t voters left.internal left.external)
+  pub internal : IsStateOrNext (s ∷ commits_in steps) (commits_reached steps (length left.shown)) (HeldAlone t voters left.internal)
+  pub external : IsStateOrNext (s ∷ commits_in steps) (commits_reached steps (length left.shown)) (HeldAlone t voters left.external)
 
 -- what holds of the operations while the steps are put out, whole or up to a fault
 pub record Plays (t : TablesData) (load : Load) (s : State) (steps : List Step) (start : Option Flashes) (ops : List Op) : Type 0 where
@@ -107,7 +107,7 @@ Puts port_in (Err e) t load s steps old new = HasStopped t load s steps (port_in
 -- together hold that state, and from it on they follow the text. The frames stay.
 abbrev pub Survives : TablesData → Load → State → List Step → Flashes → Left → Type 0
 Survives t load s steps start left =
-    (left.shown ≡ [] → held_by_both t load.section.voters left.internal left.external ≡ Some s)
+    (left.shown ≡ [] → HeldByBoth t load.section.voters left.internal left.external s)
     × (0 < length left.shown → Follows t load.section.voters s steps left)
     × KeepFrames start left
 

@@ -27,9 +27,10 @@ use Rattle.clerk_term.specs.declared.replies.Mode.TheVariants as mode
 use Rattle.poll_report.specs.Counts.{candidate_line, candidate_lines, count_lines, kind_lines, lines_of_panels, panel_lines, party_line, total_lines, votes_line}
 use Rattle.image_codec.specs.CodecLaws.{Ballot}
 use Rattle.image_codec.specs.State.{State, MayVote, filled_up, with_ballot}
-use Rattle.state_store.specs.Steps.{state_after}
+use Rattle.state_store.specs.Steps.{commits_in, quiet, state_after}
+use Rattle.state_store.proofs.Counting.{commits_in-append, commits_in-quiet}
 use Rattle.station.specs.Acts.{last_state}
-use Rattle.station.specs.Output.{Output, Says, Commits, Reports, refusal, earlier_for, echo, screen}
+use Rattle.station.specs.Output.{Output, Says, Commits, Reports, commits_of, refusal, earlier_for, echo, screen}
 use Rattle.station.specs.Press.{idle_at}
 use Rattle.station.specs.Run.{wait_outputs, line_outputs, Votes, start, voted, IsOpen, open_at, IsRun, ends, ignores, refuses, opens, seals, waits, cancels, visits, cut_off, Visit, whole, suspended, after_suspension, suspension}
 use Rattle.station.specs.Setting.{Setting, reply_at, setting_of}
@@ -322,3 +323,12 @@ run_counts t titles r run = casts_all (run_casts r run)
 pub run_last : {s u : State} {es : List Event} {out : List Output} (t : TablesData) (titles : List ℕ) → length s.came ≡ length titles
     → IsRun (setting_of t titles) s es u out → state_after s (session_steps t out) ≡ u
 run_last {s} {out} t titles r run = state_after_outputs t s out ∙ casts_last (run_casts r run)
+
+-- the states that its steps commit are those that the outputs commit
+pub steps_commit : (t : TablesData) (out : List Output) → commits_in (session_steps t out) ≡ commits_of out
+steps_commit t [] = refl
+steps_commit t (Says l ∷ out) = steps_commit t out
+steps_commit t (Commits s l ∷ out) = ap (λ (states : List State). s ∷ states) (steps_commit t out)
+steps_commit t (Reports title s ∷ out) =
+    let lines = title_text title ∷ count_lines t s.bags in
+    commits_in-append (quiet lines) (session_steps t out) ∙ ap (λ (states : List State). states ++ commits_in (session_steps t out)) (commits_in-quiet lines) ∙ steps_commit t out

@@ -6,8 +6,16 @@ use Rattle.key_script.specs.declared.keys.Key.{Key}
 use Rattle.key_script.specs.declared.keys.Key.TheVariants as key
 use Rattle.vote_kinds.specs.declared.choice.Choice.{Choice}
 use Rattle.vote_kinds.specs.Ballot.{BallotLine}
+use Rattle.urna_base.specs.Moment.{is_moment}
+use Rattle.std.specs.List.{AllByRecursion}
+use Rattle.election_tables.specs.TablesData.{TablesData}
+use Rattle.key_script.specs.Event.{IsClerkKey, IsEvent}
+use Rattle.turnout.specs.declared.phase.Phase.{Phase}
+use Rattle.image_codec.specs.Encoding.{IsStateOf}
 use Rattle.image_codec.specs.State.{State, with_ballot, filled_up, MayVote}
-use Rattle.station.specs.Setting.{Setting, IsSetting, reply_at}
+use Rattle.image_codec.specs.Valid.{MayClose}
+use Rattle.image_codec.proofs.OfTables.{of_tables-opened_at, of_tables-sealed_at, of_tables-with_ballot}
+use Rattle.station.specs.Setting.{Setting, IsSetting, reply_at, setting_of}
 use Rattle.station.specs.Output.{Output, Says, Commits, Reports, commits_of, refusal, earlier_for, echo, screen}
 use Rattle.station.specs.Run.{wait_outputs, line_outputs, Votes, start, voted, IsOpen, open_at, IsRun, ends, ignores, refuses, opens, seals, waits, cancels, visits, cut_off, Visit, whole, suspended, after_suspension, suspension}
 use Rattle.station.specs.Press.{Standing, press, idle_at, after, outputs}
@@ -152,6 +160,76 @@ run_history {v} {s} r (visits {t} {u} {number} {place} {visit} {es} {text} {out}
     history_moved (says (wait_outputs v s place before) _ (wait_says v s place before)) (more.1 t (run_history more.0 run))
 run_history {v} {s} r (cut_off {place} {text} before e w on) =
     history_moved (says (wait_outputs v s place before) _ (wait_says v s place before) ∙ open_says on) same
+
+-- Each of them is a state of a poll of the tables, and so is the one that the run leads to, where that at its start is one and the
+-- events are valid.
+module _ (t : TablesData) (titles : List ℕ) where
+  abbrev v : Setting
+  v = setting_of t titles
+
+  abbrev Is : State → Type 0
+  Is s = IsStateOf t (length titles) s
+
+  abbrev Are : List State → Type 0
+  Are states = AllByRecursion Is states
+
+  suspended_state : {s : State} {place : ℕ} {es : List Event} (choices : List Choice) (text : List Output) → IsOpen v s place es choices text → Is s → MayVote s place
+      → Is (after_suspension v s place choices)
+      × ((out : List Output) → Are (commits_of out) → Are (commits_of ((text ++ suspension v s place choices ∷ []) ++ out)))
+  suspended_state [] text on of may = (
+    of,
+    λ out all. subst Are (sym (ap commits_of (append_assoc text (Says line.Suspended ∷ []) out) ∙ says text (Says line.Suspended ∷ out) (open_says on))) all,
+  )
+  suspended_state {s} {place} (c ∷ choices) text on of may =
+      let filled = filled_up v.lines (c ∷ choices) in
+      let told = suspension v s place (c ∷ choices) in
+      let now = of_tables-with_ballot t (length titles) s place filled of may (first_filled v.lines (c ∷ choices) (open_first on)) in (
+        now,
+        λ out all. subst Are (sym (ap commits_of (append_assoc text (told ∷ []) out) ∙ says text (told ∷ out) (open_says on))) (now, all),
+      )
+
+  visit_state : {s u : State} {place : ℕ} {es : List Event} {text : List Output} → Visit v s place es u text → Is s → MayVote s place
+      → Is u × ((out : List Output) → Are (commits_of out) → Are (commits_of (text ++ out)))
+  visit_state {s} {u} {place} (whole {es} {choices} {text} votes at) of may =
+      let told = Commits (with_ballot v.lines s place choices) line.Ended in
+      let now = of_tables-with_ballot t (length titles) s place choices of may (first_all v.lines choices (votes_first votes) at) in (
+        now,
+        λ out all. subst Are (sym (ap commits_of (append_assoc text (told ∷ []) out) ∙ says text (told ∷ out) (votes_say votes))) (now, all),
+      )
+  visit_state (suspended {es} {choices} {text} on) of may = suspended_state choices text on of may
+
+  all_front : (xs ys : List Event) → AllByRecursion IsEvent (xs ++ ys) → AllByRecursion IsEvent ys
+  all_front [] ys all = all
+  all_front (x ∷ xs) ys all = all_front xs ys all.1
+
+  pub run_states : {s u : State} {es : List Event} {out : List Output} → Is s → AllByRecursion IsEvent es → IsRun v s es u out → Are (commits_of out) × Is u
+  run_states of events ends = (tt, of)
+  run_states of events (ignores run) = run_states of events.1 run
+  run_states of events (refuses e run) = run_states of events.1 run
+  run_states {s} of events (opens {es} {out} {c} {m} e run) =
+      let may = idle_answer_at v s c (answer.Opens m) of.roll e in
+      let moment : is_moment m ≡ true = subst IsClerkKey may.1 events.0 in
+      let now = of_tables-opened_at t (length titles) s m of moment in
+      let rest = run_states now events.1 run in
+      ((now, rest.0), rest.1)
+  run_states {s} of events (seals {es} {out} {c} {m} e run) =
+      let may = idle_answer_at v s c (answer.Seals m) of.roll e in
+      let moment : is_moment m ≡ true = subst IsClerkKey may.0 events.0 in
+      let closes : MayClose s.phase m = subst (λ (p : Phase). MayClose p m) (sym may.1.1) may.1.2 in
+      let now = of_tables-sealed_at t (length titles) s m of closes moment in
+      let rest = run_states now events.1 run in
+      ((now, rest.0), rest.1)
+  run_states {s} of events (waits {place} before e w) = (subst Are (sym (wait_says v s place before)) tt, of)
+  run_states {s} of events (cancels {place} {es} {out} before e w run) =
+      let rest = run_states of (all_front before (Clerk clerk.Cancela ∷ es) events.1).1 run in
+      (subst Are (sym (says (wait_outputs v s place before) (Says line.Canceled ∷ out) (wait_says v s place before))) rest.0, rest.1)
+  run_states {s} of events (visits {number} {place} {visit} {es} {text} {out} before e w visited run) =
+      let more = visit_state visited of (idle_answer_at v s (clerk.Titulo number) (answer.Identifies place) of.roll e) in
+      let behind = (all_front before (Clerk clerk.Libera ∷ (visit ++ es)) events.1).1 in
+      let rest = run_states more.0 (all_front visit es behind) run in
+      (subst Are (sym (says (wait_outputs v s place before) (Says line.Released ∷ (text ++ out)) (wait_says v s place before))) (more.1 out rest.0), rest.1)
+  run_states {s} of events (cut_off {place} {text} before e w on) =
+      (subst Are (sym (says (wait_outputs v s place before) (Says line.Released ∷ text) (wait_says v s place before) ∙ open_says on)) tt, of)
 
 -- One event more
 pub run_press : (v : Setting) (s t u : State) (es : List Event) (e : Event) (out put : List Output) → IsSetting v → IsRun v s es t out → IsRun v s (es ++ e ∷ []) u (out ++ put)

@@ -47,7 +47,7 @@ module _ (t : TablesData) (r : RollData) (store : StoreData) (s : State) (a b c 
   line = line_text t (Poll s.phase (number_came s.came))
 
   recovered : IsRecovered t r store.load s a b
-  recovered = record { ran = ran; exact = exact; rest = kept.rest; fine = fine }
+  recovered = record { same = loaded.same; ran = ran; exact = exact; rest = kept.rest; fine = fine }
 
   pub opens : HasShown (line ∷ []) b c → Opens t r store.load s a c
   opens shown =

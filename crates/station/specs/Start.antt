@@ -11,6 +11,7 @@ use Rattle.election_tables.specs.TablesData.{TablesData}
 use Rattle.turnout.specs.Turnout.{number_came}
 use Rattle.image_codec.specs.State.{State}
 use Rattle.state_store.specs.Calls.{FailsToRecover, IsRecovery, Recovers, both_synced}
+use Rattle.state_store.specs.Load.{load_of}
 use Rattle.state_store.specs.Played.{HasPut, HasStopped, IsSafe}
 use Rattle.state_store.specs.Rest.{AreAtRest}
 use Rattle.state_store.specs.Steps.{Step, quiet}
@@ -32,8 +33,9 @@ abbrev pub opening : TablesData → State → List Step
 opening t s = quiet (opening_line t s ∷ [])
 
 -- The flashes were synced and recovered, which touched no slot that was right already, and left them at rest with a state of this
--- load.
+-- load, which is that of the tables and the roll.
 pub record IsRecovered (t : TablesData) (r : RollData) (load : Load) (s : State) (old new : Told) : Type 0 where
+  pub same : load ≡ load_of t r load.section
   pub ran : Runs (λ ops. (rest : List Op) × (ops ≡ both_synced ++ rest) × Recovers t r load.section s old rest) old new
   pub exact : ForSome old.flashes (λ start. Runs (IsRecovery s start) old new)
   pub rest : ForSome new.flashes (AreAtRest load s)

@@ -1,38 +1,53 @@
 //! Laws of runs (`specs/Run.antt`), of states (`specs/States.antt`) and of what a station stands for (`specs/Stands.antt`).
-ghost use Rattle.std.specs.Prelude.{◌≡◌, ◌≤◌, List, [], ◌∷◌, ◌++◌, length};
+ghost use Rattle.std.specs.Prelude.{◌≡◌, ◌≤◌, ℕ, List, [], ◌∷◌, ◌++◌, length};
+ghost use Rattle.std.specs.List.{AllByRecursion};
+ghost use Rattle.election_tables.specs.TablesData.{IsTables, TablesData};
+ghost use Rattle.key_script.specs.Event.{IsEvent};
 ghost use Rattle.key_script.specs.declared.keys.Event.{Event};
+ghost use Rattle.image_codec.specs.Encoding.{IsStateOf};
 ghost use Rattle.image_codec.specs.State.{State};
-ghost use Rattle.station.specs.Setting.{Setting, IsSetting};
+ghost use Rattle.state_store.specs.Steps.{commits_in, state_after};
+ghost use Rattle.station.specs.Setting.{Setting, setting_of};
 ghost use Rattle.station.specs.Output.{Output, commits_of};
 ghost use Rattle.station.specs.Run.{IsRun};
 ghost use Rattle.station.specs.Press.{Standing};
 ghost use Rattle.station.specs.Stands.{StandsFor};
 ghost use Rattle.station.specs.States.{IsHistory};
+ghost use Rattle.station.specs.Text.{session_steps};
 
 /// From each state each list of events has exactly one run.
 pub fn one_run()
-    ensures exists { (v : Setting) (s : State) (es : List Event) → IsSetting v
-        → (t : State) × (out : List Output) × IsRun v s es t out }
-    ensures one { (v : Setting) (s t u : State) (es : List Event) (out put : List Output) → IsSetting v
-        → IsRun v s es t out → IsRun v s es u put → (t ≡ u) × (out ≡ put) }
+    ensures exists { (t : TablesData) (titles : List ℕ) (s : State) (es : List Event) → IsTables t
+        → (last : State) × (out : List Output) × IsRun (setting_of t titles) s es last out }
+    ensures one { (t : TablesData) (titles : List ℕ) (s last other : State) (es : List Event) (out put : List Output) → IsTables t
+        → IsRun (setting_of t titles) s es last out → IsRun (setting_of t titles) s es other put → (last ≡ other) × (out ≡ put) }
 {}
 
 /// What some events put out is the front of what any longer list puts out.
 pub fn run_goes_on()
-    ensures { (v : Setting) (s t u : State) (es more : List Event) (out put : List Output) → IsSetting v
-        → IsRun v s es t out → IsRun v s (es ++ more) u put → (rest : List Output) × (put ≡ out ++ rest) }
+    ensures { (t : TablesData) (titles : List ℕ) (s last other : State) (es more : List Event) (out put : List Output) → IsTables t
+        → IsRun (setting_of t titles) s es last out → IsRun (setting_of t titles) s (es ++ more) other put
+        → (rest : List Output) × (put ≡ out ++ rest) }
 {}
 
-/// The states that a run commits follow one another by one opening, one voter or one seal, and the run leads to the last.
+/// The states that a run commits follow one another by one opening, one voter or one seal, and the run leads to the last. They are
+/// the states that the steps of the session commit. Each of them is a state of a poll of the tables, where the run begins at one.
 pub fn run_commits()
-    ensures { (v : Setting) (s t : State) (es : List Event) (out : List Output) → length s.came ≡ length v.roll
-        → IsRun v s es t out → IsHistory v s (commits_of out) t }
+    ensures history { (v : Setting) (s last : State) (es : List Event) (out : List Output) → length s.came ≡ length v.roll
+        → IsRun v s es last out → IsHistory v s (commits_of out) last }
+    ensures commits { (t : TablesData) (out : List Output) → commits_in (session_steps t out) ≡ commits_of out }
+    ensures last { (t : TablesData) (titles : List ℕ) (s last : State) (es : List Event) (out : List Output) → length s.came ≡ length titles
+        → IsRun (setting_of t titles) s es last out → state_after s (session_steps t out) ≡ last }
+    ensures valid { (t : TablesData) (titles : List ℕ) (s last : State) (es : List Event) (out : List Output)
+        → IsStateOf t (length titles) s → AllByRecursion IsEvent es → IsRun (setting_of t titles) s es last out
+        → AllByRecursion (IsStateOf t (length titles)) (commits_of out) × IsStateOf t (length titles) last }
 {}
 
 /// One event more commits at most one state more, so the committed states are those after the prefixes of the events.
 pub fn event_commits()
-    ensures { (v : Setting) (s t u : State) (es : List Event) (e : Event) (out put : List Output) → IsSetting v
-        → IsRun v s es t out → IsRun v s (es ++ e ∷ []) u (out ++ put) → length (commits_of put) ≤ 1 }
+    ensures { (t : TablesData) (titles : List ℕ) (s last other : State) (es : List Event) (e : Event) (out put : List Output) → IsTables t
+        → IsRun (setting_of t titles) s es last out → IsRun (setting_of t titles) s (es ++ e ∷ []) other (out ++ put)
+        → length (commits_of put) ≤ 1 }
 {}
 
 /// The events for which a station stands are a run that leaves the state as it was.

@@ -16,9 +16,9 @@ use Rattle.image_codec.specs.CodecLaws.{Ballot}
 use Rattle.image_codec.specs.State.{State}
 use Rattle.image_codec.proofs.Growing.{also_also}
 use Rattle.state_store.specs.Calls.{AreFound}
-use Rattle.state_store.specs.Held.{AreLoaded, held_by_both}
+use Rattle.state_store.specs.Held.{AreLoaded, HeldByBoth}
 use Rattle.state_store.specs.Laws.{AreWhole, IsPollOf}
-use Rattle.state_store.proofs.Going.{poll_left}
+use Rattle.state_store.proofs.Going.{found_once, poll_left}
 use Rattle.station.specs.Cast.{ballots_of}
 use Rattle.urna_app.specs.Headline.{DayKeepsVotes, IsSitting, KeepsVotes, Sitting, one, session_lines, then}
 use Rattle.urna_app.proofs.Headline.{votes_are_kept}
@@ -26,7 +26,7 @@ use Rattle.urna_app.proofs.Headline.{votes_are_kept}
 -- One sitting: what it leaves is a poll of the section again, with its ballots.
 record Leads (t : TablesData) (r : RollData) (section : Section) (s : State) (x : Sitting) (left : Left) : Type 0 where
   state : State
-  held : held_by_both t (length r.titles) left.internal left.external ≡ Some state
+  held : HeldByBoth t (length r.titles) left.internal left.external state
   whole : AreWhole (clean_flashes left.internal left.external)
   found : AreFound t r section state (clean_flashes left.internal left.external)
   number : ℕ
@@ -37,11 +37,7 @@ record Leads (t : TablesData) (r : RollData) (section : Section) (s : State) (x 
 module _ (t : TablesData) (r : RollData) (section : Section) (s : State) (start : Flashes) (x : Sitting) (left : Left) (whole : AreWhole start) (found : AreFound t r section s start)
     (is : IsSitting t r start x left) where
   same : is.first ≡ s
-  same =
-      let this = found.held in
-      let that = is.held in
-      let both : Some is.first ≡ Some s = sym that ∙ this in
-      cc
+  same = found_once t r section s is.first start is.call.given.tables.valid found is.held
 
   begun : AreFound t r section is.first start
   begun = subst (λ (u : State). AreFound t r section u start) (sym same) found
@@ -57,10 +53,7 @@ module _ (t : TablesData) (r : RollData) (section : Section) (s : State) (start 
 
   left_state : left_poll.state ≡ kept.both.state
   left_state =
-      let this = left_poll.found.held in
-      let that = kept.both.is in
-      let both : Some left_poll.state ≡ Some kept.both.state = sym this ∙ that in
-      cc
+      sym (found_once t r section left_poll.state kept.both.state (clean_flashes left.internal left.external) is.call.given.tables.valid left_poll.found kept.both.is)
 
   leads : Leads t r section s x left
   leads =
@@ -89,7 +82,9 @@ found_next t r section u a b next i e found =
     subst (λ (y : List ℕ). AreLoaded t r section next.internal.content y) (sym e) (subst (λ (y : List ℕ). AreLoaded t r section y b) (sym i) found.loaded) in
     record {
       loaded = loaded;
-      held = ap (λ (y : List ℕ). held_by_both t (length r.titles) y next.external.content) i ∙ ap (λ (y : List ℕ). held_by_both t (length r.titles) a y) e ∙ found.held;
+      held =
+          subst (λ (y : List ℕ). HeldByBoth t (length r.titles) y next.external.content u) (sym i)
+          (subst (λ (y : List ℕ). HeldByBoth t (length r.titles) a y u) (sym e) found.held);
     }
 
 pub day_keeps_votes : DayKeepsVotes

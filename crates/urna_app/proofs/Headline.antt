@@ -26,13 +26,14 @@ use Rattle.vote_kinds.specs.Ballot.{ballot_lines}
 use Rattle.image_codec.specs.Also.{HasAlso}
 use Rattle.image_codec.specs.State.{State}
 use Rattle.state_store.specs.Calls.{AreFound, FromSyncs, IsUntouched, KeepFrames, Recovers, both_synced}
-use Rattle.state_store.specs.Held.{held_by_both}
+use Rattle.state_store.specs.Held.{HeldByBoth, bodies_of_both}
 use Rattle.state_store.specs.Load.{IsSectionOf}
 use Rattle.state_store.specs.Played.{Survives}
 use Rattle.state_store.specs.Rest.{AreAtRest}
 use Rattle.state_store.specs.Steps.{state_after}
 use Rattle.state_store.specs.declared.load.Load.{Load}
-use Rattle.state_store.proofs.Going.{loaded_or_foreign}
+use Rattle.state_store.proofs.Going.{found_once, loaded_or_foreign}
+use Rattle.state_store.proofs.Holding.{hold_or_none}
 use Rattle.state_store.proofs.Resting.{clean_image, frames_same}
 use Rattle.station.specs.Cast.{ballots_of}
 use Rattle.station.specs.Output.{Output}
@@ -67,16 +68,11 @@ module _ (t : TablesData) (r : RollData) (s last : State) (es : List Event) (out
   AreKept = AtEachStop (after both_synced start) rest Kept
 
   roll : length s.came ≡ length r.titles
-  roll = found_roll t r section s start tables found
+  roll = found_roll t r section s start found
 
   -- the state of a recovery is that which the flashes hold
   found_here : (other : Section) (first : State) → AreFound t r other first start → (first ≡ s) × (other.voters ≡ length r.titles)
-  found_here other first also =
-      let this = found.held in
-      let that = also.held in
-      let one : Some first ≡ Some s = sym that ∙ this in
-      let same : first ≡ s = cc in
-      (same, also.loaded.section_fits.voters)
+  found_here other first also = (found_once t r section s first start tables found also.held, also.loaded.section_fits.voters)
 
   recovered_here : (load : Load) (first : State) (b : Told) → IsRecovered t r load first m b → (first ≡ s) × (load.section.voters ≡ length r.titles)
   recovered_here load first b is = found_here load.section first (is.ran.2.2.stops start flashes).0
@@ -118,7 +114,7 @@ module _ (t : TablesData) (r : RollData) (s last : State) (es : List Event) (out
       let survives = safe_stops m n start before rest flashes trail trailed t h.load h.state (opening t h.state) h.survives ops stop left is in
       opening_kept t r s last es out run roll h.load here.1 start left (subst (λ (x : State). Survives t h.load x (opening t x) start left) here.0 survives)
 
-  silent : (left : Left) → left.shown ≡ [] → held_by_both t (length r.titles) left.internal left.external ≡ Some s → KeepFrames start left → Kept left
+  silent : (left : Left) → left.shown ≡ [] → HeldByBoth t (length r.titles) left.internal left.external s → KeepFrames start left → Kept left
   silent left none held frames = kept_silent t r s start (session_lines t s out) (ballots_of run) left none held frames
 
   synced_both : (e : Dev) → IsClean (flash_of e (after both_synced start))
@@ -135,8 +131,8 @@ module _ (t : TablesData) (r : RollData) (s last : State) (es : List Event) (out
       subst (λ (l : List Op). AtEachStop (after both_synced start) l Kept) (sym none) (stops_none (after both_synced start) Kept (λ left is.
       let internal = clean_image (after both_synced start).internal left.internal (synced_clean start.internal) is.internal in
       let external = clean_image (after both_synced start).external left.external (synced_clean start.external) is.external in
-      silent left is.shown (ap (λ (x : List ℕ). held_by_both t (length r.titles) x left.external) internal
-      ∙ ap (λ (x : List ℕ). held_by_both t (length r.titles) start.internal.content x) external ∙ found.held)
+      silent left is.shown (subst (λ (x : List ℕ). HeldByBoth t (length r.titles) x left.external s) (sym internal)
+      (subst (λ (x : List ℕ). HeldByBoth t (length r.titles) start.internal.content x s) (sym external) found.held))
       (frames_before left (frames_same (after both_synced start) left synced_both is.internal is.external))))
 
   -- a recovery that a flash cut short
@@ -146,7 +142,7 @@ module _ (t : TablesData) (r : RollData) (s last : State) (es : List Event) (out
       let here = found_here other first at.0 in
       let held = (at.1 ops stop left is).0 in
       silent left (stops_silent _ (after both_synced start) behind recovers.slots.within ops stop left is)
-      (subst (λ (x : State). held_by_both t (length r.titles) left.internal left.external ≡ Some x) here.0 held) (at.1 ops stop left is).1
+      (subst (λ (x : State). HeldByBoth t (length r.titles) left.internal left.external x) here.0 held) (at.1 ops stop left is).1
 
   flash_kept : Runs (FromSyncs (λ ops. (ops ≡ []) ⊎ ((other : Section) × (first : State) × IsSectionOf t r other × Recovers t r other first m ops))) m n → AreKept
   flash_kept (ops, does, inl (inl none)) = absurd (not_done m n start before rest flashes trail trailed (subst (λ (l : List Op). Does l m n) none does))
@@ -175,9 +171,7 @@ module _ (t : TablesData) (r : RollData) (s : State) (tables : IsTables t) (sect
 
   not_empty : FailsToStart t r m b starting.NoImage → ⊥
   not_empty h =
-      let none = (h.1.2 start flashes).1 in
-      let some = found.held in
-      absurd (cc)
+      hold_or_none t (length r.titles) (bodies_of_both start.internal.content start.external.content) s (h.1.2 start flashes).1 found.held
 
 -- ---- what was given
 

@@ -1,29 +1,27 @@
 -- What a power cut leaves of a call of vota keeps its votes
 use Rattle.std.proofs.Common.{◌≡◌, ◌⊎◌, inl, inr, ℕ, ◌+◌, ◌-◌, ◌<◌, ◌≤◌, List, [], ◌∷◌, ◌++◌, Option, Some, None, length, refl, sym, ap, subst, ◌∙◌, arith, append_assoc, length-append}
 use Rattle.std.specs.List.{concat}
-use Rattle.std.specs.Option.{option_and_then, option_map}
+use Rattle.std.specs.Option.{option_map}
 use Rattle.std.proofs.lemmas.List.{append-nil, append_cancel_left}
-use Rattle.std.proofs.lemmas.List.Elements.{All-contains}
 use Rattle.urna_outside.specs.Flash.{Flashes, Op, Sync, after}
 use Rattle.urna_outside.specs.Stop.{AtEachStop, Left}
 use Rattle.urna_outside.specs.Told.{Told, Does}
 use Rattle.urna_outside.specs.declared.device.Dev.TheVariants as dev
 use Rattle.election_tables.specs.Roll.{RollData}
-use Rattle.election_tables.specs.TablesData.{IsSection, IsTables, TablesData}
+use Rattle.election_tables.specs.TablesData.{TablesData}
 use Rattle.election_tables.specs.declared.tables.sections.Section.{Section}
 use Rattle.key_script.specs.declared.keys.Event.{Event}
 use Rattle.vote_kinds.specs.Ballot.{ballot_lines}
 use Rattle.image_codec.specs.CodecLaws.{Ballot}
-use Rattle.image_codec.specs.Decoded.{decoded}
 use Rattle.image_codec.specs.State.{State}
-use Rattle.image_codec.proofs.Decoding.{decoded_takes}
 use Rattle.image_codec.proofs.Growing.{also_none}
 use Rattle.state_store.specs.Calls.{AreFound, KeepFrames, both_synced}
-use Rattle.state_store.specs.Held.{held_alone, held_by_both}
+use Rattle.state_store.specs.Held.{HeldAlone, HeldByBoth, bodies_of_both}
 use Rattle.state_store.specs.Played.{Follows, IsSafe, IsStateOrNext, Survives}
 use Rattle.state_store.specs.Steps.{Step, commits_in, commits_reached, lines_in}
 use Rattle.state_store.specs.declared.load.Load.{Load}
 use Rattle.state_store.proofs.Counting.{only_state}
+use Rattle.state_store.proofs.Holding.{hold_encoding}
 use Rattle.station.specs.Cast.{ballots_of, fims_reached}
 use Rattle.station.specs.Output.{Output}
 use Rattle.station.specs.Run.{IsRun}
@@ -36,29 +34,22 @@ use Rattle.urna_app.specs.Headline.{HoldsShown, KeepsVotes, session_lines}
 
 -- ---- what is held
 
-held_roll : (t : TablesData) (voters : ℕ) (s : State) (body : Option (List ℕ)) → IsTables t → voters ≤ 600 → option_and_then (decoded t voters) body ≡ Some s → length s.came ≡ voters
-held_roll t voters s None tables few is = absurd (cc)
-held_roll t voters s (Some body) tables few is = (decoded_takes t voters body s tables few is).state.roll
-
 -- as many marks as the roll has voters
-pub found_roll : (t : TablesData) (r : RollData) (section : Section) (s : State) (flashes : Flashes) → IsTables t → AreFound t r section s flashes → length s.came ≡ length r.titles
-found_roll t r section s flashes tables found =
-    let is : IsSection section = All-contains IsSection t.sections section tables.sections found.loaded.section_fits.listed in
-    let few : length r.titles ≤ 600 = omega (arith, is.voters.1, found.loaded.section_fits.voters) in
-    held_roll t (length r.titles) s _ tables few found.held
+pub found_roll : (t : TablesData) (r : RollData) (section : Section) (s : State) (flashes : Flashes) → AreFound t r section s flashes → length s.came ≡ length r.titles
+found_roll t r section s flashes found =
+    (hold_encoding t (length r.titles) (bodies_of_both flashes.internal.content flashes.external.content) s found.held).1.state.roll
 
 module _ (t : TablesData) (s : State) (ballots : List Ballot) where
-  holds : (states : List State) (c f : ℕ) (held : Option State) → AreShown (ballot_lines t) s ballots states c f → IsStateOrNext (s ∷ states) c held
+  holds : (states : List State) (c f : ℕ) (held : State → Type 0) → AreShown (ballot_lines t) s ballots states c f → IsStateOrNext (s ∷ states) c held
       → HoldsShown (ballot_lines t) s ballots f held
-  holds states c f None shown (some, which) = absurd (cc)
-  holds states c f (Some u) shown (some, inl is) =
-      let got = shown c u (inl refl) (sym is) in
-      record { state = u; is = refl; number = got.0; shown = got.1; cast = got.2; has = got.3 }
-  holds states c f (Some u) shown (some, inr is) =
-      let got = shown (c + 1) u (inr refl) (sym is) in
-      record { state = u; is = refl; number = got.0; shown = got.1; cast = got.2; has = got.3 }
+  holds states c f held shown (u, is, inl same) =
+      let got = shown c u (inl refl) same in
+      record { state = u; is = is; number = got.0; shown = got.1; cast = got.2; has = got.3 }
+  holds states c f held shown (u, is, inr same) =
+      let got = shown (c + 1) u (inr refl) same in
+      record { state = u; is = is; number = got.0; shown = got.1; cast = got.2; has = got.3 }
 
-  holds_first : (f : ℕ) (held : Option State) → f ≡ 0 → held ≡ Some s → HoldsShown (ballot_lines t) s ballots f held
+  holds_first : (f : ℕ) (held : State → Type 0) → f ≡ 0 → held s → HoldsShown (ballot_lines t) s ballots f held
   holds_first f held none is = record { state = s; is = is; number = 0; shown = inl (sym none); cast = omega arith; has = also_none (ballot_lines t) s }
 
 -- ---- what is left
@@ -70,13 +61,13 @@ text_cases (byte ∷ bytes) = inr (omega arith)
 
 module _ (t : TablesData) (r : RollData) (s : State) (start : Flashes) (lines : List (List ℕ)) (ballots : List Ballot) (left : Left) where
   -- before the first byte
-  pub kept_silent : left.shown ≡ [] → held_by_both t (length r.titles) left.internal left.external ≡ Some s → KeepFrames start left → KeepsVotes t r s start lines ballots left
+  pub kept_silent : left.shown ≡ [] → HeldByBoth t (length r.titles) left.internal left.external s → KeepFrames start left → KeepsVotes t r s start lines ballots left
   kept_silent none held frames =
       record {
         rest = concat lines;
         front = ap (λ (l : List ℕ). l ++ concat lines) (sym none);
         before = λ shown. held;
-        both = holds_first t s ballots (fims_reached lines (length left.shown)) (held_by_both t (length r.titles) left.internal left.external)
+        both = holds_first t s ballots (fims_reached lines (length left.shown)) (HeldByBoth t (length r.titles) left.internal left.external)
             (ap (λ (l : List ℕ). fims_reached lines (length l)) none ∙ fims_none lines) held;
         internal = λ some. absurd (omega (arith, ap length none, some));
         external = λ some. absurd (omega (arith, ap length none, some));
@@ -106,15 +97,15 @@ module _ (t : TablesData) (r : RollData) (s last : State) (es : List Event) (out
         rest = follows.rest;
         front = follows.front;
         before = λ none. absurd (omega (arith, ap length none, some));
-        both = holds t s (ballots_of run) states c f (held_by_both t (length r.titles) left.internal left.external) shown follows.both;
-        internal = λ _. holds t s (ballots_of run) states c f (held_alone t (length r.titles) left.internal) shown follows.internal;
-        external = λ _. holds t s (ballots_of run) states c f (held_alone t (length r.titles) left.external) shown follows.external;
+        both = holds t s (ballots_of run) states c f (HeldByBoth t (length r.titles) left.internal left.external) shown follows.both;
+        internal = λ _. holds t s (ballots_of run) states c f (HeldAlone t (length r.titles) left.internal) shown follows.internal;
+        external = λ _. holds t s (ballots_of run) states c f (HeldAlone t (length r.titles) left.external) shown follows.external;
         frames = frames;
       }
 
   pub session_kept : Survives t load s steps start left → Kept
   session_kept survives = elim (text_cases left.shown) [
-    | inl none ↦ kept_silent t r s start lines (ballots_of run) left none (subst (λ (k : ℕ). held_by_both t k left.internal left.external ≡ Some s) voters (survives.0 none)) survives.2
+    | inl none ↦ kept_silent t r s start lines (ballots_of run) left none (subst (λ (k : ℕ). HeldByBoth t k left.internal left.external s) voters (survives.0 none)) survives.2
     | inr some ↦ kept_shown some (subst (λ (k : ℕ). Follows t k s steps left) voters (survives.1 some)) survives.2
   ]
 
@@ -134,18 +125,18 @@ module _ (t : TablesData) (r : RollData) (s last : State) (es : List Event) (out
         rest = follows.rest ++ concat more;
         front = whole;
         before = λ nothing. absurd (omega (arith, ap length nothing, some));
-        both = holds_first t s (ballots_of run) (fims_reached lines n) (held_by_both t (length r.titles) left.internal left.external) none
-            (only_state s c (held_by_both t (length r.titles) left.internal left.external) follows.both);
-        internal = λ _. holds_first t s (ballots_of run) (fims_reached lines n) (held_alone t (length r.titles) left.internal) none
-            (only_state s c (held_alone t (length r.titles) left.internal) follows.internal);
-        external = λ _. holds_first t s (ballots_of run) (fims_reached lines n) (held_alone t (length r.titles) left.external) none
-            (only_state s c (held_alone t (length r.titles) left.external) follows.external);
+        both = holds_first t s (ballots_of run) (fims_reached lines n) (HeldByBoth t (length r.titles) left.internal left.external) none
+            (only_state s c (HeldByBoth t (length r.titles) left.internal left.external) follows.both);
+        internal = λ _. holds_first t s (ballots_of run) (fims_reached lines n) (HeldAlone t (length r.titles) left.internal) none
+            (only_state s c (HeldAlone t (length r.titles) left.internal) follows.internal);
+        external = λ _. holds_first t s (ballots_of run) (fims_reached lines n) (HeldAlone t (length r.titles) left.external) none
+            (only_state s c (HeldAlone t (length r.titles) left.external) follows.external);
         frames = frames;
       }
 
   pub opening_kept : Survives t load s (opening t s) start left → Kept
   opening_kept survives = elim (text_cases left.shown) [
-    | inl none ↦ kept_silent t r s start lines (ballots_of run) left none (subst (λ (k : ℕ). held_by_both t k left.internal left.external ≡ Some s) voters (survives.0 none)) survives.2
+    | inl none ↦ kept_silent t r s start lines (ballots_of run) left none (subst (λ (k : ℕ). HeldByBoth t k left.internal left.external s) voters (survives.0 none)) survives.2
     | inr some ↦ kept_opening some (subst (λ (k : ℕ). Follows t k s (opening t s) left) voters (survives.1 some)) survives.2
   ]
 

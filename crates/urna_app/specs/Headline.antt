@@ -16,7 +16,7 @@ use Rattle.image_codec.specs.CodecLaws.{Ballot}
 use Rattle.image_codec.specs.State.{State}
 use Rattle.image_codec.specs.Valid.{ready_state}
 use Rattle.state_store.specs.Calls.{AreFound, KeepFrames, both_synced}
-use Rattle.state_store.specs.Held.{held_alone, held_by_both}
+use Rattle.state_store.specs.Held.{HeldAlone, HeldByBoth}
 use Rattle.state_store.specs.Laws.{AreWhole}
 use Rattle.state_store.specs.Rest.{AreAtRest}
 use Rattle.state_store.specs.Steps.{lines_in}
@@ -35,9 +35,9 @@ use Rattle.urna_app.specs.declared.status.Status.TheVariants as status
 -- ---- what is left of the votes
 
 -- What is held is the poll in s with the first f of these ballots, or with the first f + 1.
-pub record HoldsShown (lines : List BallotLine) (s : State) (ballots : List Ballot) (f : ℕ) (held : Option State) : Type 0 where
+pub record HoldsShown (lines : List BallotLine) (s : State) (ballots : List Ballot) (f : ℕ) (held : State → Type 0) : Type 0 where
   pub state : State
-  pub is : held ≡ Some state
+  pub is : held state
   pub number : ℕ
   pub shown : (number ≡ f) ⊎ (number ≡ f + 1)
   pub cast : number ≤ length ballots
@@ -49,12 +49,12 @@ pub record HoldsShown (lines : List BallotLine) (s : State) (ballots : List Ball
 pub record KeepsVotes (t : TablesData) (r : RollData) (s : State) (start : Flashes) (lines : List (List ℕ)) (ballots : List Ballot) (left : Left) : Type 0 where
   pub rest : List ℕ
   pub front : concat lines ≡ left.shown ++ rest
-  pub before : left.shown ≡ [] → held_by_both t (length r.titles) left.internal left.external ≡ Some s
-  pub both : HoldsShown (ballot_lines t) s ballots (fims_reached lines (length left.shown)) (held_by_both t (length r.titles) left.internal left.external)
+  pub before : left.shown ≡ [] → HeldByBoth t (length r.titles) left.internal left.external s
+  pub both : HoldsShown (ballot_lines t) s ballots (fims_reached lines (length left.shown)) (HeldByBoth t (length r.titles) left.internal left.external)
   pub internal : 0 < length left.shown
-      → HoldsShown (ballot_lines t) s ballots (fims_reached lines (length left.shown)) (held_alone t (length r.titles) left.internal)
+      → HoldsShown (ballot_lines t) s ballots (fims_reached lines (length left.shown)) (HeldAlone t (length r.titles) left.internal)
   pub external : 0 < length left.shown
-      → HoldsShown (ballot_lines t) s ballots (fims_reached lines (length left.shown)) (held_alone t (length r.titles) left.external)
+      → HoldsShown (ballot_lines t) s ballots (fims_reached lines (length left.shown)) (HeldAlone t (length r.titles) left.external)
   pub frames : KeepFrames start left
 
 -- ---- a call of vota, where machine and cabinet tell
@@ -121,7 +121,7 @@ pub record IsSitting (t : TablesData) (r : RollData) (start : Flashes) (x : Sitt
   pub ops : List Op
   pub call : IsCall words cabinet machine machine_after t r keys start ops
   pub first : State
-  pub held : held_by_both t (length r.titles) start.internal.content start.external.content ≡ Some first
+  pub held : HeldByBoth t (length r.titles) start.internal.content start.external.content first
   pub last : State
   pub out : List Output
   pub run : IsRun (setting_of t r.titles) first keys last out
@@ -152,7 +152,7 @@ abbrev pub DayKeepsVotes : Type 0
 DayKeepsVotes =
     (t : TablesData) (r : RollData) (section : Section) (s : State) (start : Flashes) (sittings : List Sitting) (left : Left)
     → AreWhole start → AreFound t r section s start → IsDay t r start sittings left
-    → (u : State) × (cast : List (List Ballot)) × (held_by_both t (length r.titles) left.internal left.external ≡ Some u)
+    → (u : State) × (cast : List (List Ballot)) × HeldByBoth t (length r.titles) left.internal left.external u
     × AreOfSittings sittings cast × HasAlso (ballot_lines t) s (flat_map (λ ballots. ballots) cast) u
 
 -- A load with which carga answered Done begins a day: the flashes hold the poll in which nobody came.

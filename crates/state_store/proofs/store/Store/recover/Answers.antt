@@ -42,7 +42,7 @@ returns-in-Err-heal-clause-fails g c =
     let found = c.in_ok-section.ensures in
     let body = found_body c.in_ok-section.found in
     let s = ranked_state t (length r.titles) body found.ranked in
-    fails_healing t r c.in_ok-section.section s.0 body s.1 (g.M.Machine.told c.args.m.now) (g.M.Machine.told c.sync_both.new.m) (g.M.Machine.told c.find.new.m) (g.M.Machine.told c.heal.new.m)
+    fails_healing t r c.in_ok-section.section found.tables found.roll.count.1 s.0 body s.1 (g.M.Machine.told c.args.m.now) (g.M.Machine.told c.sync_both.new.m) (g.M.Machine.told c.find.new.m) (g.M.Machine.told c.heal.new.m)
     synced.does found.done found.loaded found.held c.heal.ensures.ran c.in-Err-heal.dev found.section (faultless_trans _ _ _ synced.fine found.fine) c.in-Err-heal.ensures.fails
 
 pub returns-clause-kept : goal.returns-clause-kept
@@ -85,7 +85,7 @@ returns-clause-ran g c =
     let read : IsEncoding t (length r.titles) s body =
     subst (λ (b : List ℕ). IsEncoding t (length r.titles) s b) (c.body.ensures ∙ body_is) (subst (λ (n : ℕ). IsEncoding t n s c.body.result.now) places (c.load-loaded.ensures.loaded c.if-prove.false)) in
     let known = found_known t r section found.tables found.roll found.section s body read in
-    let ran = recovered t r section s body known start (g.M.Machine.told c.sync_both.new.m) (g.M.Machine.told c.find.new.m) (g.M.Machine.told c.heal.new.m) synced.does found.done found.loaded found.held c.heal.ensures.ran in
+    let ran = recovered t r section found.tables found.roll.count.1 s body known start (g.M.Machine.told c.sync_both.new.m) (g.M.Machine.told c.find.new.m) (g.M.Machine.told c.heal.new.m) synced.does found.done found.loaded found.held c.heal.ensures.ran in
     subst (λ (u : Section). Runs (λ ops. (rest : List Op) × (ops ≡ both_synced ++ rest) × Recovers t r u s start rest) start (g.M.Machine.told c.heal.new.m)) (sym (ap (λ (l : Load). l.section) c.of-load.ensures)) ran
 
 pub returns-clause-exact : goal.returns-clause-exact
