@@ -458,6 +458,10 @@ pub survives_more : (t : TablesData) (load : Load) (s : State) (xs ys : List Ste
 survives_more t load s xs ys start left (before, behind, kept) =
     (before, λ begun. follows_before t load.section.voters s xs ys left (behind begun), kept)
 
+pub safe_more : (t : TablesData) (load : Load) (s : State) (xs ys : List Step) (a b : Told) → IsSafe t load s xs a b → IsSafe t load s (xs ++ ys) a b
+safe_more t load s xs ys a b (ops, does, (rest, is, stops)) =
+    (ops, does, (rest, is, λ start told done stop left leaves. survives_more t load s xs ys start left (stops start told done stop left leaves)))
+
 -- what was played
 pub put_plays : (t : TablesData) (load : Load) (s : State) (steps : List Step) (a b : Told) → HasPut t load s steps a b → Runs (Plays t load s steps a.flashes) a b
 put_plays t load s steps a b put = (put.ops, put.does, put.plays)

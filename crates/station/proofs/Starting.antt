@@ -15,11 +15,11 @@ use Rattle.state_store.specs.Calls.{FailsToRecover, IsRecovery, Recovers, both_s
 use Rattle.state_store.specs.Store.{IsLoadedWith, Keeps, StoreData}
 use Rattle.state_store.specs.declared.store.StoreError.{StoreError}
 use Rattle.state_store.specs.declared.store.StoreError.TheVariants as store
-use Rattle.state_store.proofs.Playing.{opening_call, put_shown, stopped_shown}
+use Rattle.state_store.proofs.Playing.{opening_call, put_shown, safe_more, stopped_shown}
 use Rattle.state_store.proofs.Stored.{stored}
 use Rattle.station.specs.Press.{idle_at}
 use Rattle.station.specs.Setting.{setting_of}
-use Rattle.station.specs.Start.{FailsToStart, IsCutAtOpening, IsRecovered, Opens, start_error}
+use Rattle.station.specs.Start.{FailsToStart, IsCutAtOpening, IsRecovered, Opens, opening, start_error}
 use Rattle.station.specs.Station.{IsStationed}
 use Rattle.station.specs.Text.{line_text}
 use Rattle.station.specs.declared.line.Line.TheVariants.{Poll}
@@ -75,5 +75,5 @@ module _ (t : TablesData) (r : RollData) (store : StoreData) (s : State) (a b c 
         between = b;
         recovered = recovered;
         stopped = stopped;
-        survives = opening_call t r store.load s line [] a b c ran (stopped.ops, stopped.does, stopped.plays);
+        survives = λ steps. safe_more t store.load s (opening t s) steps a c (opening_call t r store.load s line [] a b c ran (stopped.ops, stopped.does, stopped.plays));
       }

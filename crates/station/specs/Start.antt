@@ -60,14 +60,15 @@ start_error (store.Flash d) = start.Port (port_of d)
 start_error (store.Foreign d) = start.Foreign d
 start_error store.NoImage = start.NoImage
 
--- The display failed in the opening line, behind a recovery.
+-- The display failed in the opening line, behind a recovery. What a power cut leaves is what it would leave of a session, whatever
+-- steps were to come.
 pub record IsCutAtOpening (t : TablesData) (r : RollData) (old new : Told) : Type 0 where
   pub load : Load
   pub state : State
   pub between : Told
   pub recovered : IsRecovered t r load state old between
   pub stopped : HasStopped t load state (opening t state) Display between new
-  pub survives : IsSafe t load state (opening t state) old new
+  pub survives : (steps : List Step) → IsSafe t load state (opening t state ++ steps) old new
 
 -- what there is where a station doesn't start
 abbrev pub FailsToStart : TablesData → RollData → Told → Told → StartError → Type 0

@@ -7,6 +7,7 @@ use Rattle.std.proofs.lemmas.Bool.{eqb-true}
 use Rattle.urna_outside.specs.Cabinet.{CabinetTold, Files}
 use Rattle.urna_outside.specs.Flash.{Flashes, IsClean, Op, after, flash_of}
 use Rattle.urna_outside.specs.Stop.{AtEachStop, Left}
+use Rattle.urna_outside.specs.Traced.{IsTraced}
 use Rattle.urna_outside.specs.Told.{Told, Does, Runs}
 use Rattle.urna_outside.specs.declared.device.Dev.{Dev}
 use Rattle.urna_outside.specs.declared.device.Dev.TheVariants as dev
@@ -46,21 +47,20 @@ use Rattle.station.specs.declared.station.StartError.TheVariants as starting
 use Rattle.station.proofs.Performing.{tables_setting}
 use Rattle.station.proofs.Casting.{run_counts, run_last}
 use Rattle.station.proofs.RunLaws.{run_exists, run_unique}
-use Rattle.urna_app.specs.Command.{Carga, Vota, carga_of, vota_of}
+use Rattle.urna_app.specs.Command.{Vota, Votes, command_of}
 use Rattle.urna_app.specs.Ending.{CommandEnds, HasVoted, IsCutShort, IsGiven, VotaEnds, carga, cut, done, no_cabinet, no_command, no_memory, not_started, port_status, refused, start_status, vota, IsRefused}
 use Rattle.urna_app.specs.FaultLines.{Tells, fault_text}
 use Rattle.urna_app.specs.Headline.{AllAreCounted, KeepsVotes, KeysHaveRun, VotesAreKept, session_lines}
 use Rattle.urna_app.specs.declared.status.Doc.TheVariants as doc
 use Rattle.urna_app.specs.declared.status.Status.{Status}
 use Rattle.urna_app.specs.declared.status.Status.TheVariants as status
-use Rattle.urna_app.proofs.Keeping.{behind_is, found_roll, kept_silent, not_done, not_within, opening_kept, safe_stops, session_kept}
+use Rattle.urna_app.proofs.Keeping.{behind_is, found_roll, kept_silent, not_done, not_within, safe_stops, session_kept}
 use Rattle.urna_app.proofs.Once.{refused_or_given, same_bytes}
 
 -- ---- a session in which the opening line began, and what else there is behind the two syncs
 
 module _ (t : TablesData) (r : RollData) (s last : State) (es : List Event) (out : List Output) (run : IsRun (setting_of t r.titles) s es last out) (tables : IsTables t)
-    (section : Section) (m n : Told) (start : Flashes) (before rest : List Op) (found : AreFound t r section s start)
-    (flashes : m.flashes ≡ Some start) (trail : m.trail ≡ Some before) (trailed : n.trail ≡ Some (before ++ (both_synced ++ rest))) where
+    (section : Section) (m n : Told) (start : Flashes) (rest : List Op) (found : AreFound t r section s start) (traced : IsTraced m n start (both_synced ++ rest)) where
   abbrev Kept : Left → Type 0
   Kept left = KeepsVotes t r s start (session_lines t s out) (ballots_of run) left
 
@@ -75,7 +75,7 @@ module _ (t : TablesData) (r : RollData) (s last : State) (es : List Event) (out
   found_here other first also = (found_once t r section s first start tables found also.held, also.loaded.section_fits.voters)
 
   recovered_here : (load : Load) (first : State) (b : Told) → IsRecovered t r load first m b → (first ≡ s) × (load.section.voters ≡ length r.titles)
-  recovered_here load first b is = found_here load.section first (is.ran.2.2.stops start flashes).0
+  recovered_here load first b is = found_here load.section first (is.ran.2.2.stops start traced.flashes).0
 
   -- a session that was held or cut short
   session_stops : (load : Load) (first u : State) (b : Told) (put : List Output) → IsRecovered t r load first m b → IsRun (setting_of t r.titles) first es u put
@@ -91,12 +91,12 @@ module _ (t : TablesData) (r : RollData) (s last : State) (es : List Event) (out
   pub voted_kept : HasVoted t r es m n → AreKept
   voted_kept voted =
       session_stops voted.load voted.first voted.last voted.opens.between voted.out voted.opens.recovered voted.run
-      (safe_stops m n start before rest flashes trail trailed t voted.load voted.first (opening t voted.first ++ session_steps t voted.out) voted.survives)
+      (safe_stops m n start rest traced t voted.load voted.first (opening t voted.first ++ session_steps t voted.out) voted.survives)
 
   pub cut_kept : (p : Port) → IsCutShort t r es p m n → AreKept
   cut_kept p h =
       session_stops h.load h.first h.last h.opens.between h.out h.opens.recovered h.run
-      (safe_stops m n start before rest flashes trail trailed t h.load h.first (opening t h.first ++ session_steps t h.out) h.survives)
+      (safe_stops m n start rest traced t h.load h.first (opening t h.first ++ session_steps t h.out) h.survives)
 
   -- where it was held, both flashes are at rest with all ballots in the end
   pub voted_counted : HasVoted t r es m n → HasAlso (ballot_lines t) s (ballots_of run) last × ForSome n.flashes (λ x. (load : Load) × AreAtRest load last x)
@@ -111,8 +111,9 @@ module _ (t : TablesData) (r : RollData) (s last : State) (es : List Event) (out
   pub opening_cut_kept : IsCutAtOpening t r m n → AreKept
   opening_cut_kept h ops stop left is =
       let here = recovered_here h.load h.state h.between h.recovered in
-      let survives = safe_stops m n start before rest flashes trail trailed t h.load h.state (opening t h.state) h.survives ops stop left is in
-      opening_kept t r s last es out run roll h.load here.1 start left (subst (λ (x : State). Survives t h.load x (opening t x) start left) here.0 survives)
+      let steps = session_steps t out in
+      let survives = safe_stops m n start rest traced t h.load h.state (opening t h.state ++ steps) (h.survives steps) ops stop left is in
+      session_kept t r s last es out run roll h.load here.1 start left (subst (λ (x : State). Survives t h.load x (opening t x ++ steps) start left) here.0 survives)
 
   silent : (left : Left) → left.shown ≡ [] → HeldByBoth t (length r.titles) left.internal left.external s → KeepFrames start left → Kept left
   silent left none held frames = kept_silent t r s start (session_lines t s out) (ballots_of run) left none held frames
@@ -138,22 +139,22 @@ module _ (t : TablesData) (r : RollData) (s last : State) (es : List Event) (out
   -- a recovery that a flash cut short
   recovering_kept : (behind : List Op) (other : Section) (first : State) → Recovers t r other first m behind → AtEachStop (after both_synced start) behind Kept
   recovering_kept behind other first recovers ops stop left is =
-      let at = recovers.stops start flashes in
+      let at = recovers.stops start traced.flashes in
       let here = found_here other first at.0 in
       let held = (at.1 ops stop left is).0 in
       silent left (stops_silent _ (after both_synced start) behind recovers.slots.within ops stop left is)
       (subst (λ (x : State). HeldByBoth t (length r.titles) left.internal left.external x) here.0 held) (at.1 ops stop left is).1
 
   flash_kept : Runs (FromSyncs (λ ops. (ops ≡ []) ⊎ ((other : Section) × (first : State) × IsSectionOf t r other × Recovers t r other first m ops))) m n → AreKept
-  flash_kept (ops, does, inl (inl none)) = absurd (not_done m n start before rest flashes trail trailed (subst (λ (l : List Op). Does l m n) none does))
-  flash_kept (ops, does, inl (inr one)) = absurd (not_within m n start before rest flashes trail trailed (subst (λ (l : List Op). Does l m n) one does))
+  flash_kept (ops, does, inl (inl none)) = absurd (not_done m n start rest traced (subst (λ (l : List Op). Does l m n) none does))
+  flash_kept (ops, does, inl (inr one)) = absurd (not_within m n start rest traced (subst (λ (l : List Op). Does l m n) one does))
   flash_kept (ops, does, inr (behind, is, inl none)) =
-      subst (λ (l : List Op). AtEachStop (after both_synced start) l Kept) (behind_is m n start before rest flashes trail trailed ops behind does is) (nothing_kept behind none)
+      subst (λ (l : List Op). AtEachStop (after both_synced start) l Kept) (behind_is m n start rest traced ops behind does is) (nothing_kept behind none)
   flash_kept (ops, does, inr (behind, is, inr (other, first, fits, recovers))) =
-      subst (λ (l : List Op). AtEachStop (after both_synced start) l Kept) (behind_is m n start before rest flashes trail trailed ops behind does is) (recovering_kept behind other first recovers)
+      subst (λ (l : List Op). AtEachStop (after both_synced start) l Kept) (behind_is m n start rest traced ops behind does is) (recovering_kept behind other first recovers)
 
   pub untouched_kept : IsUntouched m n → AreKept
-  untouched_kept h = absurd (not_done m n start before rest flashes trail trailed h.does)
+  untouched_kept h = absurd (not_done m n start rest traced h.does)
 
   -- a station that didn't start
   pub start_cut_kept : (p : Port) → FailsToStart t r m n (starting.Port p) → AreKept
@@ -190,38 +191,6 @@ given_once files names t u r q es fs a b =
       keys,
     )
 
--- ---- a command
-
-and_left : (a b : Bool) → (a && b) ≡ true → a ≡ true
-and_left true b h = refl
-and_left false b h = absurd (cc)
-
--- a word is not both
-one_word : (word : List ℕ) → bytes_eq word (codes "vota") ≡ true → bytes_eq word (codes "carga") ≡ true → ⊥
-one_word [] a b = absurd (cc)
-one_word (x ∷ word) a b =
-    let v : x ≡ 118 = eqb-true x 118 (and_left (nat_eq x 118) (bytes_eq word (codes "ota")) a) in
-    let c : x ≡ 99 = eqb-true x 99 (and_left (nat_eq x 99) (bytes_eq word (codes "arga")) b) in
-    absurd (omega (arith, v, c))
-
-if_some : {A : Type 0} (b : Bool) (x y : A) → (if b then Some x else None) ≡ Some y → b ≡ true
-if_some true x y h = refl
-if_some false x y h = absurd (cc)
-
-if_found : {A : Type 0} (b : Bool) (x : Option A) (y : A) → (if b then x else None) ≡ Some y → b ≡ true
-if_found true x y h = refl
-if_found false x y h = absurd (cc)
-
-pub one_command : (words : List (List ℕ)) (a : Vota) (b : Carga) → vota_of words ≡ Some a → carga_of words ≡ Some b → ⊥
-one_command [] a b v c = absurd (cc)
-one_command (w ∷ []) a b v c = absurd (cc)
-one_command (w ∷ x ∷ []) a b v c = absurd (cc)
-one_command (w ∷ x ∷ y ∷ []) a b v c = absurd (cc)
-one_command (w ∷ x ∷ y ∷ z ∷ []) a b v c = absurd (cc)
-one_command (w ∷ x ∷ y ∷ z ∷ o ∷ []) a b v c =
-    one_word w (if_some (bytes_eq w (codes "vota")) _ a v) (if_found (bytes_eq w (codes "carga")) _ b c)
-one_command (w ∷ x ∷ y ∷ z ∷ o ∷ p ∷ more) a b v c = absurd (cc)
-
 -- ---- the headline
 
 -- where a status has no fault line, nothing is done after the command
@@ -231,8 +200,8 @@ port_silent port.External b n tells = tells
 port_silent port.Display b n tells = tells
 
 module _ (names : Vota) (files : Files) (c d : CabinetTold) (told : c.files ≡ Some files) (t : TablesData) (r : RollData) (es : List Event) (given : IsGiven (Some files) names t r es)
-    (section : Section) (s last : State) (out : List Output) (run : IsRun (setting_of t r.titles) s es last out) (m b n : Told) (start : Flashes) (before rest : List Op)
-    (found : AreFound t r section s start) (flashes : m.flashes ≡ Some start) (trail : m.trail ≡ Some before) (trailed : n.trail ≡ Some (before ++ (both_synced ++ rest))) where
+    (section : Section) (s last : State) (out : List Output) (run : IsRun (setting_of t r.titles) s es last out) (m b n : Told) (start : Flashes) (rest : List Op)
+    (found : AreFound t r section s start) (traced : IsTraced m n start (both_synced ++ rest)) where
   abbrev All : Type 0
   All = AtEachStop (after both_synced start) rest (KeepsVotes t r s start (session_lines t s out) (ballots_of run))
 
@@ -250,15 +219,15 @@ module _ (names : Vota) (files : Files) (c d : CabinetTold) (told : c.files ≡ 
       subst (λ (x : TablesData). P x r es) one.0 (subst (λ (x : RollData). P u x es) one.1 (subst (λ (x : List Event). P u q x) one.2 h))
 
   untouched : IsUntouched m b → n ≡ b → All
-  untouched h same = untouched_kept t r s last es out run tables section m n start before rest found flashes trail trailed (at_end (λ x. IsUntouched m x) same h)
+  untouched h same = untouched_kept t r s last es out run tables section m n start rest found traced (at_end (λ x. IsUntouched m x) same h)
 
   not_begun : (e : StartError) → FailsToStart t r m b e → Tells (fault_text (start_status e)) b n → All
   not_begun starting.Memory h tells = untouched h tells
   not_begun (starting.Port p) h tells =
-      start_cut_kept t r s last es out run tables section m n start before rest found flashes trail trailed p
+      start_cut_kept t r s last es out run tables section m n start rest found traced p
       (at_end (λ x. FailsToStart t r m x (starting.Port p)) (port_silent p b n tells) h)
-  not_begun (starting.Foreign e) h tells = absurd (not_foreign t r s tables section m b start found flashes e h)
-  not_begun starting.NoImage h tells = absurd (not_empty t r s tables section m b start found flashes h)
+  not_begun (starting.Foreign e) h tells = absurd (not_foreign t r s tables section m b start found traced.flashes e h)
+  not_begun starting.NoImage h tells = absurd (not_empty t r s tables section m b start found traced.flashes h)
 
   vota_kept : (answer : Status) → VotaEnds names c d m b answer → Tells (fault_text answer) b n → All
   vota_kept answer (refused bad taken un) tells = absurd (refused_or_given files names answer t r es (subst (λ (o : Option Files). IsRefused o names answer) told bad) given)
@@ -267,21 +236,21 @@ module _ (names : Vota) (files : Files) (c d : CabinetTold) (told : c.files ≡ 
   vota_kept _ (not_started {t = u} {r = q} {es = fs} e also taken h) tells =
       not_begun e (of_given u q fs (λ x y z. FailsToStart x y m b e) also h) tells
   vota_kept _ (cut {t = u} {r = q} {es = fs} p also taken h) tells =
-      cut_kept t r s last es out run tables section m n start before rest found flashes trail trailed p
+      cut_kept t r s last es out run tables section m n start rest found traced p
       (at_end (λ x. IsCutShort t r es p m x) (port_silent p b n tells) (of_given u q fs (λ x y z. IsCutShort x y z p m b) also h))
   vota_kept _ (done {t = u} {r = q} {es = fs} also taken h) tells =
-      voted_kept t r s last es out run tables section m n start before rest found flashes trail trailed
+      voted_kept t r s last es out run tables section m n start rest found traced
       (at_end (λ x. HasVoted t r es m x) tells (of_given u q fs (λ x y z. HasVoted x y z m b) also h))
 
   -- the command is vota
-  command_is : (words : List (List ℕ)) (answer : Status) → vota_of words ≡ Some names → CommandEnds words c d m b answer → VotaEnds names c d m b answer
-  command_is words _ is (no_command none also taken un) = absurd (cc)
+  command_is : (words : List (List ℕ)) (answer : Status) → command_of words ≡ Some (Votes names) → CommandEnds words c d m b answer → VotaEnds names c d m b answer
+  command_is words _ is (no_command none taken un) = absurd (cc)
   command_is words answer is (vota {names = other} that h) =
       let same : other ≡ names = cc in
       subst (λ (x : Vota). VotaEnds x c d m b answer) same h
-  command_is words answer is (carga {names = other} that h) = absurd (one_command words names other is that)
+  command_is words answer is (carga that h) = absurd (cc)
 
-  pub command_kept : (words : List (List ℕ)) (answer : Status) → vota_of words ≡ Some names → CommandEnds words c d m b answer → Tells (fault_text answer) b n → All
+  pub command_kept : (words : List (List ℕ)) (answer : Status) → command_of words ≡ Some (Votes names) → CommandEnds words c d m b answer → Tells (fault_text answer) b n → All
   command_kept words answer is h tells = vota_kept answer (command_is words answer is h) tells
 
   -- with Done
@@ -308,20 +277,20 @@ module _ (names : Vota) (files : Files) (c d : CabinetTold) (told : c.files ≡ 
   vota_counted _ ok (not_started e also taken h) tells = absurd (start_not_done e ok)
   vota_counted _ ok (cut p also taken h) tells = absurd (port_not_done p ok)
   vota_counted _ ok (done {t = u} {r = q} {es = fs} also taken h) tells =
-      voted_counted t r s last es out run tables section m n start before rest found flashes trail trailed
+      voted_counted t r s last es out run tables section m n start rest found traced
       (at_end (λ x. HasVoted t r es m x) tells (of_given u q fs (λ x y z. HasVoted x y z m b) also h))
 
-  pub command_counted : (words : List (List ℕ)) → vota_of words ≡ Some names → CommandEnds words c d m b status.Done → Tells None b n → Counted
+  pub command_counted : (words : List (List ℕ)) → command_of words ≡ Some (Votes names) → CommandEnds words c d m b status.Done → Tells None b n → Counted
   command_counted words is h tells = vota_counted status.Done refl (command_is words status.Done is h) tells
 
 pub votes_are_kept : VotesAreKept
 votes_are_kept words c d m n answer ends t r es start ops is section s found last out run =
-    command_kept is.names is.files c d is.cabinet t r es is.given section s last out run m ends.between n start is.before ops found is.flashes is.trail is.done words answer
+    command_kept is.names is.files c d is.cabinet t r es is.given section s last out run m ends.between n start ops found is.traced words answer
     is.command ends.command ends.told
 
 pub all_are_counted : AllAreCounted
 all_are_counted words c d m n ends t r es start ops is section s found last out run =
-    command_counted is.names is.files c d is.cabinet t r es is.given section s last out run m ends.between n start is.before ops found is.flashes is.trail is.done words
+    command_counted is.names is.files c d is.cabinet t r es is.given section s last out run m ends.between n start ops found is.traced words
     is.command ends.command ends.told
 
 pub keys_have_run : KeysHaveRun

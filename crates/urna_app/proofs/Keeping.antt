@@ -109,62 +109,24 @@ module _ (t : TablesData) (r : RollData) (s last : State) (es : List Event) (out
     | inr some ↦ kept_shown some (subst (λ (k : ℕ). Follows t k s steps left) voters (survives.1 some)) survives.2
   ]
 
-  -- in the opening line
-  kept_opening : 0 < length left.shown → Follows t (length r.titles) s (opening t s) left → KeepFrames start left → Kept
-  kept_opening some follows frames =
-      let n : ℕ = length left.shown in
-      let c = commits_reached (opening t s) n in
-      let more : List (List ℕ) = lines_in (session_steps t out) in
-      let line = opening_line t s in
-      let short : n - length (line ++ []) ≡ 0 = omega (arith, ap length follows.front, length-append left.shown follows.rest) in
-      let none : fims_reached lines n ≡ 0 =
-      fims_past (line ∷ []) more n (opening_other t s, tt) ∙ ap (λ (k : ℕ). fims_reached more k) short ∙ fims_none more in
-      let whole : concat lines ≡ left.shown ++ (follows.rest ++ concat more) =
-      ap (λ (l : List ℕ). l ++ concat more) (sym (append-nil line) ∙ follows.front) ∙ append_assoc left.shown follows.rest (concat more) in
-      record {
-        rest = follows.rest ++ concat more;
-        front = whole;
-        before = λ nothing. absurd (omega (arith, ap length nothing, some));
-        both = holds_first t s (ballots_of run) (fims_reached lines n) (HeldByBoth t (length r.titles) left.internal left.external) none
-            (only_state s c (HeldByBoth t (length r.titles) left.internal left.external) follows.both);
-        internal = λ _. holds_first t s (ballots_of run) (fims_reached lines n) (HeldAlone t (length r.titles) left.internal) none
-            (only_state s c (HeldAlone t (length r.titles) left.internal) follows.internal);
-        external = λ _. holds_first t s (ballots_of run) (fims_reached lines n) (HeldAlone t (length r.titles) left.external) none
-            (only_state s c (HeldAlone t (length r.titles) left.external) follows.external);
-        frames = frames;
-      }
-
-  pub opening_kept : Survives t load s (opening t s) start left → Kept
-  opening_kept survives = elim (text_cases left.shown) [
-    | inl none ↦ kept_silent t r s start lines (ballots_of run) left none (subst (λ (k : ℕ). HeldByBoth t k left.internal left.external s) voters (survives.0 none)) survives.2
-    | inr some ↦ kept_opening some (subst (λ (k : ℕ). Follows t k s (opening t s) left) voters (survives.1 some)) survives.2
-  ]
-
 -- ---- what was done
 
-module _ (m n : Told) (start : Flashes) (before rest : List Op) (flashes : m.flashes ≡ Some start) (trail : m.trail ≡ Some before)
-    (trailed : n.trail ≡ Some (before ++ (both_synced ++ rest))) where
-  -- these operations are those of the trail
-  pub trail_is : (ops : List Op) → Does ops m n → ops ≡ both_synced ++ rest
-  trail_is ops does =
-      let one : n.trail ≡ Some (before ++ ops) = does.trail ∙ ap (option_map (λ (l : List Op). l ++ ops)) trail in
-      let same : before ++ ops ≡ before ++ (both_synced ++ rest) = cc in
-      append_cancel_left before ops (both_synced ++ rest) same
-
+module _ (m n : Told) (start : Flashes) (rest : List Op) (traced : IsTraced m n start (both_synced ++ rest)) where
+  -- what was done behind the syncs is the rest of the trail
   pub behind_is : (ops behind : List Op) → Does ops m n → ops ≡ both_synced ++ behind → behind ≡ rest
-  behind_is ops behind does is = append_cancel_left both_synced behind rest (sym is ∙ trail_is ops does)
+  behind_is ops behind does is = append_cancel_left both_synced behind rest (sym is ∙ traced_is m n start (both_synced ++ rest) ops traced does)
 
   -- what holds of a safe call holds at the stops of the trail
   pub safe_stops : (t : TablesData) (load : Load) (s : State) (steps : List Step) → IsSafe t load s steps m n
       → AtEachStop (after both_synced start) rest (Survives t load s steps start)
   safe_stops t load s steps safe =
-      subst (λ (l : List Op). AtEachStop (after both_synced start) l (Survives t load s steps start)) (behind_is safe.0 safe.2.0 safe.1 safe.2.1) (safe.2.2 start flashes)
+      subst (λ (l : List Op). AtEachStop (after both_synced start) l (Survives t load s steps start)) (behind_is safe.0 safe.2.0 safe.1 safe.2.1) (safe.2.2 start traced.flashes)
 
   pub not_done : Does [] m n → ⊥
-  not_done does = let is = trail_is [] does in absurd (cc)
+  not_done does = let is = traced_is m n start (both_synced ++ rest) [] traced does in absurd (cc)
 
   pub not_within : Does (Sync dev.Internal ∷ []) m n → ⊥
   not_within does =
-      let is = trail_is (Sync dev.Internal ∷ []) does in
+      let is = traced_is m n start (both_synced ++ rest) (Sync dev.Internal ∷ []) traced does in
       let long : 1 ≡ length (both_synced ++ rest) = ap length is in
       absurd (omega arith)

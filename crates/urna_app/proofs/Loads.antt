@@ -19,13 +19,12 @@ use Rattle.state_store.specs.Laws.{AreWhole}
 use Rattle.state_store.specs.declared.store.LoadError.{LoadError}
 use Rattle.state_store.specs.declared.store.LoadError.TheVariants as load
 use Rattle.state_store.proofs.Loaded.{rest_found, rest_whole}
-use Rattle.urna_app.specs.Command.{Carga, carga_of}
+use Rattle.urna_app.specs.Command.{Carga, Loads, command_of}
 use Rattle.urna_app.specs.Ending.{CargaEnds, CommandEnds, HasLoaded, IsAsked, IsGivenLoad, IsRefusedLoad, carga, load_no_cabinet, load_no_memory, load_refused, load_status, loaded, loaded_line, no_section, not_loaded, not_told, vota}
 use Rattle.urna_app.specs.Headline.{LoadBeginsDay}
 use Rattle.urna_app.specs.declared.status.Doc.TheVariants as doc
 use Rattle.urna_app.specs.declared.status.Status.{Status}
 use Rattle.urna_app.specs.declared.status.Status.TheVariants as status
-use Rattle.urna_app.proofs.Headline.{one_command}
 use Rattle.urna_app.proofs.Once.{refused_or_given_load, same_bytes}
 
 load_given_once : (files : Files) (names : Carga) (t u : TablesData) (r q : RollData) → IsGivenLoad (Some files) names t r → IsGivenLoad (Some files) names u q → (t ≡ u) × (r ≡ q)
@@ -73,8 +72,8 @@ module _ (files : Files) (names : Carga) (c d : CabinetTold) (told : c.files ≡
       let done_here = subst (λ (x : TablesData). HasLoaded x r section m between) one.0 (subst (λ (x : RollData). HasLoaded u x section m between) one.1 h) in
       begins section between asked_here done_here there
 
-  pub command_begins : (words : List (List ℕ)) → carga_of words ≡ Some names → CommandEnds words c d m b status.Done → Begins
-  command_begins words is (vota {names = other} that h) = absurd (one_command words other names that is)
+  pub command_begins : (words : List (List ℕ)) → command_of words ≡ Some (Loads names) → CommandEnds words c d m b status.Done → Begins
+  command_begins words is (vota that h) = absurd (cc)
   command_begins words is (carga {names = other} that h) =
       let same : other ≡ names = cc in
       carga_begins status.Done refl (subst (λ (x : Carga). CargaEnds x c d m b status.Done) same h)

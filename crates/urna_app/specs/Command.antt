@@ -51,3 +51,17 @@ carga_of (a ∷ b ∷ []) = None
 carga_of (a ∷ b ∷ c ∷ []) = None
 carga_of (a ∷ b ∷ c ∷ d ∷ []) = None
 carga_of (a ∷ b ∷ c ∷ d ∷ e ∷ f ∷ more) = None
+
+-- a command and its names
+pub data Command : Type 0 where
+  Votes : Vota → Command
+  Loads : Carga → Command
+
+abbrev pub command_in : Option Vota → Option Carga → Option Command
+command_in (Some names) other = Some (Votes names)
+command_in None (Some names) = Some (Loads names)
+command_in None None = None
+
+-- the command of the words, if they are one
+abbrev pub command_of : List (List ℕ) → Option Command
+command_of words = command_in (vota_of words) (carga_of words)

@@ -6,6 +6,7 @@ use Rattle.urna_outside.specs.Cabinet.{CabinetTold, Files}
 use Rattle.urna_outside.specs.Flash.{Flashes, Op, after, shown_by}
 use Rattle.urna_outside.specs.Stop.{AtEachStop, IsLeft, IsStop, Left}
 use Rattle.urna_outside.specs.Told.{Told}
+use Rattle.urna_outside.specs.Traced.{IsTraced}
 use Rattle.election_tables.specs.Roll.{RollData}
 use Rattle.election_tables.specs.TablesData.{TablesData}
 use Rattle.election_tables.specs.declared.tables.sections.Section.{Section}
@@ -27,7 +28,7 @@ use Rattle.station.specs.Run.{IsRun}
 use Rattle.station.specs.Setting.{setting_of}
 use Rattle.station.specs.Start.{opening_line}
 use Rattle.station.specs.Text.{session_steps}
-use Rattle.urna_app.specs.Command.{Carga, Vota, carga_of, vota_of}
+use Rattle.urna_app.specs.Command.{Carga, Loads, Vota, Votes, command_of}
 use Rattle.urna_app.specs.Ending.{Ends, IsGiven, IsGivenLoad}
 use Rattle.urna_app.specs.declared.status.Status.{Status}
 use Rattle.urna_app.specs.declared.status.Status.TheVariants as status
@@ -67,14 +68,11 @@ session_lines t s out = opening_line t s ∷ lines_in (session_steps t out)
 -- two opening syncs, and then these.
 pub record IsCall (words : List (List ℕ)) (c : CabinetTold) (m n : Told) (t : TablesData) (r : RollData) (es : List Event) (start : Flashes) (ops : List Op) : Type 0 where
   pub names : Vota
-  pub command : vota_of words ≡ Some names
+  pub command : command_of words ≡ Some (Votes names)
   pub files : Files
   pub cabinet : c.files ≡ Some files
   pub given : IsGiven (Some files) names t r es
-  pub flashes : m.flashes ≡ Some start
-  pub before : List Op
-  pub trail : m.trail ≡ Some before
-  pub done : n.trail ≡ Some (before ++ (both_synced ++ ops))
+  pub traced : IsTraced m n start (both_synced ++ ops)
 
 -- However a call of vota ends over flashes that are loaded for a section and together hold the poll s: whatever a power cut leaves at
 -- any stop behind the two opening syncs keeps the votes of the run of the keys.
@@ -159,6 +157,6 @@ DayKeepsVotes =
 abbrev pub LoadBeginsDay : Type 0
 LoadBeginsDay =
     (words : List (List ℕ)) (c d : CabinetTold) (m n : Told) → Ends words c d m n status.Done
-    → (names : Carga) (files : Files) (t : TablesData) (r : RollData) → carga_of words ≡ Some names → c.files ≡ Some files → IsGivenLoad (Some files) names t r
+    → (names : Carga) (files : Files) (t : TablesData) (r : RollData) → command_of words ≡ Some (Loads names) → c.files ≡ Some files → IsGivenLoad (Some files) names t r
     → (start : Flashes) → n.flashes ≡ Some start
     → (section : Section) × AreWhole start × AreFound t r section (ready_state t (length r.titles)) start

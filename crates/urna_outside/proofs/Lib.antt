@@ -16,3 +16,4 @@ mod Replays
 mod Tears
 mod Torn
 mod ItemLemmas
+pub mod Traced

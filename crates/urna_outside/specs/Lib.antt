@@ -23,3 +23,4 @@ pub mod Tape
 pub mod Tear
 pub mod Told
 pub mod ShownLines
+pub mod Traced
