@@ -1,5 +1,5 @@
 -- How marks are counted
-use Rattle.std.proofs.Common.{◌≡◌, ℕ, zero, suc, ◌+◌, ◌<◌, ◌≤◌, ◌≢◌, Bool, true, false, cond, List, [], ◌∷◌, length, refl, ap, arith, slice_set, replicate}
+use Rattle.std.proofs.Common.{◌≡◌, ℕ, zero, suc, ◌+◌, ◌<◌, ◌≤◌, ◌≢◌, Bool, true, false, cond, List, [], ◌∷◌, length, refl, ap, ◌∙◌, arith, slice_set, replicate}
 use Rattle.std.proofs.Math.ListN.{length-set}
 use Rattle.std.proofs.lemmas.List.Sums.{sum_by-cons, count_by-le-length}
 use Rattle.turnout.specs.Turnout.{has_come, number_came}
@@ -60,3 +60,13 @@ has_come-set_other (mark ∷ came) zero zero apart = absurd (apart refl)
 has_come-set_other (mark ∷ came) zero (suc other) apart = refl
 has_come-set_other (mark ∷ came) (suc place) zero apart = refl
 has_come-set_other (mark ∷ came) (suc place) (suc other) apart = has_come-set_other came place other (λ e. apart (ap suc e))
+
+-- marks of as many places, by which the same came, are the same
+pub same_came : (a b : List Bool) → length a ≡ length b → ((place : ℕ) → has_come a place ≡ has_come b place) → a ≡ b
+same_came [] [] e h = refl
+same_came [] (y ∷ ys) e h = absurd (omega arith)
+same_came (x ∷ xs) [] e h = absurd (omega arith)
+same_came (x ∷ xs) (y ∷ ys) e h =
+    let first : x ≡ y = h 0 in
+    let rest : xs ≡ ys = same_came xs ys (omega arith) (λ place. h (suc place)) in
+    ap (λ (m : Bool). m ∷ xs) first ∙ ap (λ (m : List Bool). y ∷ m) rest

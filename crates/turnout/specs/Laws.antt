@@ -16,3 +16,7 @@ CountsOneMore = (came : List Bool) (place : ℕ) → place < length came → has
 
 abbrev pub AtMostAll : Type 0
 AtMostAll = (came : List Bool) → number_came came ≤ length came
+
+-- marks of as many places are known by who came
+abbrev pub KnownByWhoCame : Type 0
+KnownByWhoCame = (a b : List Bool) → length a ≡ length b → ((place : ℕ) → has_come a place ≡ has_come b place) → a ≡ b

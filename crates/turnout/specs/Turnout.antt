@@ -1,5 +1,5 @@
 -- Who came: a mark for each place of the roll
-use Rattle.std.specs.Prelude.{ℕ, Bool, false, List, unwrap_or, slice_get, count_by}
+use Rattle.std.specs.Prelude.{◌≡◌, ◌≤◌, ℕ, Bool, false, List, length, unwrap_or, slice_get, count_by}
 
 abbrev pub has_come : List Bool → ℕ → Bool
 has_come came place = unwrap_or (slice_get came place) false
@@ -7,3 +7,9 @@ has_come came place = unwrap_or (slice_get came place) false
 -- how many came
 abbrev pub number_came : List Bool → ℕ
 number_came came = count_by (λ mark. mark) came
+
+-- Marks, their count and the memory for them: just the marks of the roll, so that none is taken later
+pub record IsStored (marks : List Bool) (count capacity : ℕ) : Type 0 where
+  pub few : length marks ≤ 600
+  pub counted : count ≡ number_came marks
+  pub reserved : capacity ≡ length marks

@@ -6,7 +6,8 @@ use std::marker::Model;
 use urna_base::Memory;
 
 /// Who came (docs/RULES.md, "The state of a poll"): a mark for each place of the roll, of which there are at most 600, and
-/// the count of the marks. Contracts see the list of the marks.
+/// the count of the marks. It has the memory for just these marks, from the start to the end. Contracts see the list of the
+/// marks.
 #[derive(Debug, Drop)]
 pub struct Turnout {
     marks: Vec<bool>,
@@ -14,23 +15,28 @@ pub struct Turnout {
 }
 
 impl Model for Turnout {
-    ghost use Rattle.std.specs.Prelude.{◌≡◌, ◌≤◌, List, Bool, length};
-    ghost use Rattle.turnout.specs.Turnout.{number_came};
+    ghost use Rattle.std.specs.Prelude.{List, Bool, vec_capacity};
+    ghost use Rattle.turnout.specs.Turnout.{IsStored};
 
     ghost Value = { List Bool };
 
     ghost view = { λ t. t.marks.items };
 
-    ghost invariant = { λ t. (length t.marks.items ≤ 600) × (t.count ≡ number_came t.marks.items) };
+    ghost invariant = { λ t. IsStored t.marks.items t.count (vec_capacity t.marks) };
 }
 
 impl Turnout {
-    /// The turnout of a roll of this many voters, of whom nobody came. `Memory` comes only where an allocation failed.
+    /// The turnout of a roll of this many voters, of whom nobody came. All its memory is taken here; `Memory` comes only
+    /// where an allocation failed.
     pub fn new(alloc: Global, voters: u32) -> Result<Turnout, Memory>
         requires { voters ≤ 600 }
         ensures { IfOk result (λ t. t ≡ replicate voters false) }
     {
-        let marks = vec![in alloc; false; voters as usize]?;
+        // one by one, since only these pushes tell that they take no memory more
+        let mut marks = Vec::with_capacity(alloc, voters as usize)?;
+        for _ in 0..voters {
+            marks.push_reserved(false);
+        }
         Ok(Turnout { marks, count: 0 })
     }
 
@@ -41,7 +47,8 @@ impl Turnout {
         self.marks.get(place as usize).copied().unwrap_or(false)
     }
 
-    /// Marks that the voter of a place came. The caller owes that the place is one of the roll and has no mark yet.
+    /// Marks that the voter of a place came. It takes no memory. The caller owes that the place is one of the roll and has
+    /// no mark yet.
     pub fn mark(&mut self, place: u32)
         requires known { place < length self.old }
         requires absent { has_come self.old place ≡ false }

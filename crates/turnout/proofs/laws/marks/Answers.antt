@@ -1,4 +1,4 @@
-use Rattle.turnout.proofs.Marks.{number_came-replicate, number_came-le-length, number_came-set, has_come-replicate, has_come-set_same, has_come-set_other}
+use Rattle.turnout.proofs.Marks.{number_came-replicate, number_came-le-length, number_came-set, has_come-replicate, has_come-set_same, has_come-set_other, same_came}
 use Rattle.turnout.proofs.laws.marks.Goals as goal
 
 pub returns-clause-none : goal.returns-clause-none
@@ -15,3 +15,6 @@ returns-clause-count _ = number_came-set
 
 pub returns-clause-most : goal.returns-clause-most
 returns-clause-most _ = number_came-le-length
+
+pub returns-clause-known : goal.returns-clause-known
+returns-clause-known _ = same_came

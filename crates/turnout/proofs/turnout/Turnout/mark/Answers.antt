@@ -13,4 +13,8 @@ invariant_of-self c =
     let absent : has_come marks place ≡ false = subst (λ (m : List Bool). has_come m place ≡ false) (sym same) c.requires.absent in
     let more = number_came-set marks place known absent in
     let least = length-set marks place true in
-    (omega arith, omega arith)
+    record {
+      few = omega (arith, c.self.invariant.few);
+      counted = omega (arith, c.self.invariant.counted);
+      reserved = omega (arith, c.self.invariant.reserved);
+    }
