@@ -71,19 +71,17 @@ insert-partition c bag i le at = inserted c bag i le
     (λ k d lt. not_true (choice_le c (get_or bag k d)) (at.0 k d (omega arith) lt))
     (λ k d ge lt. not_false (choice_le c (get_or bag k d)) (at.1 k d ge lt))
 
--- storage that took one member more
-pub stored_more : (c : Choice) (bag after : List Choice) (room capacity grown : ℕ) (now : BagData)
-    → IsStored bag room capacity → record { members = bag; room = room } ≡ now → length now.members < now.room
-    → after ≡ with_choice c bag → capacity ≤ grown → IsStored after room grown
-stored_more c bag after room capacity grown now s is free e le =
-    let same : bag ≡ now.members = ap (λ (b : BagData). b.members) is in
-    let same_room : room ≡ now.room = ap (λ (b : BagData). b.room) is in
+-- storage that took one member more, in the same room
+pub stored_more : (c : Choice) (bag after : List Choice) (room same_room : ℕ) (now : BagData)
+    → IsStored bag room → record { members = bag; room = room } ≡ now → length now.members < now.room
+    → after ≡ with_choice c bag → same_room ≡ room → IsStored after same_room
+stored_more c bag after room same_room now s is free e same =
+    let had : length bag ≡ length now.members = ap (λ (b : BagData). length b.members) is in
+    let has : room ≡ now.room = ap (λ (b : BagData). b.room) is in
     let more = length-with_choice c bag in
     let longer : length after ≡ length (with_choice c bag) = ap length e in
-    let shorter : length bag ≡ length now.members = ap length same in
     record {
       in_order = subst IsInOrder (sym e) (in_order-with_choice c bag s.in_order);
       within = omega arith;
-      reserved = omega (arith, s.reserved);
-      counted = s.counted;
+      counted = omega (arith, s.counted);
     }

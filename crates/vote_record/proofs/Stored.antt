@@ -3,7 +3,7 @@ use Rattle.std.proofs.Common.{◌≡◌, ℕ, zero, suc, ◌*◌, ◌<◌, List,
 use Rattle.vote_kinds.specs.declared.choice.Choice.{Choice}
 use Rattle.vote_record.specs.Bag.{with_choice, bag_at, with_vote}
 use Rattle.vote_record.specs.BagData.{BagData}
-use Rattle.vote_record.specs.RdvData.{RdvData, AreReserved, room_at}
+use Rattle.vote_record.specs.RdvData.{RdvData, room_at}
 
 -- what contracts see of stored bags
 abbrev pub members_of : List BagData → List (List Choice)
@@ -66,11 +66,11 @@ all_rooms voters (n ∷ places) = ap (λ (m : List ℕ). voters * n ∷ m) (all_
 -- a bag that was read, where the record is seen as `now`
 
 pub is_stored : (bags : List BagData) (voters : ℕ) (places : List ℕ) (now : RdvData) (panel : ℕ) (b : BagData)
-    → AreReserved bags voters places → data_of bags voters places ≡ now → panel < length now.bags → b ≡ get_or bags panel b
+    → rooms_of bags ≡ map (λ n. voters * n) places → data_of bags voters places ≡ now → panel < length now.bags → b ≡ get_or bags panel b
     → (bag_at now.bags panel ≡ b.members) × (b.room ≡ room_at now panel)
-is_stored bags voters places now panel b have is lt read =
+is_stored bags voters places now panel b rooms is lt read =
     let lt' : panel < length (members_of bags) = subst (λ (r : RdvData). panel < length r.bags) (sym is) lt in
     let n = length-members bags in
     let same : bag_at (members_of bags) panel ≡ b.members = bag_at-members bags panel b (omega arith) ∙ ap (λ (x : BagData). x.members) (sym read) in
-    let room : b.room ≡ voters * slice_index places panel = ap (λ (x : BagData). x.room) read ∙ room-at voters bags places panel b have.rooms (omega arith) in
+    let room : b.room ≡ voters * slice_index places panel = ap (λ (x : BagData). x.room) read ∙ room-at voters bags places panel b rooms (omega arith) in
     (subst (λ (r : RdvData). bag_at r.bags panel ≡ b.members) is same, subst (λ (r : RdvData). b.room ≡ room_at r panel) is room)

@@ -1,8 +1,11 @@
--- What is so of all bags
+-- What is so of all bags and records
 use Rattle.std.specs.Prelude.{◌≡◌, ◌≢◌, ℕ, ◌+◌, ◌<◌, true, List, if◌then◌else◌, length}
+use Rattle.std.specs.List.{AllByRecursion}
+use Rattle.election_tables.specs.TablesData.{TablesData}
 use Rattle.vote_kinds.specs.declared.choice.Choice.{Choice}
 use Rattle.vote_kinds.specs.Choice.{is_same}
 use Rattle.vote_record.specs.Bag.{IsInOrder, count_of, with_choice, bag_at, with_vote}
+use Rattle.vote_record.specs.RdvData.{RdvData, IsVote, empty_record, with_vote_in}
 
 -- two choices are counted together where they are one choice
 abbrev pub SameIsOne : Type 0
@@ -38,3 +41,20 @@ ChangesItsBag = (panel : ℕ) (c : Choice) (bags : List (List Choice)) → panel
 
 abbrev pub KeepsOtherBags : Type 0
 KeepsOtherBags = (panel other : ℕ) (c : Choice) (bags : List (List Choice)) → other ≢ panel → bag_at (with_vote panel c bags) other ≡ bag_at bags other
+
+-- What is so of all records of some tables
+
+-- each vote of a panel is a choice there
+abbrev pub HasOnlyVotes : TablesData → RdvData → Type 0
+HasOnlyVotes t r = (panel : ℕ) → AllByRecursion (IsVote t panel) (bag_at r.bags panel)
+
+-- so it is where nobody has voted, and stays with each vote that `add` may take
+abbrev pub StartsWithVotes : Type 0
+StartsWithVotes = (t : TablesData) (voters : ℕ) → HasOnlyVotes t (empty_record t voters)
+
+abbrev pub KeepsToVotes : Type 0
+KeepsToVotes = (t : TablesData) (r : RdvData) (panel : ℕ) (c : Choice) → HasOnlyVotes t r → IsVote t panel c → HasOnlyVotes t (with_vote_in panel c r)
+
+-- so none is counted of a choice that is none of the panel's
+abbrev pub CountsNoOther : Type 0
+CountsNoOther = (t : TablesData) (r : RdvData) (panel : ℕ) (c : Choice) → HasOnlyVotes t r → ¬ IsVote t panel c → count_of c (bag_at r.bags panel) ≡ 0

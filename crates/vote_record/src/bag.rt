@@ -7,12 +7,12 @@ use std::marker::Model;
 use urna_base::Memory;
 use vote_kinds::Choice;
 
-/// A bag of choices, with room for a number of members that is settled when it is made.
+/// A bag of choices, with room for a number of members that is settled when it is made: the memory for them is taken then,
+/// and no more later.
 #[derive(Debug, Drop)]
 pub struct Bag {
-    // in the order of choices
+    // in the order of choices; its capacity is the bag's room
     members: Vec<Choice>,
-    room: u32,
 }
 
 impl Model for Bag {
@@ -21,9 +21,9 @@ impl Model for Bag {
 
     ghost Value = { BagData };
 
-    ghost view = { λ b. record { members = b.members.items; room = b.room } };
+    ghost view = { λ b. record { members = b.members.items; room = vec_capacity b.members } };
 
-    ghost invariant = { λ b. IsStored b.members.items b.room (vec_capacity b.members) };
+    ghost invariant = { λ b. IsStored b.members.items (vec_capacity b.members) };
 }
 
 impl Bag {
@@ -32,7 +32,7 @@ impl Bag {
         ensures { IfOk result (λ b. b ≡ record { members = []; room = room }) }
     {
         let members = Vec::with_capacity(alloc, room as usize)?;
-        Ok(Bag { members, room })
+        Ok(Bag { members })
     }
 
     /// How many members it has.
@@ -62,7 +62,7 @@ impl Bag {
         self.members[i as usize]
     }
 
-    /// One member more. It takes no memory.
+    /// One member more. It takes no memory: the room stays as it is.
     pub fn add(&mut self, choice: Choice)
         requires { length self.old.members < self.old.room }
         ensures { self.new ≡ record self.old { members = with_choice choice self.old.members } }
@@ -71,15 +71,15 @@ impl Bag {
     }
 }
 
-// One member more, where memory for it is there.
+// One member more, where memory for it is there. No more is taken.
 fn add_member(members: &mut Vec<Choice>, choice: Choice)
     requires in_order { IsInOrder members.old.items }
     requires reserved { vec_len members.old < vec_capacity members.old }
     ensures added { members.new.items ≡ with_choice choice members.old.items }
-    ensures reserved { vec_capacity members.old ≤ vec_capacity members.new }
+    ensures room { vec_capacity members.new ≡ vec_capacity members.old }
 {
     if goes_last(members, choice) {
-        members.push(choice).unwrap();
+        members.push_reserved(choice);
     } else {
         let place = place_for(members, choice);
         members.insert(place, choice).unwrap();

@@ -1,5 +1,5 @@
-//! What bags are. Each function here does nothing: its contract is the law.
-ghost use Rattle.vote_record.specs.Laws.{SameIsOne, KnownByCounts, StaysInOrder, CountsOneMore, HasOneMore, ComeInEitherOrder, VotesComeInEitherOrder, ChangesItsBag, KeepsOtherBags};
+//! What bags and records are. Each function here does nothing: its contract is the law.
+ghost use Rattle.vote_record.specs.Laws.{SameIsOne, KnownByCounts, StaysInOrder, CountsOneMore, HasOneMore, ComeInEitherOrder, VotesComeInEitherOrder, ChangesItsBag, KeepsOtherBags, StartsWithVotes, KeepsToVotes, CountsNoOther};
 
 /// Lists in the order of choices are bags, and votes may come in any order.
 pub fn bags()
@@ -12,4 +12,12 @@ pub fn bags()
     ensures votes { VotesComeInEitherOrder }
     ensures changed { ChangesItsBag }
     ensures others { KeepsOtherBags }
+{}
+
+/// A record of some tables has only votes that are choices of their panels, as long as each is added with these tables; so
+/// `Rdv::count` is 0 for a choice that is none of the panel's.
+pub fn records()
+    ensures starts { StartsWithVotes }
+    ensures keeps { KeepsToVotes }
+    ensures no_other { CountsNoOther }
 {}

@@ -10,8 +10,8 @@ use urna_base::Memory;
 use vote_kinds::Choice;
 
 /// The digital vote record of a section (docs/RULES.md, "The state of a poll"): for each panel a bag of choices, with the
-/// memory for all votes that there can be. A bag keeps no order of its own, so the record doesn't tell who voted when.
-/// Contracts see it as `RdvData`.
+/// memory for just all votes that there can be, from the start to the end. A bag keeps no order of its own, so the record
+/// doesn't tell who voted when. Contracts see it as `RdvData`.
 #[derive(Debug, Drop)]
 pub struct Rdv {
     bags: Vec<Bag>,
@@ -21,14 +21,14 @@ pub struct Rdv {
 }
 
 impl Model for Rdv {
-    ghost use Rattle.std.specs.Prelude.{map};
+    ghost use Rattle.std.specs.Prelude.{map, vec_capacity};
     ghost use Rattle.vote_record.specs.RdvData.{RdvData, AreReserved};
 
     ghost Value = { RdvData };
 
     ghost view = { λ r. record { bags = map (λ b. b.members) r.bags.items; voters = r.voters; places = r.places.items } };
 
-    ghost invariant = { λ r. AreReserved r.bags.items r.voters r.places.items };
+    ghost invariant = { λ r. AreReserved r.bags.items r.voters r.places.items (vec_capacity r.bags) (vec_capacity r.places) };
 }
 
 impl Rdv {
@@ -44,8 +44,8 @@ impl Rdv {
         let mut places = Vec::with_capacity(alloc, panels as usize)?;
         for panel in 0..panels {
             let votes = tables.places(panel);
-            bags.push(Bag::with_room(alloc, voters * votes)?)?;
-            places.push(votes)?;
+            bags.push_reserved(Bag::with_room(alloc, voters * votes)?);
+            places.push_reserved(votes);
         }
         Ok(Rdv {
             bags,
@@ -66,7 +66,8 @@ impl Rdv {
         self.bags[panel as usize].add(choice);
     }
 
-    /// How many votes of a panel, which is one of the record, are this choice; 0 where none is.
+    /// How many votes of a panel, which is one of the record, are this choice; 0 where none is, as for each choice that is
+    /// none of the panel's (`laws::records`).
     pub fn count(&self, panel: u32, choice: Choice) -> u32
         requires { panel < length self.now.bags }
         ensures { result ≡ count_of choice (bag_at self.now.bags panel) }

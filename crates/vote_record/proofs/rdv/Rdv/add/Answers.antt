@@ -1,4 +1,5 @@
 use Rattle.std.proofs.Common.{◌<◌, length, ap, sym, subst, List, ◌∙◌, arith}
+use Rattle.std.proofs.Math.ListN.{length-set}
 use Rattle.vote_kinds.specs.declared.choice.Choice.{Choice}
 use Rattle.vote_record.specs.BagData.{BagData}
 use Rattle.vote_record.specs.RdvData.{RdvData, with_vote_in}
@@ -7,7 +8,7 @@ use Rattle.vote_record.proofs.rdv.Rdv.add.Goals as goal
 
 pub add-requires : goal.add-requires
 add-requires c =
-    let stored = is_stored c.self.inside.bags.items _ _ c.args.self.now c.args.panel c.index_mut.result.now c.self.invariant c.self.view_is c.requires.panel c.index_mut.ensures.value in
+    let stored = is_stored c.self.inside.bags.items _ _ c.args.self.now c.args.panel c.index_mut.result.now c.self.invariant.rooms c.self.view_is c.requires.panel c.index_mut.ensures.value in
     let same = ap (λ (bag : List Choice). length bag) stored.0 in
     omega (arith, c.requires.room)
 
@@ -19,6 +20,8 @@ invariant_of-self c =
     record {
       few = c.self.invariant.few;
       rooms = rooms-set bags c.args.panel c.index_mut.result.now c.add.new.self (omega arith) c.index_mut.ensures.value (ap (λ (b : BagData). b.room) c.add.ensures) ∙ c.self.invariant.rooms;
+      bags_reserved = c.self.invariant.bags_reserved ∙ sym (length-set bags c.args.panel c.add.new.self);
+      places_reserved = c.self.invariant.places_reserved;
     }
 
 pub returns : goal.returns

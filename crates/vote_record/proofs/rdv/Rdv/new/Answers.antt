@@ -16,12 +16,14 @@ loop-panel-preserved c =
     let more : take panel all ++ c.places-votes.result ∷ [] ≡ take (panel + 1) all =
     ap (λ (n : ℕ). take panel all ++ n ∷ []) c.places-votes.ensures.places ∙ sym (take_more all panel 0 (omega arith)) in
     record {
-      places = c.in_ok-push-2.ensures.items ∙ ap (λ (l : List ℕ). l ++ c.places-votes.result ∷ []) c.loop-panel.invariant.places ∙ more;
-      bags = c.in_ok-push.ensures.items
+      places = c.push_reserved-in-loop-panel.ensures.items ∙ ap (λ (l : List ℕ). l ++ c.places-votes.result ∷ []) c.loop-panel.invariant.places ∙ more;
+      bags = c.push_reserved.ensures.items
           ∙ ap (λ (b : BagData). c.loop-panel.bags.items ++ b ∷ []) c.in_ok-with_room.ensures
           ∙ ap (λ (l : List BagData). l ++ empty_bag voters c.places-votes.result ∷ []) c.loop-panel.invariant.bags
           ∙ sym (map-append (empty_bag voters) (take panel all) (c.places-votes.result ∷ []))
           ∙ ap (map (empty_bag voters)) more;
+      bags_room = c.push_reserved.ensures.capacity ∙ c.loop-panel.invariant.bags_room;
+      places_room = c.push_reserved-in-loop-panel.ensures.capacity ∙ c.loop-panel.invariant.places_room;
     }
 
 pub invariant_of-result : goal.invariant_of-result
@@ -29,9 +31,13 @@ invariant_of-result c =
     let all : List ℕ = places_of c.args.tables.now in
     let many : length all ≡ length c.args.tables.now.panels = length-map c.args.tables.now.panels places_in in
     let whole : take c.loop-panel.panel all ≡ all = take_all c.loop-panel.panel all (omega (arith, c.panels-panels.ensures.count)) in
+    let bags = ap length (c.loop-panel.invariant.bags ∙ ap (map (empty_bag c.args.voters)) whole) ∙ length-map all (empty_bag c.args.voters) ∙ many in
+    let places = ap length (c.loop-panel.invariant.places ∙ whole) ∙ many in
     record {
       few = c.requires;
       rooms = ap rooms_of (c.loop-panel.invariant.bags) ∙ all_rooms c.args.voters (take c.loop-panel.panel all) ∙ sym (ap (map (λ n. c.args.voters * n)) c.loop-panel.invariant.places);
+      bags_reserved = omega (arith, c.loop-panel.invariant.bags_room, c.panels-panels.ensures.count);
+      places_reserved = omega (arith, c.loop-panel.invariant.places_room, c.panels-panels.ensures.count);
     }
 
 pub returns : goal.returns
