@@ -7,6 +7,7 @@ mod Breaks
 mod Rising
 mod Keys
 pub mod Kept
+mod FewCandidates
 mod Valid
 mod RollLines
 mod Reading

@@ -24,6 +24,7 @@ use Rattle.election_tables.specs.Rules.{are_distinct, kind_fits, seats_in_range,
 use Rattle.election_tables.specs.Tables.{AreTablesOf, IsPanelOf, candidates_of, entry_of_candidate, entry_of_office, entry_of_party, entry_of_section}
 use Rattle.election_tables.specs.TablesData.{TablesData, IsCandidate, IsPanel, IsParty, IsSection, IsTables}
 use Rattle.election_tables.proofs.Distinct.{IsDistinct-from_test}
+use Rattle.election_tables.proofs.FewCandidates.{candidates_together}
 use Rattle.election_tables.proofs.Keys.{int_eq_by_cmp, nat_eq_by_cmp}
 use Rattle.election_tables.proofs.Kept as kept
 use Rattle.election_tables.proofs.Kept.{Kept, all_true}
@@ -156,6 +157,8 @@ tables_valid d t k are size =
     let few_offices = kept.offices_few d k in
     let few_parties = kept.parties_few d k in
     let few_sections = kept.sections_few d k in
+    let few_candidates = kept.candidates_few d k in
+    let together = candidates_together d.offices d.candidates t.panels are.offices (kept.codes_differ d k) are.panels in
     record {
       process = within_same 1 99999 t.process d.process are.process (kept.process_in_range d k);
       date = valid_date t.date d.date are.date (kept.date_is_valid d k);
@@ -166,6 +169,7 @@ tables_valid d t k are size =
           (All-same (λ o. kind_fits o.code o.kind ≡ true) _ d.offices are.offices (all_true (λ o. kind_fits o.code o.kind) d.offices k.kinds)) i p h)
           (parts_at (λ o. seats_in_range o ≡ true) (λ (x : Panel). entry_of_office x.office) t.panels
           (All-same (λ o. seats_in_range o ≡ true) _ d.offices are.offices (all_true seats_in_range d.offices k.seats)) i p h));
+      candidate_count = omega arith;
       codes = office_codes_differ d t.panels are.offices (kept.codes_differ d k);
       party_count = (omega arith, omega arith);
       parties = (λ i q h. party_from (get_or t.parties i q)

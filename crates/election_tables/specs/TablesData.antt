@@ -1,6 +1,6 @@
 -- What contracts see of the tables, and what is so of all tables that were read.
 use Rattle.std.specs.Prelude.{◌≡◌, ◌≢◌, ℕ, ◌≤◌, List, [], length, map, slice_get, slice_index, Option, Some, option_map, IsTrue, ◌==◌, ◌&&◌}
-use Rattle.std.specs.List.{All, AllPairs, find, list_any}
+use Rattle.std.specs.List.{All, AllPairs, find, list_any, sum_by}
 use Rattle.std.specs.List.Sorted.{IsStrictlyIncreasing, IsStrictlySortedBy}
 use Rattle.std.specs.Option.{option_map_or}
 use Rattle.std.specs.Ordering.{nat_cmp, ordering_then}
@@ -108,13 +108,15 @@ pub record IsSection (s : Section) : Type 0 where
   pub number : (1 ≤ s.number) × (s.number ≤ 9999)
   pub voters : (1 ≤ s.voters) × (s.voters ≤ 600)
 
--- What is so of all tables, by the rules of their document: the ranges, the orders and the parties of candidates.
+-- What is so of all tables, by the rules of their document: the ranges, the orders and the parties of candidates. All panels together
+-- have at most 4,096 candidates.
 pub record IsTables (t : TablesData) : Type 0 where
   pub process : (1 ≤ t.process) × (t.process ≤ 99999)
   pub date : IsTrue (is_date t.date)
   pub turn : (1 ≤ t.turn) × (t.turn ≤ 2)
   pub panel_count : (1 ≤ length t.panels) × (length t.panels ≤ 8)
   pub panels : All (IsPanel t.parties) t.panels
+  pub candidate_count : sum_by (λ p. length p.candidates) t.panels ≤ 4096
   pub codes : AllPairs (λ p q. p.office.code ≢ q.office.code) t.panels
   pub party_count : (1 ≤ length t.parties) × (length t.parties ≤ 40)
   pub parties : All IsParty t.parties
