@@ -5,20 +5,12 @@ use Rattle.election_tables.specs.TablesData.{TablesData}
 use Rattle.vote_kinds.specs.declared.choice.Choice.{Choice}
 use Rattle.vote_record.specs.Bag.{IsInOrder, bag_at, count_of}
 use Rattle.vote_record.proofs.Bags.{same_bag}
-use Rattle.turnout.specs.Turnout.{has_come}
+use Rattle.turnout.proofs.Marks.{same_came}
 use Rattle.turnout.specs.declared.phase.Phase.{Phase}
 use Rattle.image_codec.specs.CodecLaws.{IsKnownByVotes}
 use Rattle.image_codec.specs.Encoding.{encode}
 use Rattle.image_codec.specs.State.{State}
 use Rattle.image_codec.proofs.OfTables.{panels_of}
-
-same_marks : (a b : List Bool) → length a ≡ length b → ((place : ℕ) → has_come a place ≡ has_come b place) → a ≡ b
-same_marks [] [] long same = refl
-same_marks [] (y ∷ b) long same = absurd (omega arith)
-same_marks (x ∷ a) [] long same = absurd (omega arith)
-same_marks (x ∷ a) (y ∷ b) long same =
-    let first : x ≡ y = same 0 in
-    ap (λ (m : Bool). m ∷ a) first ∙ ap (λ (l : List Bool). y ∷ l) (same_marks a b (omega (arith, long)) (λ place. same (suc place)))
 
 same_bags : (a b : List (List Choice)) → length a ≡ length b → AllByRecursion IsInOrder a → AllByRecursion IsInOrder b
     → ((panel : ℕ) (c : Choice) → panel < length a → count_of c (bag_at a panel) ≡ count_of c (bag_at b panel)) → a ≡ b
@@ -43,5 +35,5 @@ known_by_votes t voters s u of_s of_u phase came counts =
     let panels = panels_of t voters s of_s in
     let bags : s.bags ≡ u.bags =
     same_bags s.bags u.bags (panels ∙ sym (panels_of t voters u of_u)) of_s.valid.in_order of_u.valid.in_order (λ panel c lt. counts panel c (omega (arith, lt, panels))) in
-    let same = same_state s u phase (same_marks s.came u.came (of_s.roll ∙ sym of_u.roll) came) (of_s.places ∙ sym of_u.places) bags in
+    let same = same_state s u phase (same_came s.came u.came (of_s.roll ∙ sym of_u.roll) came) (of_s.places ∙ sym of_u.places) bags in
     (same, ap encode same)
