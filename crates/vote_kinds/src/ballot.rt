@@ -27,15 +27,18 @@ pub fn confirmable(tables: &Tables, panel: u32, field: &Field) -> bool
     }
 }
 
-/// The choice that a field of a panel stands for (Lei 9.504/1997 art. 59 paragraph 2; docs/RULES.md, "The choice").
+/// The choice that a field of a panel stands for (Lei 9.504/1997 art. 59 paragraph 2; docs/RULES.md, "The choice"), which is one
+/// that a voter may make there.
 ///
 /// The caller owes that the panel is one of the tables, that the field has no more digits than its office, and that CONFIRMA is
 /// taken at it.
+#[tactic(auto, using(crate::proofs::Choices::chosen_is))]
 pub fn choice_of(tables: &Tables, panel: u32, field: &Field) -> Choice
     requires panel { panel < length tables.now.panels }
     requires field { IsField (line_of tables.now panel).digits field.now }
     requires confirmable { is_confirmable (line_of tables.now panel) field.now ≡ true }
-    ensures { result ≡ choice_of (line_of tables.now panel) None field.now }
+    ensures choice { result ≡ choice_of (line_of tables.now panel) None field.now }
+    ensures allowed { is_choice (line_of tables.now panel) result ≡ true }
 {
     match *field {
         Field::Empty => Choice::Null,
