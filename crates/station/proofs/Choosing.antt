@@ -1,6 +1,5 @@
 -- What a voter chose, line by line, is a ballot
-use Rattle.std.proofs.Common.{◌≡◌, ◌≤◌, ◌+◌, ◌-◌, ℕ, suc, Bool, true, false, cond, not, ◌&&◌, List, [], ◌∷◌, ◌++◌, Option, Some, None, length, replicate, slice_get, nat_eq, refl, sym, ap, subst, arith}
-use Rattle.std.specs.List.{list_any}
+use Rattle.std.proofs.Common.{◌≡◌, ◌≤◌, ◌+◌, ◌-◌, ℕ, suc, Bool, true, false, cond, List, [], ◌∷◌, ◌++◌, Option, Some, None, length, replicate, slice_get, refl, sym, ap, subst, arith}
 use Rattle.key_script.specs.declared.keys.Event.{Event}
 use Rattle.key_script.specs.Event.{keys_of}
 use Rattle.key_script.specs.declared.keys.Key.{Key}
@@ -8,8 +7,8 @@ use Rattle.key_script.specs.declared.keys.Key.TheVariants as key
 use Rattle.vote_kinds.specs.declared.choice.Choice.{Choice}
 use Rattle.vote_kinds.specs.declared.choice.Choice.TheVariants as choice
 use Rattle.vote_kinds.specs.declared.choice.Field.{Field}
-use Rattle.vote_kinds.specs.declared.choice.Field.TheVariants as field
-use Rattle.vote_kinds.specs.Ballot.{BallotLine, is_choice, is_confirmable, choice_of, names_candidate, is_nominal_of, first_two}
+use Rattle.vote_kinds.specs.Ballot.{BallotLine, is_choice, is_confirmable, choice_of}
+use Rattle.vote_kinds.proofs.Choices.{choice_is, chosen_is}
 use Rattle.voter_term.specs.Field.{field_after, same_field}
 use Rattle.voter_term.specs.Panel.{next_field, next_shown}
 use Rattle.voter_term.specs.declared.panel.Shown.TheVariants as shown
@@ -17,33 +16,6 @@ use Rattle.image_codec.specs.State.{State, AreFirst, IsBallot, filled_up}
 use Rattle.station.specs.Setting.{Setting}
 use Rattle.station.specs.Output.{Output, earlier_for}
 use Rattle.station.specs.Run.{Votes, start, voted, IsOpen, open_at}
-
-both : (a b : Bool) → a ≡ true → b ≡ true → (a && b) ≡ true
-both true true h g = refl
-both true false h g = absurd (cc)
-both false b h g = absurd (cc)
-
-nominal_is : (l : BallotLine) (full known : Bool) (value : ℕ) (same : Bool) (other : Choice) → known ≡ list_any (nat_eq value) l.candidates
-    → is_choice l other ≡ true → is_choice l (cond ((full && known) && not same) (choice.Nominal value) other) ≡ true
-nominal_is l true true value false other h o = sym h
-nominal_is l true true value true other h o = o
-nominal_is l true false value same other h o = o
-nominal_is l false known value same other h o = o
-
-party_is : (l : BallotLine) (proportional unnamed known : Bool) (p : ℕ) → proportional ≡ l.proportional → known ≡ list_any (nat_eq p) l.parties
-    → is_choice l (cond (proportional && (unnamed && known)) (choice.Party p) choice.Null) ≡ true
-party_is l true true true p h k = both l.proportional (list_any (nat_eq p) l.parties) (sym h) (sym k)
-party_is l true true false p h k = refl
-party_is l true false known p h k = refl
-party_is l false unnamed known p h k = refl
-
--- the choice of a field, whatever the field, is a choice of its line
-pub choice_is : (l : BallotLine) (earlier : Option Choice) (f : Field) → is_choice l (choice_of l earlier f) ≡ true
-choice_is l earlier field.Empty = refl
-choice_is l earlier field.Blank = refl
-choice_is l earlier (field.Digits count value) =
-    nominal_is l (nat_eq count l.digits) (list_any (nat_eq value) l.candidates) value (is_nominal_of value earlier) _ refl
-    (party_is l l.proportional (not (names_candidate l count value)) (list_any (nat_eq (first_two count value)) l.parties) (first_two count value) refl refl)
 
 pub first_more : (lines : List BallotLine) (choices : List Choice) (l : BallotLine) (c : Choice) → AreFirst lines choices → slice_get lines (length choices) ≡ Some l
     → is_choice l c ≡ true → AreFirst lines (choices ++ c ∷ [])
@@ -83,7 +55,7 @@ pub votes_first : {v : Setting} {s : State} {place : ℕ} {es : List Event} {cho
 votes_first start = tt
 votes_first {v} (voted {choices} {c} l on votes at visit confirms) =
     first_more v.lines choices l c (votes_first votes) at
-    (subst (λ (d : Choice). is_choice l d ≡ true) (sym confirms.chosen) (choice_is l (earlier_for v choices l) (field_after l.digits (keys_of on))))
+    (chosen_is l (earlier_for v choices l) (field_after l.digits (keys_of on)) c confirms.chosen)
 
 pub open_first : {v : Setting} {s : State} {place : ℕ} {es : List Event} {choices : List Choice} {text : List Output} → IsOpen v s place es choices text → AreFirst v.lines choices
 open_first (open_at l on votes at visit unconfirmed) = votes_first votes

@@ -29,7 +29,7 @@ use Rattle.station.specs.Station.{IsStationed, StationData}
 use Rattle.station.specs.Text.{title_text}
 use Rattle.station.proofs.Faithful.{press_faithful}
 use Rattle.station.proofs.Leading.{Leads, press_leads}
-use Rattle.station.proofs.Performing.{press_acts, tables_printable, tables_setting}
+use Rattle.station.proofs.Performing.{press_acts, tables_panels, tables_setting}
 use Rattle.station.proofs.Stepping.{press_stands}
 use Rattle.station.proofs.Steps.{acts_more, after_quiet, full_steps, kept_by_act}
 
@@ -121,9 +121,9 @@ module _ (t : TablesData) (r : RollData) (told : Told) (x : StationData) (e : Ev
   leads =
       press_leads t r.titles x.standing e (subst (λ (n : ℕ). IsStateOf t n x.standing.state) voters_are is.kept.encoding.state) valid is.stands
 
-  pub event_acts : AllByRecursion IsAct (map act_of pressed.out)
+  pub event_acts : AllByRecursion (IsAct t) (map act_of pressed.out)
   event_acts =
-      press_acts (setting_of t r.titles) x.standing e (tables_setting t r.titles is.load.tables) (tables_printable t r.titles is.load.tables) valid is.stands
+      press_acts t (setting_of t r.titles) x.standing e (tables_setting t r.titles is.load.tables) (tables_panels t r.titles) valid is.stands
 
   pub event_state : IsStateOf t x.store.load.section.voters pressed.standing.state
   event_state = subst (λ (n : ℕ). IsStateOf t n pressed.standing.state) (sym voters_are) leads.state

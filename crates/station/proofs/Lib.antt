@@ -17,3 +17,4 @@ pub mod Doing
 pub mod Starting
 pub mod Fims
 pub mod Casting
+pub mod LastScreens

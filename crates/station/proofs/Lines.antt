@@ -1,6 +1,7 @@
 -- The lines of the ballot, by their numbers
-use Rattle.std.proofs.Common.{◌≡◌, ℕ, zero, suc, ◌-◌, ◌<◌, ◌≤◌, false, List, [], ◌∷◌, length, slice_get, Option, Some, None, option_map, unwrap_or, nat_eq, refl, sym, ap, ◌∙◌, arith}
+use Rattle.std.proofs.Common.{◌≡◌, ℕ, zero, suc, ◌-◌, ◌<◌, ◌≤◌, false, List, [], ◌∷◌, length, slice_get, Option, Some, None, option_map, unwrap_or, nat_eq, refl, sym, ap, subst, ◌∙◌, inl, inr, arith}
 use Rattle.std.proofs.lemmas.Bool.Decides.{nat_tests}
+use Rattle.std.proofs.lemmas.Option.{slice_get_cases}
 use Rattle.election_tables.specs.TablesData.{TablesData}
 use Rattle.election_tables.specs.declared.tables.panels.Panel.{Panel}
 use Rattle.vote_kinds.specs.declared.choice.Choice.{Choice}
@@ -33,6 +34,26 @@ number_in t n (Some p) l e = let same : line_for t n p ≡ l = cc in ap (λ (k :
 -- each line has a panel of its own
 line_number : (t : TablesData) (n : ℕ) (l : BallotLine) → slice_get (ballot_lines t) n ≡ Some l → l.panel ≡ n
 line_number t n l e = number_in t n (slice_get t.panels n) l (sym (line_get t n) ∙ e)
+
+panel_in : (t : TablesData) (n : ℕ) (p : Panel) (l : BallotLine) → n < length t.panels → slice_get t.panels n ≡ Some p → line_for t n p ≡ l
+    → (l.panel < length t.panels) × (line_of t l.panel ≡ l)
+panel_in t n p l h at same =
+    let number : l.panel ≡ n = ap (λ (k : BallotLine). k.panel) (sym same) in
+    let found : line_of t n ≡ line_for t n p = ap (λ (o : Option Panel). line_for t n (unwrap_or o no_panel)) at in
+    (subst (λ (k : ℕ). k < length t.panels) (sym number) h, ap (line_of t) number ∙ (found ∙ same))
+
+-- each line is one of a panel of the tables
+pub line_panel : (t : TablesData) (n : ℕ) (l : BallotLine) → slice_get (ballot_lines t) n ≡ Some l → (l.panel < length t.panels) × (line_of t l.panel ≡ l)
+line_panel t n l e = elim ((slice_get_cases t.panels n).1) [
+  | inl found ↦
+      let p = found.0 in
+      let whole : Some (line_for t n p) ≡ Some l = sym (ap (option_map (line_for t n)) found.2) ∙ (sym (line_get t n) ∙ e) in
+      let same : line_for t n p ≡ l = cc in
+      panel_in t n p l found.1 found.2 same
+  | inr past ↦
+      let none : None ≡ Some l = sym (ap (option_map (line_for t n)) past.1) ∙ (sym (line_get t n) ∙ e) in
+      absurd (cc)
+]
 
 other_panel : (previous l : BallotLine) (choice : Option Choice) (n : ℕ) → previous.panel ≡ n → l.panel ≡ suc n → earlier_of (Some previous) choice l ≡ None
 other_panel previous l None n e f = refl

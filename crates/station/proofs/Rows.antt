@@ -1,5 +1,5 @@
 -- Worked sessions, and what they show: a section with two offices and three voters
-use Rattle.std.proofs.Common.{◌≡◌, List, [], ◌∷◌, ◌++◌, true, false, Some, None, map, refl}
+use Rattle.std.proofs.Common.{◌≡◌, List, [], ◌∷◌, ◌++◌, true, false, map, refl}
 use Rattle.std.specs.Prelude.{flat_map}
 use Rattle.key_script.specs.declared.keys.Key.{Key}
 use Rattle.key_script.specs.declared.keys.Key.TheVariants.{Digit, Blank, Correct, Confirm}
@@ -51,10 +51,10 @@ abbrev party_45 : List Key
 party_45 = Digit 4 ∷ Digit 5 ∷ Confirm ∷ []
 
 abbrev at_4 : Line
-at_4 = line.Screen 0 (field.Digits 1 4) None
+at_4 = line.Screen 0 (field.Digits 1 4)
 
 abbrev at_45 : Line
-at_45 = line.Screen 0 (field.Digits 2 45) (Some (choice.Party 45))
+at_45 = line.Screen 0 (field.Digits 2 45)
 
 -- a party's vote is confirmed with two digits of five
 party_vote : told polling (admitted ++ keys party_45) ≡ greeted ++ at_4 ∷ at_45 ∷ line.Ballot 2 11 ∷ []
@@ -62,19 +62,19 @@ party_vote = refl
 
 -- the digits after a party's don't name a candidate
 party_with_more_digits : told polling (admitted ++ keys (Digit 4 ∷ Digit 5 ∷ Digit 9 ∷ Digit 9 ∷ Digit 9 ∷ Confirm ∷ []))
-    ≡ greeted ++ at_4 ∷ at_45 ∷ line.Screen 0 (field.Digits 3 459) (Some (choice.Party 45)) ∷ line.Screen 0 (field.Digits 4 4599) (Some (choice.Party 45))
-    ∷ line.Screen 0 (field.Digits 5 45999) (Some (choice.Party 45)) ∷ line.Ballot 2 11 ∷ []
+    ≡ greeted ++ at_4 ∷ at_45 ∷ line.Screen 0 (field.Digits 3 459) ∷ line.Screen 0 (field.Digits 4 4599)
+    ∷ line.Screen 0 (field.Digits 5 45999) ∷ line.Ballot 2 11 ∷ []
 party_with_more_digits = refl
 
 -- null in both offices; one digit of two may not be confirmed in a majority office
 null_votes : told polling (admitted ++ keys (Digit 9 ∷ Digit 9 ∷ Confirm ∷ Digit 9 ∷ Confirm ∷ Digit 9 ∷ Confirm ∷ []))
-    ≡ greeted ++ line.Screen 0 (field.Digits 1 9) None ∷ line.Screen 0 (field.Digits 2 99) (Some choice.Null) ∷ line.Ballot 2 11
-    ∷ line.Screen 1 (field.Digits 1 9) None ∷ line.Screen 1 (field.Digits 2 99) (Some choice.Null) ∷ line.Ended ∷ []
+    ≡ greeted ++ line.Screen 0 (field.Digits 1 9) ∷ line.Screen 0 (field.Digits 2 99) ∷ line.Ballot 2 11
+    ∷ line.Screen 1 (field.Digits 1 9) ∷ line.Screen 1 (field.Digits 2 99) ∷ line.Ended ∷ []
 null_votes = refl
 
 -- a digit after BRANCO is ignored, and CORRIGE empties the field
 corrected : told polling (admitted ++ keys (Blank ∷ Digit 4 ∷ Digit 5 ∷ Correct ∷ Confirm ∷ party_45))
-    ≡ greeted ++ line.Screen 0 field.Blank (Some choice.Blank) ∷ line.Screen 0 field.Empty None ∷ at_4 ∷ at_45 ∷ line.Ballot 2 11 ∷ []
+    ≡ greeted ++ line.Screen 0 field.Blank ∷ line.Screen 0 field.Empty ∷ at_4 ∷ at_45 ∷ line.Ballot 2 11 ∷ []
 corrected = refl
 
 -- a voter who is suspended before the first choice may come again
@@ -83,7 +83,7 @@ comes_again = admitted ++ keys (Digit 4 ∷ Digit 5 ∷ []) ++ Clerk clerk.Suspe
 
 suspended : told polling comes_again
     ≡ greeted ++ at_4 ∷ at_45 ∷ line.Suspended ∷ (greeted ++ at_4 ∷ at_45 ∷ line.Ballot 2 11
-    ∷ line.Screen 1 (field.Digits 1 1) None ∷ line.Screen 1 (field.Digits 2 13) (Some (choice.Nominal 13)) ∷ line.Ended ∷ [])
+    ∷ line.Screen 1 (field.Digits 1 1) ∷ line.Screen 1 (field.Digits 2 13) ∷ line.Ended ∷ [])
 suspended = refl
 
 suspended_state : (after setting (idle_at polling) comes_again).state
@@ -119,7 +119,7 @@ abbrev senator : BallotLine
 senator = record { panel = 0; code = 5; digits = 3; proportional = false; places = 2; candidates = 101 ∷ 102 ∷ 201 ∷ []; parties = 10 ∷ 20 ∷ [] }
 
 same_candidate_twice : flat_map lines_in (outputs (record { lines = senator ∷ senator ∷ []; places = 2 ∷ []; roll = 10000000001 ∷ [] }) (idle_at polling) (admitted ++ keys (Digit 1 ∷ Digit 0 ∷ Digit 1 ∷ Confirm ∷ Digit 1 ∷ Digit 0 ∷ Digit 1 ∷ Confirm ∷ [])))
-    ≡ line.Voter 10000000001 ∷ line.Released ∷ line.Ballot 1 5 ∷ line.Screen 0 (field.Digits 1 1) None ∷ line.Screen 0 (field.Digits 2 10) None
-    ∷ line.Screen 0 (field.Digits 3 101) (Some (choice.Nominal 101)) ∷ line.Ballot 2 5 ∷ line.Screen 0 (field.Digits 1 1) None
-    ∷ line.Screen 0 (field.Digits 2 10) None ∷ line.Screen 0 (field.Digits 3 101) (Some choice.Null) ∷ line.Ended ∷ []
+    ≡ line.Voter 10000000001 ∷ line.Released ∷ line.Ballot 1 5 ∷ line.Screen 0 (field.Digits 1 1) ∷ line.Screen 0 (field.Digits 2 10)
+    ∷ line.Screen 0 (field.Digits 3 101) ∷ line.Ballot 2 5 ∷ line.Screen 0 (field.Digits 1 1)
+    ∷ line.Screen 0 (field.Digits 2 10) ∷ line.Screen 0 (field.Digits 3 101) ∷ line.Ended ∷ []
 same_candidate_twice = refl

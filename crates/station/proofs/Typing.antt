@@ -24,10 +24,9 @@ typed_is v s place choices f k l r at none shows =
 -- the key that changes the field shows the screen
 pub typed_screen : (v : Setting) (s : State) (place : ℕ) (choices : List Choice) (f : Field) (k : Key) (l : BallotLine)
     → line_at v choices ≡ Some l → earlier_for v choices l ≡ None → next_shown l None f k ≡ shown.Screen
-    → typed v s (mode.Voting place) choices f k ≡ record { standing = voting_at s place choices (next_field l.digits f k); out = screen l None (next_field l.digits f k) ∷ [] }
+    → typed v s (mode.Voting place) choices f k ≡ record { standing = voting_at s place choices (next_field l.digits f k); out = screen l (next_field l.digits f k) ∷ [] }
 typed_screen v s place choices f k l at none shows =
     typed_is v s place choices f k l shown.Screen at none shows
-    ∙ ap (λ (e : Option Choice). record { standing = voting_at s place choices (next_field l.digits f k); out = screen l e (next_field l.digits f k) ∷ [] }) none
 
 -- the key that ends the line goes on to the next
 pub typed_voted : (v : Setting) (s : State) (place : ℕ) (choices : List Choice) (f : Field) (k : Key) (l : BallotLine) (c : Choice)

@@ -1,5 +1,6 @@
 -- What a station asks to be done, as outputs
 use Rattle.std.specs.Prelude.{List, [], ◌∷◌, map}
+use Rattle.election_tables.specs.TablesData.{TablesData}
 use Rattle.image_codec.specs.State.{State}
 use Rattle.station.specs.Output.{Output, Says, Commits, Reports}
 use Rattle.station.specs.Text.{IsLine}
@@ -29,7 +30,7 @@ last_state s (Commits t l ∷ out) = last_state t out
 last_state s (Reports t u ∷ out) = last_state s out
 
 -- an act whose line can be printed
-abbrev pub IsAct : Act → Type 0
-IsAct (Say l) = IsLine l
-IsAct (Commit l) = IsLine l
-IsAct (Report t) = Unit {0}
+abbrev pub IsAct : TablesData → Act → Type 0
+IsAct t (Say l) = IsLine t l
+IsAct t (Commit l) = IsLine t l
+IsAct t (Report title) = Unit {0}

@@ -11,3 +11,4 @@ pub mod Station
 pub mod Doing
 pub mod Start
 pub mod Cast
+pub mod Screens

@@ -4,7 +4,7 @@ use Rattle.key_script.specs.declared.keys.Key.{Key}
 use Rattle.key_script.specs.Event.{is_confirm}
 use Rattle.vote_kinds.specs.declared.choice.Choice.{Choice}
 use Rattle.vote_kinds.specs.declared.choice.Field.{Field}
-use Rattle.vote_kinds.specs.Ballot.{BallotLine, is_confirmable, choice_of}
+use Rattle.vote_kinds.specs.Ballot.{BallotLine}
 use Rattle.voter_term.specs.Field.{field_after, same_field}
 use Rattle.clerk_term.specs.declared.replies.ClerkAnswer.{ClerkAnswer}
 use Rattle.clerk_term.specs.declared.replies.ClerkAnswer.TheVariants as answer
@@ -61,15 +61,12 @@ abbrev pub call_of : List Choice → BallotLine → Output
 call_of choices l = Says (line.Ballot (length choices + 1) l.code)
 
 -- the screen at a field
-abbrev pub screen_line : BallotLine → Option Choice → Field → Line
-screen_line l earlier f = line.Screen l.panel f (if is_confirmable l f then Some (choice_of l earlier f) else None)
-
-abbrev pub screen : BallotLine → Option Choice → Field → Output
-screen l earlier f = Says (screen_line l earlier f)
+abbrev pub screen : BallotLine → Field → Output
+screen l f = Says (line.Screen l.panel f)
 
 -- What a key shows after the word w, where it ends no panel word: CONFIRMA nothing, and each other key the screen where it
 -- changes the field.
-abbrev pub echo : BallotLine → Option Choice → List Key → Key → List Output
-echo l earlier w k =
+abbrev pub echo : BallotLine → List Key → Key → List Output
+echo l w k =
     if is_confirm k then [] else (if same_field (field_after l.digits (w ++ k ∷ [])) (field_after l.digits w) then []
-    else screen l earlier (field_after l.digits (w ++ k ∷ [])) ∷ [])
+    else screen l (field_after l.digits (w ++ k ∷ [])) ∷ [])

@@ -1,11 +1,11 @@
 -- The lines of the display as bytes (docs/FORMATS.md, "Shown texts"), each with its line feed
-use Rattle.std.specs.Prelude.{ℕ, ◌<◌, ◌^◌, List, [], ◌∷◌, ◌++◌, codes, flat_map}
+use Rattle.std.specs.Prelude.{ℕ, ◌<◌, ◌^◌, List, [], ◌∷◌, ◌++◌, None, codes, flat_map, length}
 use Rattle.std.specs.Fmt.{decimal}
 use Rattle.urna_base.specs.Digits.{padded}
 use Rattle.election_tables.specs.TablesData.{TablesData}
 use Rattle.turnout.specs.declared.phase.Phase.{Phase}
 use Rattle.turnout.specs.declared.phase.Phase.TheVariants as phase
-use Rattle.vote_kinds.specs.Ballot.{IsField}
+use Rattle.vote_kinds.specs.Ballot.{IsField, line_of}
 use Rattle.voter_term.specs.Screen.{screen_text}
 use Rattle.poll_report.specs.Counts.{count_lines}
 use Rattle.state_store.specs.Steps.{Step, quiet, telling}
@@ -28,7 +28,7 @@ line_text t line.Released = codes "LIBERADO" ++ 10 ∷ []
 line_text t line.Canceled = codes "CANCELADO" ++ 10 ∷ []
 line_text t line.Suspended = codes "SUSPENSO" ++ 10 ∷ []
 line_text t (line.Ballot number code) = codes "VOTO " ++ decimal number ++ codes " CARGO " ++ decimal code ++ 10 ∷ []
-line_text t (line.Screen panel f chosen) = screen_text t panel f chosen
+line_text t (line.Screen panel f) = screen_text t panel None f
 line_text t (line.Opened m) = codes "ABERTA " ++ padded 14 m ++ 10 ∷ []
 line_text t line.Ended = codes "FIM" ++ 10 ∷ []
 line_text t (line.Sealed m came) = codes "ENCERRADA " ++ padded 14 m ++ codes " " ++ decimal came ++ 10 ∷ []
@@ -47,16 +47,17 @@ output_steps t (Reports title s) = quiet (title_text title ∷ count_lines t s.b
 abbrev pub session_steps : TablesData → List Output → List Step
 session_steps t out = flat_map (output_steps t) out
 
--- a line whose numbers have the digits of its format
-abbrev pub IsLine : Line → Type 0
-IsLine (line.Poll p came) = Unit {0}
-IsLine (line.Refused n) = Unit {0}
-IsLine (line.Voter number) = number < 10 ^ 12
-IsLine line.Released = Unit {0}
-IsLine line.Canceled = Unit {0}
-IsLine line.Suspended = Unit {0}
-IsLine (line.Ballot number code) = Unit {0}
-IsLine (line.Screen panel f chosen) = IsField 5 f
-IsLine (line.Opened m) = m < 10 ^ 14
-IsLine line.Ended = Unit {0}
-IsLine (line.Sealed m came) = m < 10 ^ 14
+-- A line whose numbers have the digits of its format. A screen is that of a panel of the tables, with no more digits than its
+-- office.
+abbrev pub IsLine : TablesData → Line → Type 0
+IsLine t (line.Poll p came) = Unit {0}
+IsLine t (line.Refused n) = Unit {0}
+IsLine t (line.Voter number) = number < 10 ^ 12
+IsLine t line.Released = Unit {0}
+IsLine t line.Canceled = Unit {0}
+IsLine t line.Suspended = Unit {0}
+IsLine t (line.Ballot number code) = Unit {0}
+IsLine t (line.Screen panel f) = (panel < length t.panels) × IsField (line_of t panel).digits f
+IsLine t (line.Opened m) = m < 10 ^ 14
+IsLine t line.Ended = Unit {0}
+IsLine t (line.Sealed m came) = m < 10 ^ 14

@@ -1,15 +1,19 @@
-//! Laws of runs (`specs/Run.antt`), of states (`specs/States.antt`) and of what a station stands for (`specs/Stands.antt`).
+//! Laws of runs (`specs/Run.antt`), of states (`specs/States.antt`), of what a station stands for (`specs/Stands.antt`) and of the
+//! screens of a visit (`specs/Screens.antt`).
 ghost use Rattle.std.specs.Prelude.{◌≡◌, ◌≤◌, ℕ, List, [], ◌∷◌, ◌++◌, length};
 ghost use Rattle.std.specs.List.{AllByRecursion};
 ghost use Rattle.election_tables.specs.TablesData.{IsTables, TablesData};
 ghost use Rattle.key_script.specs.Event.{IsEvent};
 ghost use Rattle.key_script.specs.declared.keys.Event.{Event};
+ghost use Rattle.image_codec.specs.CodecLaws.{Ballot};
 ghost use Rattle.image_codec.specs.Encoding.{IsStateOf};
-ghost use Rattle.image_codec.specs.State.{State};
+ghost use Rattle.image_codec.specs.State.{State, filled_up};
 ghost use Rattle.state_store.specs.Steps.{commits_in, state_after};
 ghost use Rattle.station.specs.Setting.{Setting, setting_of};
 ghost use Rattle.station.specs.Output.{Output, commits_of};
-ghost use Rattle.station.specs.Run.{IsRun};
+ghost use Rattle.station.specs.Run.{IsRun, Visit};
+ghost use Rattle.station.specs.Cast.{ballot_of};
+ghost use Rattle.station.specs.Screens.{AreOfLastScreens, confirmed_in};
 ghost use Rattle.station.specs.Press.{Standing};
 ghost use Rattle.station.specs.Stands.{StandsFor};
 ghost use Rattle.station.specs.States.{IsHistory};
@@ -54,4 +58,14 @@ pub fn event_commits()
 pub fn stands_for()
     ensures { (v : Setting) (s : State) (x : Standing) (es : List Event) (out : List Output)
         → StandsFor v s x es out → IsRun v s es s out }
+{}
+
+/// In a visit each choice that was confirmed is that of the last screen that was shown on its line of the ballot, and the ballot of the
+/// visit has these choices, with Null on each line that is left.
+pub fn last_screens()
+    ensures shown { (t : TablesData) (titles : List ℕ) (s u : State) (place : ℕ) (es : List Event) (out : List Output) → IsTables t
+        → (visit : Visit (setting_of t titles) s place es u out) → AreOfLastScreens (setting_of t titles) (confirmed_in visit) out }
+    ensures recorded { (v : Setting) (s t : State) (place : ℕ) (es : List Event) (out : List Output) (visit : Visit v s place es t out)
+        (ballot : Ballot) → ballot_of visit ≡ ballot ∷ []
+        → ballot ≡ record { place = place; choices = filled_up v.lines (confirmed_in visit) } }
 {}

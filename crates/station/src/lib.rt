@@ -17,5 +17,5 @@ mod session;
 mod station;
 mod visit;
 
-pub use laws::{event_commits, one_run, run_commits, run_goes_on, stands_for};
+pub use laws::{event_commits, last_screens, one_run, run_commits, run_goes_on, stands_for};
 pub use station::{StartError, Station};

@@ -1,13 +1,15 @@
-ghost use Rattle.std.specs.Prelude.{◌≡◌, ◌≤◌, ◌<◌, ◌^◌, ◌∷◌, ◌++◌, [], codes, length};
+ghost use Rattle.std.specs.Prelude.{◌≡◌, ◌≤◌, ◌<◌, ◌^◌, ◌∷◌, ◌++◌, [], None, codes, length};
 ghost use Rattle.std.specs.Fmt.{decimal};
 ghost use Rattle.urna_base.specs.Digits.{padded};
+ghost use Rattle.vote_kinds.specs.Ballot.{IsField, line_of};
+ghost use Rattle.voter_term.specs.Screen.{screen_text};
 ghost use Rattle.station.specs.Text.{IsLine, line_text, poll_text, title_text};
 
 use election_tables::Tables;
 use turnout::Phase;
 use urna_base::LineBuffer;
-use vote_kinds::{Choice, Field};
-use voter_term::screen_line;
+use vote_kinds::Field;
+use voter_term::screen;
 
 /// The two reports of counts.
 #[derive(Clone, Copy, Debug, PartialEq, Eq)]
@@ -20,10 +22,7 @@ pub(crate) enum Title {
 #[derive(Clone, Copy, Debug, PartialEq, Eq)]
 pub(crate) enum Line {
     /// Where the poll stands, and how many came.
-    Poll {
-        phase: Phase,
-        came: u32,
-    },
+    Poll { phase: Phase, came: u32 },
     /// A key of the clerk is refused, with the number of the reason.
     Refused(u8),
     /// The voter of this title is identified.
@@ -32,25 +31,15 @@ pub(crate) enum Line {
     Canceled,
     Suspended,
     /// The ballot line of this number, from 1, stands, with its office's code.
-    Ballot {
-        number: u32,
-        code: u8,
-    },
-    /// The field of a panel, counted from 0, and the choice that it stands for where CONFIRMA is taken.
-    Screen {
-        panel: u32,
-        field: Field,
-        choice: Option<Choice>,
-    },
+    Ballot { number: u32, code: u8 },
+    /// The field of a panel, counted from 0.
+    Screen { panel: u32, field: Field },
     /// The poll was opened at this moment.
     Opened(u64),
     /// The visit of a voter who came has ended.
     Ended,
     /// The poll was sealed at this moment, and so many came.
-    Sealed {
-        closed: u64,
-        came: u32,
-    },
+    Sealed { closed: u64, came: u32 },
 }
 
 impl Title {
@@ -68,10 +57,11 @@ impl Title {
 impl Line {
     /// The line's bytes, with its line feed.
     ///
-    /// The caller owes that its numbers have the digits of their formats.
+    /// The caller owes that its numbers have the digits of their formats, and that a screen is that of a panel of the tables with no
+    /// more digits than its office.
     #[tactic(auto, using(urna_base::proofs::DecimalLaws::line_lengths))]
     pub(crate) fn text(self, tables: &Tables) -> LineBuffer
-        requires { IsLine self }
+        requires { IsLine tables.now self }
         ensures { result ≡ line_text tables.now self }
     {
         match self {
@@ -82,16 +72,24 @@ impl Line {
             Line::Canceled => bare(b"CANCELADO"),
             Line::Suspended => bare(b"SUSPENSO"),
             Line::Ballot { number, code } => ballot_text(number, code),
-            Line::Screen {
-                panel,
-                field,
-                choice,
-            } => screen_line(tables, panel, field, choice),
+            Line::Screen { panel, field } => screen_line(tables, panel, field),
             Line::Opened(moment) => padded_line(b"ABERTA ", moment, 14),
             Line::Ended => bare(b"FIM"),
             Line::Sealed { closed, came } => sealed_text(closed, came),
         }
     }
+}
+
+fn screen_line(tables: &Tables, panel: u32, field: Field) -> LineBuffer
+    requires panel { panel < length tables.now.panels }
+    requires field { IsField (line_of tables.now panel).digits field }
+    ensures { result ≡ screen_text tables.now panel None field }
+{
+    let mut bytes = [0; 128];
+    let count = screen(tables, panel, &field, &mut bytes);
+    let mut line = LineBuffer::new();
+    line.push_text(&bytes[..count as usize]);
+    line
 }
 
 fn poll_word(phase: Phase) -> &'static [u8]

@@ -28,7 +28,7 @@ pub(crate) fn perform_all<M: Machine>(
     m: &mut M,
     acts: &[Act],
 ) -> Result<Store, Port>
-    requires acts { AllByRecursion IsAct acts.now }
+    requires acts { AllByRecursion (IsAct tables.now) acts.now }
     requires devices { AreDevices (M.told m.old).sizes }
     requires load { IsLoadedWith tables.now roll.now store.load }
     requires state { IsStateOf tables.now store.load.section.voters session.now.state }
@@ -57,7 +57,7 @@ fn perform<M: Machine>(
     m: &mut M,
     act: Act,
 ) -> Result<Store, Port>
-    requires act { IsAct act }
+    requires act { IsAct tables.now act }
     requires devices { AreDevices (M.told m.old).sizes }
     requires load { IsLoadedWith tables.now roll.now store.load }
     requires state { IsStateOf tables.now store.load.section.voters session.now.state }
@@ -90,7 +90,7 @@ fn tell<M: Machine>(
     m: &mut M,
     line: Line,
 ) -> Result<Store, Port>
-    requires line { IsLine line }
+    requires line { IsLine tables.now line }
     requires devices { AreDevices (M.told m.old).sizes }
     requires load { IsLoadedWith tables.now roll.now store.load }
     requires state { IsStateOf tables.now store.load.section.voters session.now.state }

@@ -12,7 +12,7 @@ ghost use Rattle.station.specs.Valid.{IsAnswer, IsStanding};
 
 use crate::act::Act;
 use crate::line::{Line, Title};
-use crate::visit::{Choices, fill_up, panel_of_line, screen_of};
+use crate::visit::{Choices, fill_up, panel_of_line, take_key};
 use arrayvec::ArrayVec;
 use clerk_term::{ClerkAnswer, Mode, reply};
 use election_tables::{Roll, Tables};
@@ -20,7 +20,7 @@ use image_codec::State;
 use key_script::{ClerkKey, Event, Key};
 use std::marker::Model;
 use vote_kinds::Field;
-use voter_term::{Shown, take_key};
+use voter_term::Shown;
 
 /// Both terminals over the state of one poll, in memory. Contracts see a session as a `Standing` (`specs/Press.antt`).
 #[derive(Drop)]
@@ -138,7 +138,7 @@ impl Session {
             Shown::Nothing => Acts::new(),
             Shown::Screen => {
                 self.field = next;
-                one(Act::Say(screen_of(tables, panel, next)))
+                one(Act::Say(Line::Screen { panel, field: next }))
             }
             Shown::Voted(choice) => {
                 self.choices.push(choice);

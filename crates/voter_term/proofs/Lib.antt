@@ -3,4 +3,4 @@ pub mod PanelWords
 pub mod ShownLemmas
 mod Rows
 pub mod FieldFits
-mod Screens
+pub mod Screens

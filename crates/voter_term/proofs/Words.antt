@@ -8,7 +8,7 @@ use Rattle.std.proofs.lemmas.Bool.{ltb-true, ltb-false, false_from_ne_true}
 use Rattle.key_script.specs.declared.keys.Key.{Key}
 use Rattle.key_script.specs.declared.keys.Key.TheVariants as key
 use Rattle.vote_kinds.specs.declared.choice.Field.TheVariants as field
-use Rattle.key_script.specs.Event.{is_correct, is_confirm}
+use Rattle.key_script.specs.Event.{is_correct}
 use Rattle.voter_term.specs.Field.{is_typed, digits_of, field_of_digits, field_of, field_after}
 use Rattle.voter_term.specs.Panel.{next_field}
 

@@ -1,10 +1,14 @@
-ghost use Rattle.std.specs.Prelude.{◌≡◌, ◌<◌, ◌≤◌, None, length};
+ghost use Rattle.std.specs.Prelude.{◌≡◌, ◌<◌, ◌≤◌, List, [], ◌∷◌, ◌++◌, None, length};
 ghost use Rattle.key_script.specs.Event.{IsKey};
+ghost use Rattle.key_script.specs.declared.keys.Key.{Key};
+ghost use Rattle.vote_kinds.specs.declared.choice.Field.{Field};
 ghost use Rattle.vote_kinds.specs.Ballot.{IsField, line_of};
+ghost use Rattle.voter_term.specs.Field.{field_after, shown_by, IsUnconfirmed, Reads};
 ghost use Rattle.voter_term.specs.Panel.{next_field, next_shown};
 
 use election_tables::Tables;
 use key_script::Key;
+use std::marker::Model;
 use vote_kinds::{Choice, Field, choice_of, confirmable};
 
 /// What a key does on the panel that stands.
@@ -18,27 +22,93 @@ pub enum Shown {
     Voted(Choice),
 }
 
-/// The field of a panel after one key, and what the key shows (docs/RULES.md, "The field").
-///
-/// The caller owes that the panel is one of the tables, that the key's digit is one, and that the field has no more digits than
-/// the panel's office.
-pub fn take_key(tables: &Tables, panel: u32, field: Field, key: Key) -> (Field, Shown)
-    requires panel { panel < length tables.now.panels }
-    requires key { IsKey key }
-    requires field { IsField (line_of tables.now panel).digits field }
-    ensures field { result.0 ≡ next_field (line_of tables.now panel).digits field key }
-    ensures fits { IsField (line_of tables.now panel).digits result.0 }
-    ensures shown { result.1 ≡ next_shown (line_of tables.now panel) None field key }
-{
-    if key == Key::Confirm {
-        return (field, confirm(tables, panel, field));
+/// The panel of an office of CAP digits, which are 2, 3, 4 or 5 (docs/RULES.md, "The field"). Contracts see its field, which has at
+/// most CAP digits.
+#[derive(Drop)]
+pub struct Panel<const CAP: u8> {
+    field: Field,
+}
+
+impl<const CAP: u8> Model for Panel<CAP> {
+    ghost Value = { Field };
+
+    ghost view = { λ p. p.field };
+
+    ghost invariant = { λ p. IsField CAP p.field };
+}
+
+impl<const CAP: u8> Default for Panel<CAP> {
+    fn default() -> Panel<CAP> {
+        Panel::new()
     }
-    let digits = digits_of(tables, panel);
-    let next = next_field(digits, field, key);
-    if next == field {
-        return (field, Shown::Nothing);
+}
+
+impl<const CAP: u8> Panel<CAP> {
+    /// The panel with an empty field.
+    pub fn new() -> Panel<CAP>
+        ensures { result ≡ Field.Empty }
+    {
+        Panel {
+            field: Field::Empty,
+        }
     }
-    (next, Shown::Screen)
+
+    /// The panel with this field. The caller owes that it has at most CAP digits.
+    pub fn with(field: Field) -> Panel<CAP>
+        requires { IsField CAP field }
+        ensures { result ≡ field }
+    {
+        Panel { field }
+    }
+
+    /// What stands typed in the panel.
+    pub fn field(&self) -> Field
+        ensures field { result ≡ self.now }
+        ensures fits { IsField CAP result }
+    {
+        self.field
+    }
+
+    /// Takes one key, and tells what it does. After any word of keys that led to the field the panel stands for that word and the key;
+    /// it ends exactly with a panel word.
+    ///
+    /// The caller owes that the panel is one of the tables, that its office has CAP digits, and that the key's digit is one.
+    pub fn key(&mut self, tables: &Tables, panel: u32, key: Key) -> Shown
+        requires panel { panel < length tables.now.panels }
+        requires digits { (line_of tables.now panel).digits ≡ CAP }
+        requires key { IsKey key }
+        ensures field { (w : List Key) → self.old ≡ field_after CAP w → self.new ≡ field_after CAP (w ++ key ∷ []) }
+        ensures shown { (w : List Key) → self.old ≡ field_after CAP w → result ≡ shown_by (line_of tables.now panel) None w key }
+        // up to now no panel word stood at the front
+        ensures word { (w : List Key) → self.old ≡ field_after CAP w → IsUnconfirmed (line_of tables.now panel) w
+            → Reads (line_of tables.now panel) None (w ++ key ∷ []) result }
+        // the same by the keypad's table
+        ensures next { self.new ≡ next_field CAP self.old key }
+        ensures tells { result ≡ next_shown (line_of tables.now panel) None self.old key }
+    {
+        self.take(tables, panel, key)
+    }
+
+    /// One key by the keypad's table.
+    fn take(&mut self, tables: &Tables, panel: u32, key: Key) -> Shown
+        requires panel { panel < length tables.now.panels }
+        requires digits { (line_of tables.now panel).digits ≡ CAP }
+        requires key { IsKey key }
+        ensures next { self.new ≡ next_field CAP self.old key }
+        ensures tells { result ≡ next_shown (line_of tables.now panel) None self.old key }
+        ensures some { 2 ≤ CAP }
+    {
+        let digits = digits_of(tables, panel);
+        if key == Key::Confirm {
+            return confirm(tables, panel, self.field);
+        }
+        let next = next_field(digits, self.field, key);
+        if next == self.field {
+            return Shown::Nothing;
+        }
+        self.field = next;
+        Shown::Screen
+    }
 }
 
 fn confirm(tables: &Tables, panel: u32, field: Field) -> Shown
@@ -53,7 +123,7 @@ fn confirm(tables: &Tables, panel: u32, field: Field) -> Shown
 }
 
 #[tactic(auto, using(vote_kinds::proofs::Lookups::office_known))]
-fn digits_of(tables: &Tables, panel: u32) -> u8
+pub(crate) fn digits_of(tables: &Tables, panel: u32) -> u8
     requires { panel < length tables.now.panels }
     ensures digits { result ≡ (line_of tables.now panel).digits }
     ensures range { (2 ≤ result) × (result ≤ 5) }

@@ -6,12 +6,10 @@ use Rattle.clerk_term.specs.declared.replies.Mode.{Mode}
 use Rattle.clerk_term.specs.declared.replies.Mode.TheVariants.{Voting}
 use Rattle.image_codec.specs.State.{AreFirst}
 use Rattle.station.specs.Setting.{setting_of}
-use Rattle.station.specs.Output.{line_at, screen_line}
+use Rattle.station.specs.Output.{line_at, screen}
 use Rattle.station.specs.Acts.{act_of}
 use Rattle.station.specs.Press.{Standing, Pressed, typed, goes_on}
 use Rattle.station.specs.Valid.{IsPlaced}
-use Rattle.station.specs.declared.act.Act.TheVariants.{Say}
-use Rattle.station.specs.declared.line.Line.{Line}
 use Rattle.station.proofs.Choosing.{first_more, voted_is}
 use Rattle.station.proofs.Lines.{no_earlier}
 use Rattle.station.proofs.Typing.{typed_screen, typed_voted}
@@ -44,11 +42,10 @@ returns-in-Screen-clause-acts c =
     let is = typed_screen v inside.state c.in-Voting.place inside.choices.items inside.field c.args.key l at (no_earlier t c.args.roll.now.titles inside.choices.items l at)
     (sym c.take_key-next.ensures.shown ∙ c.in-Screen.is) in
     c.one.ensures
-    ∙ (ap (λ (line : Line). Say line ∷ []) c.screen_of.ensures
-    ∙ (ap (λ (f : Field). Say (screen_line l None f) ∷ []) c.take_key-next.ensures.field
+    ∙ (ap (λ (f : Field). act_of (screen l f) ∷ []) c.take_key-next.ensures.field
     ∙ (sym (ap (λ (p : Pressed). map act_of p.out) is)
     ∙ (ap (λ (m : Mode). map act_of (typed v inside.state m inside.choices.items inside.field c.args.key).out) (sym c.in-Voting.is)
-    ∙ ap (λ (y : Standing). map act_of (typed v y.state y.mode y.choices y.field c.args.key).out) c.self.view_is))))
+    ∙ ap (λ (y : Standing). map act_of (typed v y.state y.mode y.choices y.field c.args.key).out) c.self.view_is)))
 
 pub returns-in-Voted-clause-standing : goal.returns-in-Voted-clause-standing
 returns-in-Voted-clause-standing c =

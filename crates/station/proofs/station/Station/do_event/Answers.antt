@@ -18,8 +18,8 @@ use Rattle.station.proofs.station.Station.do_event.Goals as goal
 pub perform_all-requires-clause-acts : goal.perform_all-requires-clause-acts
 perform_all-requires-clause-acts g c =
     let standing : c.self.inside.session ≡ c.args.self.standing = ap (λ (x : StationData). x.standing) c.self.view_is in
-    subst (AllByRecursion IsAct) (sym (c.deref.ensures.0 ∙ c.take_event-acts.ensures.acts))
-    (subst (λ (x : Standing). AllByRecursion IsAct (map act_of (press (setting_of c.args.tables.now c.args.roll.now.titles) x c.args.event).out)) (sym standing)
+    subst (AllByRecursion (IsAct c.args.tables.now)) (sym (c.deref.ensures.0 ∙ c.take_event-acts.ensures.acts))
+    (subst (λ (x : Standing). AllByRecursion (IsAct c.args.tables.now) (map act_of (press (setting_of c.args.tables.now c.args.roll.now.titles) x c.args.event).out)) (sym standing)
     (event_acts c.args.tables.now c.args.roll.now (g.M.Machine.told c.args.m.now) c.args.self c.args.event c.requires.event c.requires.stationed))
 
 pub perform_all-requires-clause-state : goal.perform_all-requires-clause-state

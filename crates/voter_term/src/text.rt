@@ -1,0 +1,93 @@
+ghost use Rattle.std.specs.Prelude.{◌≡◌, ◌+◌, ◌<◌, ◌≤◌, ◌++◌, List, Option, None, length, take, drop};
+ghost use Rattle.vote_kinds.specs.Ballot.{IsField, line_of};
+ghost use Rattle.voter_term.specs.Screen.{choice_text, field_text, screen_text, shown_choice};
+
+use crate::panel::digits_of;
+use election_tables::Tables;
+use urna_base::LineBuffer;
+use vote_kinds::{Choice, Field, choice_of, confirmable};
+
+/// Puts the screen line of a panel's field at the front of `into`, and tells its length (docs/FORMATS.md, "Shown texts"). The line
+/// shows the choice that the field stands for, where CONFIRMA is taken at it.
+///
+/// The caller owes that the panel is one of the tables, and that the field has no more digits than the panel's office.
+pub fn screen(tables: &Tables, panel: u32, field: &Field, into: &mut [u8; 128]) -> u32
+    requires panel { panel < length tables.now.panels }
+    requires field { IsField (line_of tables.now panel).digits field.now }
+    ensures length { result ≡ length (screen_text tables.now panel None field.now) }
+    ensures line { take result into.new ≡ screen_text tables.now panel None field.now }
+    ensures rest { drop result into.new ≡ drop result into.old }
+    ensures fits { result ≤ 128 }
+{
+    let line = screen_line(tables, panel, *field);
+    let text = line.as_bytes();
+    into[..text.len()].copy_from_slice(text);
+    text.len() as u32
+}
+
+fn screen_line(tables: &Tables, panel: u32, field: Field) -> LineBuffer
+    requires panel { panel < length tables.now.panels }
+    requires field { IsField (line_of tables.now panel).digits field }
+    ensures { result ≡ screen_text tables.now panel None field }
+{
+    // an office has at most five digits
+    let _digits = digits_of(tables, panel);
+    let choice = shown_choice(tables, panel, field);
+    let mut line = LineBuffer::new();
+    line.push_text(b"TELA ");
+    push_field(&mut line, field);
+    push_choice(&mut line, tables, panel, choice);
+    line.push_text(b"\n");
+    line
+}
+
+/// The choice that a field stands for, where it may be confirmed.
+fn shown_choice(tables: &Tables, panel: u32, field: Field) -> Option<Choice>
+    requires panel { panel < length tables.now.panels }
+    requires field { IsField (line_of tables.now panel).digits field }
+    ensures { result ≡ shown_choice (line_of tables.now panel) None field }
+{
+    if !confirmable(tables, panel, &field) {
+        return None;
+    }
+    Some(choice_of(tables, panel, &field))
+}
+
+#[tactic(auto, using(urna_base::proofs::DecimalLaws::line_lengths))]
+fn push_field(line: &mut LineBuffer, field: Field)
+    requires field { IsField 5 field }
+    requires room { length line.old ≤ 20 }
+    ensures field { line.new ≡ line.old ++ field_text field }
+    ensures short { length line.new ≤ length line.old + 6 }
+{
+    match field {
+        Field::Empty => line.push_text(b"VAZIA"),
+        Field::Blank => line.push_text(b"BRANCO"),
+        Field::Digits { count, value } => line.push_digits(u64::from(value), u32::from(count)),
+    }
+}
+
+fn push_choice(line: &mut LineBuffer, tables: &Tables, panel: u32, choice: Option<Choice>)
+    requires { length line.old ≤ 20 }
+    ensures choice { line.new ≡ line.old ++ choice_text tables.now panel choice }
+    ensures short { length line.new ≤ length line.old + 81 }
+{
+    match choice {
+        None => {}
+        Some(Choice::Nominal(number)) => {
+            line.push_text(b" CANDIDATO ");
+            line.push_text(
+                tables
+                    .candidate_name(panel, number)
+                    .unwrap_or("")
+                    .as_bytes(),
+            );
+        }
+        Some(Choice::Party(number)) => {
+            line.push_text(b" LEGENDA ");
+            line.push_text(tables.party_name(number).unwrap_or("").as_bytes());
+        }
+        Some(Choice::Blank) => {}
+        Some(Choice::Null) => line.push_text(b" NULO"),
+    }
+}
