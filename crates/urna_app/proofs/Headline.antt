@@ -32,8 +32,9 @@ use Rattle.state_store.specs.Load.{IsSectionOf}
 use Rattle.state_store.specs.Played.{Survives}
 use Rattle.state_store.specs.Rest.{AreAtRest}
 use Rattle.state_store.specs.Steps.{state_after}
+use Rattle.state_store.specs.Load.{load_of}
 use Rattle.state_store.specs.declared.load.Load.{Load}
-use Rattle.state_store.proofs.Going.{found_once, loaded_or_foreign}
+use Rattle.state_store.proofs.Going.{found_once, loaded_once, loaded_or_foreign}
 use Rattle.state_store.proofs.Holding.{hold_or_none}
 use Rattle.state_store.proofs.Resting.{clean_image, frames_same}
 use Rattle.station.specs.Cast.{ballots_of}
@@ -47,7 +48,7 @@ use Rattle.station.specs.declared.station.StartError.TheVariants as starting
 use Rattle.station.proofs.Performing.{tables_setting}
 use Rattle.station.proofs.Casting.{run_counts, run_last}
 use Rattle.station.proofs.RunLaws.{run_exists, run_unique}
-use Rattle.urna_app.specs.Command.{Vota, Votes, command_of}
+use Rattle.urna_app.specs.Command.{ToVote, Vota, command_of}
 use Rattle.urna_app.specs.Ending.{CommandEnds, HasVoted, IsCutShort, IsGiven, VotaEnds, carga, cut, done, no_cabinet, no_command, no_memory, not_started, port_status, refused, start_status, vota, IsRefused}
 use Rattle.urna_app.specs.FaultLines.{Tells, fault_text}
 use Rattle.urna_app.specs.Headline.{AllAreCounted, KeepsVotes, KeysHaveRun, VotesAreKept, session_lines}
@@ -77,6 +78,12 @@ module _ (t : TablesData) (r : RollData) (s last : State) (es : List Event) (out
   recovered_here : (load : Load) (first : State) (b : Told) → IsRecovered t r load first m b → (first ≡ s) × (load.section.voters ≡ length r.titles)
   recovered_here load first b is = found_here load.section first (is.ran.2.2.stops start traced.flashes).0
 
+  -- and its load is theirs
+  load_here : (load : Load) (first : State) (b : Told) → IsRecovered t r load first m b → load ≡ load_of t r section
+  load_here load first b is =
+      let there = (is.ran.2.2.stops start traced.flashes).0 in
+      is.same ∙ ap (λ (x : Section). load_of t r x) (loaded_once t r load.section section start.internal.content start.external.content tables there.loaded found.loaded)
+
   -- a session that was held or cut short
   session_stops : (load : Load) (first u : State) (b : Told) (put : List Output) → IsRecovered t r load first m b → IsRun (setting_of t r.titles) first es u put
       → AtEachStop (after both_synced start) rest (Survives t load first (opening t first ++ session_steps t put) start) → AreKept
@@ -99,14 +106,18 @@ module _ (t : TablesData) (r : RollData) (s last : State) (es : List Event) (out
       (safe_stops m n start rest traced t h.load h.first (opening t h.first ++ session_steps t h.out) h.survives)
 
   -- where it was held, both flashes are at rest with all ballots in the end
-  pub voted_counted : HasVoted t r es m n → HasAlso (ballot_lines t) s (ballots_of run) last × ForSome n.flashes (λ x. (load : Load) × AreAtRest load last x)
+  pub voted_counted : HasVoted t r es m n → HasAlso (ballot_lines t) s (ballots_of run) last × ForSome n.flashes (AreAtRest (load_of t r section) last)
   voted_counted voted =
       let here = recovered_here voted.load voted.first voted.opens.between voted.opens.recovered in
       let again : IsRun (setting_of t r.titles) s es voted.last voted.out = subst (λ (x : State). IsRun (setting_of t r.titles) x es voted.last voted.out) here.0 voted.run in
       let same : voted.out ≡ out = (run_unique (setting_of t r.titles) s voted.last last es voted.out out (tables_setting t r.titles tables) again run).1 in
       let end : state_after voted.first (session_steps t voted.out) ≡ last =
       ap (λ (x : State). state_after x (session_steps t voted.out)) here.0 ∙ ap (λ (o : List Output). state_after s (session_steps t o)) same ∙ run_last t r.titles roll run in
-      (run_counts t r.titles roll run, λ x is. (voted.load, subst (λ (y : State). AreAtRest voted.load y x) end (voted.put.rest x is)))
+      (
+        run_counts t r.titles roll run,
+        λ x is. subst (λ (load : Load). AreAtRest load last x) (load_here voted.load voted.first voted.opens.between voted.opens.recovered)
+            (subst (λ (y : State). AreAtRest voted.load y x) end (voted.put.rest x is)),
+      )
 
   pub opening_cut_kept : IsCutAtOpening t r m n → AreKept
   opening_cut_kept h ops stop left is =
@@ -243,19 +254,19 @@ module _ (names : Vota) (files : Files) (c d : CabinetTold) (told : c.files ≡ 
       (at_end (λ x. HasVoted t r es m x) tells (of_given u q fs (λ x y z. HasVoted x y z m b) also h))
 
   -- the command is vota
-  command_is : (words : List (List ℕ)) (answer : Status) → command_of words ≡ Some (Votes names) → CommandEnds words c d m b answer → VotaEnds names c d m b answer
+  command_is : (words : List (List ℕ)) (answer : Status) → command_of words ≡ Some (ToVote names) → CommandEnds words c d m b answer → VotaEnds names c d m b answer
   command_is words _ is (no_command none taken un) = absurd (cc)
   command_is words answer is (vota {names = other} that h) =
       let same : other ≡ names = cc in
       subst (λ (x : Vota). VotaEnds x c d m b answer) same h
   command_is words answer is (carga that h) = absurd (cc)
 
-  pub command_kept : (words : List (List ℕ)) (answer : Status) → command_of words ≡ Some (Votes names) → CommandEnds words c d m b answer → Tells (fault_text answer) b n → All
+  pub command_kept : (words : List (List ℕ)) (answer : Status) → command_of words ≡ Some (ToVote names) → CommandEnds words c d m b answer → Tells (fault_text answer) b n → All
   command_kept words answer is h tells = vota_kept answer (command_is words answer is h) tells
 
   -- with Done
   abbrev Counted : Type 0
-  Counted = HasAlso (ballot_lines t) s (ballots_of run) last × ForSome n.flashes (λ x. (load : Load) × AreAtRest load last x)
+  Counted = HasAlso (ballot_lines t) s (ballots_of run) last × ForSome n.flashes (AreAtRest (load_of t r section) last)
 
   start_not_done : (e : StartError) → start_status e ≡ status.Done → ⊥
   start_not_done starting.Memory is = absurd (cc)
@@ -280,7 +291,7 @@ module _ (names : Vota) (files : Files) (c d : CabinetTold) (told : c.files ≡ 
       voted_counted t r s last es out run tables section m n start rest found traced
       (at_end (λ x. HasVoted t r es m x) tells (of_given u q fs (λ x y z. HasVoted x y z m b) also h))
 
-  pub command_counted : (words : List (List ℕ)) → command_of words ≡ Some (Votes names) → CommandEnds words c d m b status.Done → Tells None b n → Counted
+  pub command_counted : (words : List (List ℕ)) → command_of words ≡ Some (ToVote names) → CommandEnds words c d m b status.Done → Tells None b n → Counted
   command_counted words is h tells = vota_counted status.Done refl (command_is words status.Done is h) tells
 
 pub votes_are_kept : VotesAreKept

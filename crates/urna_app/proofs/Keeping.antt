@@ -6,6 +6,8 @@ use Rattle.std.proofs.lemmas.List.{append-nil, append_cancel_left}
 use Rattle.urna_outside.specs.Flash.{Flashes, Op, Sync, after}
 use Rattle.urna_outside.specs.Stop.{AtEachStop, Left}
 use Rattle.urna_outside.specs.Told.{Told, Does}
+use Rattle.urna_outside.specs.Traced.{IsTraced}
+use Rattle.urna_outside.proofs.Traced.{traced_is}
 use Rattle.urna_outside.specs.declared.device.Dev.TheVariants as dev
 use Rattle.election_tables.specs.Roll.{RollData}
 use Rattle.election_tables.specs.TablesData.{TablesData}

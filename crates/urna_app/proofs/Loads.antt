@@ -19,7 +19,7 @@ use Rattle.state_store.specs.Laws.{AreWhole}
 use Rattle.state_store.specs.declared.store.LoadError.{LoadError}
 use Rattle.state_store.specs.declared.store.LoadError.TheVariants as load
 use Rattle.state_store.proofs.Loaded.{rest_found, rest_whole}
-use Rattle.urna_app.specs.Command.{Carga, Loads, command_of}
+use Rattle.urna_app.specs.Command.{Carga, ToLoad, command_of}
 use Rattle.urna_app.specs.Ending.{CargaEnds, CommandEnds, HasLoaded, IsAsked, IsGivenLoad, IsRefusedLoad, carga, load_no_cabinet, load_no_memory, load_refused, load_status, loaded, loaded_line, no_section, not_loaded, not_told, vota}
 use Rattle.urna_app.specs.Headline.{LoadBeginsDay}
 use Rattle.urna_app.specs.declared.status.Doc.TheVariants as doc
@@ -72,7 +72,7 @@ module _ (files : Files) (names : Carga) (c d : CabinetTold) (told : c.files ≡
       let done_here = subst (λ (x : TablesData). HasLoaded x r section m between) one.0 (subst (λ (x : RollData). HasLoaded u x section m between) one.1 h) in
       begins section between asked_here done_here there
 
-  pub command_begins : (words : List (List ℕ)) → command_of words ≡ Some (Loads names) → CommandEnds words c d m b status.Done → Begins
+  pub command_begins : (words : List (List ℕ)) → command_of words ≡ Some (ToLoad names) → CommandEnds words c d m b status.Done → Begins
   command_begins words is (vota that h) = absurd (cc)
   command_begins words is (carga {names = other} that h) =
       let same : other ≡ names = cc in

@@ -54,12 +54,12 @@ carga_of (a ∷ b ∷ c ∷ d ∷ e ∷ f ∷ more) = None
 
 -- a command and its names
 pub data Command : Type 0 where
-  Votes : Vota → Command
-  Loads : Carga → Command
+  ToVote : Vota → Command
+  ToLoad : Carga → Command
 
 abbrev pub command_in : Option Vota → Option Carga → Option Command
-command_in (Some names) other = Some (Votes names)
-command_in None (Some names) = Some (Loads names)
+command_in (Some names) other = Some (ToVote names)
+command_in None (Some names) = Some (ToLoad names)
 command_in None None = None
 
 -- the command of the words, if they are one

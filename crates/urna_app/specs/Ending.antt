@@ -29,7 +29,7 @@ use Rattle.station.specs.Start.{FailsToStart, Opens, opening}
 use Rattle.station.specs.Text.{session_steps}
 use Rattle.station.specs.declared.station.StartError.{StartError}
 use Rattle.station.specs.declared.station.StartError.TheVariants as start
-use Rattle.urna_app.specs.Command.{Carga, Loads, Vota, Votes, command_of}
+use Rattle.urna_app.specs.Command.{Carga, ToLoad, ToVote, Vota, command_of}
 use Rattle.urna_app.specs.Documents.{HasTables, HasRoll, HasKeys, IsFault}
 use Rattle.urna_app.specs.FaultLines.{Tells, fault_text}
 use Rattle.urna_app.specs.Taking.{HasTaken}
@@ -164,8 +164,8 @@ pub data CargaEnds (names : Carga) (c d : CabinetTold) (m n : Told) : Status →
 -- How a command ends, but for the line that tells a fault: the words are no command, and no call is made; or as their command.
 pub data CommandEnds (words : List (List ℕ)) (c d : CabinetTold) (m n : Told) : Status → Type 0 where
   no_command : command_of words ≡ None → HasTaken 0 status.Usage c d → IsUntouched m n → CommandEnds words c d m n status.Usage
-  vota : {names : Vota} {s : Status} → command_of words ≡ Some (Votes names) → VotaEnds names c d m n s → CommandEnds words c d m n s
-  carga : {names : Carga} {s : Status} → command_of words ≡ Some (Loads names) → CargaEnds names c d m n s → CommandEnds words c d m n s
+  vota : {names : Vota} {s : Status} → command_of words ≡ Some (ToVote names) → VotaEnds names c d m n s → CommandEnds words c d m n s
+  carga : {names : Carga} {s : Status} → command_of words ≡ Some (ToLoad names) → CargaEnds names c d m n s → CommandEnds words c d m n s
 
 -- How a call of the program ends, by what the cabinet and the machine told before and after: as its command, and then the line
 -- that tells a fault was shown, where the status has one.

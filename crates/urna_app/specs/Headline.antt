@@ -21,14 +21,14 @@ use Rattle.state_store.specs.Held.{HeldAlone, HeldByBoth}
 use Rattle.state_store.specs.Laws.{AreWhole}
 use Rattle.state_store.specs.Rest.{AreAtRest}
 use Rattle.state_store.specs.Steps.{lines_in}
-use Rattle.state_store.specs.declared.load.Load.{Load}
+use Rattle.state_store.specs.Load.{load_of}
 use Rattle.station.specs.Cast.{ballots_of, fims_reached}
 use Rattle.station.specs.Output.{Output}
 use Rattle.station.specs.Run.{IsRun}
 use Rattle.station.specs.Setting.{setting_of}
 use Rattle.station.specs.Start.{opening_line}
 use Rattle.station.specs.Text.{session_steps}
-use Rattle.urna_app.specs.Command.{Carga, Loads, Vota, Votes, command_of}
+use Rattle.urna_app.specs.Command.{Carga, ToLoad, ToVote, Vota, command_of}
 use Rattle.urna_app.specs.Ending.{Ends, IsGiven, IsGivenLoad}
 use Rattle.urna_app.specs.declared.status.Status.{Status}
 use Rattle.urna_app.specs.declared.status.Status.TheVariants as status
@@ -68,7 +68,7 @@ session_lines t s out = opening_line t s ∷ lines_in (session_steps t out)
 -- two opening syncs, and then these.
 pub record IsCall (words : List (List ℕ)) (c : CabinetTold) (m n : Told) (t : TablesData) (r : RollData) (es : List Event) (start : Flashes) (ops : List Op) : Type 0 where
   pub names : Vota
-  pub command : command_of words ≡ Some (Votes names)
+  pub command : command_of words ≡ Some (ToVote names)
   pub files : Files
   pub cabinet : c.files ≡ Some files
   pub given : IsGiven (Some files) names t r es
@@ -90,14 +90,14 @@ KeysHaveRun =
     (files : Option Files) (names : Vota) (t : TablesData) (r : RollData) (es : List Event) (s : State) → IsGiven files names t r es
     → (last : State) × (out : List Output) × IsRun (setting_of t r.titles) s es last out
 
--- Where the call ends with Done, both flashes are at rest with the poll s and all ballots of the run.
+-- Where the call ends with Done, both flashes are at rest with the poll s and all ballots of the run, and their load is as before.
 abbrev pub AllAreCounted : Type 0
 AllAreCounted =
     (words : List (List ℕ)) (c d : CabinetTold) (m n : Told) → Ends words c d m n status.Done
     → (t : TablesData) (r : RollData) (es : List Event) (start : Flashes) (ops : List Op) → IsCall words c m n t r es start ops
     → (section : Section) (s : State) → AreFound t r section s start
     → (last : State) (out : List Output) (run : IsRun (setting_of t r.titles) s es last out)
-    → HasAlso (ballot_lines t) s (ballots_of run) last × ForSome n.flashes (λ flashes. (load : Load) × AreAtRest load last flashes)
+    → HasAlso (ballot_lines t) s (ballots_of run) last × ForSome n.flashes (AreAtRest (load_of t r section) last)
 
 -- ---- a day: calls of vota, each over what the one before it left
 
@@ -157,6 +157,6 @@ DayKeepsVotes =
 abbrev pub LoadBeginsDay : Type 0
 LoadBeginsDay =
     (words : List (List ℕ)) (c d : CabinetTold) (m n : Told) → Ends words c d m n status.Done
-    → (names : Carga) (files : Files) (t : TablesData) (r : RollData) → command_of words ≡ Some (Loads names) → c.files ≡ Some files → IsGivenLoad (Some files) names t r
+    → (names : Carga) (files : Files) (t : TablesData) (r : RollData) → command_of words ≡ Some (ToLoad names) → c.files ≡ Some files → IsGivenLoad (Some files) names t r
     → (start : Flashes) → n.flashes ≡ Some start
     → (section : Section) × AreWhole start × AreFound t r section (ready_state t (length r.titles)) start

@@ -281,9 +281,9 @@ const TEARS: [Tear; 4] = [
     Tear::Byte(0xA5),
 ];
 
-// A session that commits but once at its end, or shows FIM after one flash, is refused here.
+// A session is stopped after each operation. One that commits but once at its end, or shows FIM after one flash, is refused here.
 #[test]
-fn a_session_stopped_after_each_operation(rt: HostRuntime) -> Result<(), Fail> {
+fn one_commit_at_the_end_is_seen_at_the_stops(rt: HostRuntime) -> Result<(), Fail> {
     let m = two_voters(&rt)?;
     for ops in SYNCS..=m.trail_len() {
         for tear in TEARS {
