@@ -1,3 +1,4 @@
+pub mod Fronts
 pub mod Images
 pub mod Rows
 pub mod Written

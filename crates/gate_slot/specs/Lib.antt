@@ -1,4 +1,5 @@
 pub mod Device
+pub mod Front
 pub mod Slot
 pub mod Survival
 pub mod Token

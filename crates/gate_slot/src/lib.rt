@@ -3,7 +3,8 @@
 //!
 //! The layer above takes a slot through its states `Shut`, `Filled` and `Live` by `shut`, `fill` and `publish`, and
 //! takes over a slot that is live already by `adopt`. `specs/Slot.antt` says where gate and body stand and what a
-//! state means in every image; `facts_survive` says what such a fact survives. docs/CRASH.md has the flash model.
+//! state means in every image, `specs/Front.antt` how far a step came that failed; `facts_survive` says what such a fact
+//! survives. docs/CRASH.md has the flash model.
 #![tactic(auto)]
 
 mod law;

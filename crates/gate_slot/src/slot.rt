@@ -1,10 +1,11 @@
 // The states of a slot, as tokens.
-ghost use Rattle.std.specs.Prelude.{◌≡◌, ◌≢◌, ◌==◌, ℕ, ◌+◌, ◌*◌, ◌<◌, ◌≤◌, List, [], length, IfOk, IfErr, IfSome, IfNone, OnSome, OnOk};
+ghost use Rattle.std.specs.Prelude.{◌≡◌, ◌≢◌, ◌==◌, ℕ, ◌+◌, ◌*◌, ◌<◌, ◌≤◌, List, [], length, IfOk, IfErr, IfSome, IfNone, OnSome, OnOk, OnErr};
 ghost use Rattle.std.specs.Bool.{OnTrue};
 ghost use Rattle.urna_outside.specs.Flash.{IsClean};
 ghost use Rattle.urna_outside.specs.Faults.{FailsAt};
 ghost use Rattle.urna_outside.specs.Told.{Does, Runs, size_of, port_of};
 ghost use Rattle.gate_slot.specs.Device.{OnFlash, KeepsRest};
+ghost use Rattle.gate_slot.specs.Front.{IsFrontOf};
 ghost use Rattle.gate_slot.specs.Slot.{room, IsGate, IsBody, IsGateShut, IsGateOpen, HasBody, IsFilled, IsOneWrite, gate_in, body_in, shut_ops, fill_ops, publish_ops};
 ghost use Rattle.gate_slot.specs.Token.{slot_of_live, IsTornAt, torn_port};
 ghost use Rattle.gate_slot.specs.declared.slot.Step.TheVariants.{Shutting, Filling, Publishing};
@@ -162,6 +163,8 @@ impl<const SIZE: usize> Slot<SIZE> {
             (λ flash. gate_in SIZE self.entry.index flash.content ≡ 0xA5
             → Does (shut_ops SIZE self.entry.dev self.entry.index) (M.told m.old) (M.told m.new))
             (M.told m.old)) }
+        // Torn, a front of the step's operations was done.
+        ensures cut { OnErr result (Runs (IsFrontOf (shut_ops SIZE self.entry.dev self.entry.index)) (M.told m.old) (M.told m.new)) }
         ensures idle { OnFlash self.entry.dev
             (λ flash. gate_in SIZE self.entry.index flash.content ≢ 0xA5 → Does [] (M.told m.old) (M.told m.new))
             (M.told m.old) }
@@ -212,6 +215,9 @@ impl<const SIZE: usize> Shut<SIZE> {
         ensures exact { OnOk result (Does
             (fill_ops SIZE (slot_of_shut self.entry).dev (slot_of_shut self.entry).index body.now)
             (M.told m.old) (M.told m.new)) }
+        ensures cut { OnErr result (Runs
+            (IsFrontOf (fill_ops SIZE (slot_of_shut self.entry).dev (slot_of_shut self.entry).index body.now))
+            (M.told m.old) (M.told m.new)) }
 
         // Ok or Torn, every byte but the body is as before.
         ensures rest { KeepsRest (slot_of_shut self.entry).dev (IsBody SIZE (slot_of_shut self.entry).index)
@@ -257,6 +263,9 @@ impl<const SIZE: usize> Filled<SIZE> {
             (M.told m.old) (M.told m.new) }
         ensures exact { OnOk result (Does
             (publish_ops SIZE (slot_of_filled self.entry).dev (slot_of_filled self.entry).index)
+            (M.told m.old) (M.told m.new)) }
+        ensures cut { OnErr result (Runs
+            (IsFrontOf (publish_ops SIZE (slot_of_filled self.entry).dev (slot_of_filled self.entry).index))
             (M.told m.old) (M.told m.new)) }
 
         // Ok or Torn, every byte but the gate is as before.

@@ -1,19 +1,18 @@
 -- The two devices, one after the other.
 use Rattle.std.proofs.Common.{◌≡◌, ◌≢◌, ℕ, ◌+◌, ◌≤◌, ◌⊎◌, inl, inr, Option, Some, List, length, refl, sym, subst, ◌∙◌, arith}
 use Rattle.std.specs.Option.{ForSome}
-use Rattle.urna_outside.specs.Flash.{Flash, Flashes, flash_of, after, IsClean, IsImage}
+use Rattle.urna_outside.specs.Flash.{Flash, Flashes, flash_of, IsClean, IsImage}
 use Rattle.urna_outside.specs.Stop.{Left}
 use Rattle.urna_outside.specs.Stage.{Course}
-use Rattle.urna_outside.specs.Told.{Told, Sizes, Does, Runs, AreSized, size_of}
+use Rattle.urna_outside.specs.Told.{Told, Sizes, Runs, AreSized, size_of}
 use Rattle.urna_outside.specs.declared.device.Dev.TheVariants.{Internal, External}
-use Rattle.urna_outside.proofs.Doing.{does-append, told_after}
 use Rattle.urna_outside.proofs.Runs.{run_keeps}
 use Rattle.urna_outside.proofs.Stages.{stage_stronger}
 use Rattle.urna_outside.proofs.Courses.{course_from_stage, courses-append, course_weaker}
 use Rattle.gate_slot.specs.Slot.{room}
-use Rattle.twin_image.specs.Twin.{IsOfTwin, IsTwin, HoldsEither, Renews, renew_ops}
+use Rattle.twin_image.specs.Twin.{IsOfTwin, IsTwin, HoldsEither, Renews}
 use Rattle.twin_image.specs.Held.{LeavesEither, Outranks}
-use Rattle.twin_image.specs.Level.{IsLevel, CommitsTo, commit_ops}
+use Rattle.twin_image.specs.Level.{IsLevel, CommitsTo}
 use Rattle.twin_image.proofs.Renewing.{live_image, twin_bounded}
 use Rattle.twin_image.proofs.Framing.{framed, on_both}
 use Rattle.twin_image.specs.Slots.{HaveRoom, AreClean}
@@ -113,10 +112,3 @@ module _ (rank : List ℕ → Option ℕ) (size : ℕ) (old new : List ℕ) (old
   level_at b c fits sized twin run external =
       let still = internal_stays b c (fits External) sized twin run in
       λ fs told. level_of size new fs (still fs told) (external fs told)
-
--- the whole operations of both devices
-pub both_renewed : (size : ℕ) (new : List ℕ) (a b c : Told) → ForSome a.flashes (λ start. Does (renew_ops size Internal new) a b) → ForSome b.flashes (λ start. Does (renew_ops size External new) b c) → ForSome a.flashes (λ start. Does (commit_ops size new) a c)
-both_renewed size new a b c first second start told =
-    let does = first start told in
-    let later = told_after (renew_ops size Internal new) a b start does told in
-    does-append (renew_ops size Internal new) (renew_ops size External new) a b c does (second (after (renew_ops size Internal new) start) later)

@@ -1,5 +1,5 @@
 -- A device that is loaded: shut, filled, framed and published.
-use Rattle.std.proofs.Common.{◌≡◌, ◌≢◌, ℕ, ◌+◌, ◌<◌, ◌≤◌, inl, inr, Some, List, [], ◌∷◌, ◌++◌, length, sym, subst, ◌∙◌, arith, cond, eqb, ap}
+use Rattle.std.proofs.Common.{◌≡◌, ◌≢◌, ℕ, ◌+◌, ◌<◌, ◌≤◌, inl, inr, Some, List, [], ◌∷◌, ◌++◌, length, sym, subst, ◌∙◌, arith, cond, eqb, ap, append_assoc}
 use Rattle.std.specs.Option.{ForSome}
 use Rattle.urna_outside.specs.Flash.{Flash, Flashes, flash_of, after, IsClean, IsImage, part, Op}
 use Rattle.urna_outside.specs.Confined.{KeepsBut, KeepsOthers}
@@ -14,6 +14,8 @@ use Rattle.urna_outside.proofs.Runs.{places_of, run_keeps, syncs-append}
 use Rattle.urna_outside.proofs.Stages.{left_image, stage_weaker, stage_stronger, stages-append}
 use Rattle.urna_outside.proofs.Stops.{stops_within, within_shows}
 use Rattle.gate_slot.specs.Device.{OnFlash, KeepsRest}
+use Rattle.gate_slot.specs.Front.{IsFrontOf}
+use Rattle.gate_slot.proofs.Fronts.{fronts_later, none_yet}
 use Rattle.gate_slot.specs.Slot.{room, gate_place, body_place, padding_place, gate_in, IsGate, IsBody, IsGateShut, IsGateOpen, IsFilled, HasBody, IsOneWrite, shut_ops}
 use Rattle.gate_slot.proofs.Written.{body_fits, gate_bounded}
 use Rattle.gate_slot.proofs.Images.{gate_image, body_image}
@@ -25,6 +27,7 @@ use Rattle.twin_image.proofs.Framing.{stop_whole, contents_of, left_contents, so
 use Rattle.twin_image.proofs.Laid.{frame_apart, frame_image, length-padding}
 use Rattle.twin_image.proofs.Mending.{SameSlot, image_kept}
 use Rattle.twin_image.proofs.Renewing.{content_image, twin_bounded}
+use Rattle.twin_image.proofs.Turning.{shutting_cut}
 
 -- places
 pub gates_of_twin : (size k : ℕ) → IsOfGates size k → IsOfTwin size k
@@ -147,6 +150,31 @@ shuts_both d size a b c rest first second start told =
     let same = (rest start told mid later).own.content (gate_place size 1) (λ gate. omega (arith, gate.1)) in
     let again : shutting_ops size d 1 (flash_of d mid).content ≡ shutting_ops size d 1 (flash_of d start).content = ap (λ (gate : ℕ). cond (eqb gate 0xA5) (shut_ops size d 1) []) same in
     does-append ops (shutting_ops size d 1 (flash_of d start).content) a b c one (subst (λ (l : List Op). Does l b c) again (second mid later))
+
+-- shutting both was cut off at slot 0, where more is to follow
+pub shuts_cut_first : (d : Dev) (size : ℕ) (a b : Told) → Runs (IsFrontOf (shut_ops size d 0)) a b → OnFlash d (λ f. gate_in size 0 f.content ≢ 0xA5 → Does [] a b) a
+    → OnFlash d (λ f. (next : Op) (more : List Op) → Runs (IsFrontOf (shutting_ops size d 0 f.content ++ shutting_ops size d 1 f.content ++ next ∷ more)) a b) a
+shuts_cut_first d size a b opened other start told next more =
+    let content = (flash_of d start).content in
+    let second = shutting_ops size d 1 content in
+    subst (λ (ops : List Op). Runs (IsFrontOf ops) a b) (sym (append_assoc (shutting_ops size d 0 content) second (next ∷ more)))
+    (shutting_cut d size 0 content (second ++ next ∷ more) a b (none_yet second next more) opened (other start told))
+
+-- or at slot 1
+pub shuts_cut_second : (d : Dev) (size : ℕ) (a b c : Told) → KeepsRest d (IsGate size 0) a b → OnFlash d (λ f. Does (shutting_ops size d 0 f.content) a b) a
+    → Runs (IsFrontOf (shut_ops size d 1)) b c → OnFlash d (λ f. gate_in size 1 f.content ≢ 0xA5 → Does [] b c) b
+    → OnFlash d (λ f. (next : Op) (more : List Op) → Runs (IsFrontOf (shutting_ops size d 0 f.content ++ shutting_ops size d 1 f.content ++ next ∷ more)) a c) a
+shuts_cut_second d size a b c rest first opened other start told next more =
+    let one = first start told in
+    let content = (flash_of d start).content in
+    let ops = shutting_ops size d 0 content in
+    let mid = after ops start in
+    let later = told_after ops a b start one told in
+    let same = (rest start told mid later).own.content (gate_place size 1) (λ gate. omega (arith, gate.1)) in
+    let again : shutting_ops size d 1 (flash_of d mid).content ≡ shutting_ops size d 1 content = ap (λ (gate : ℕ). cond (eqb gate 0xA5) (shut_ops size d 1) []) same in
+    let two = shutting_cut d size 1 (flash_of d mid).content (next ∷ more) b c (none_yet [] next more) opened (other mid later) in
+    subst (λ (ops : List Op). Runs (IsFrontOf ops) a c) (sym (append_assoc ops (shutting_ops size d 1 content) (next ∷ more)))
+    (fronts_later ops (shutting_ops size d 1 content ++ next ∷ more) a b c one (subst (λ (l : List Op). Runs (IsFrontOf (l ++ next ∷ more)) b c) again two))
 
 -- what is told at the end of a stage is one of the things that it leaves
 at_end : (d : Dev) (In : ℕ → Type 0) (n : ℕ) (P : Flashes → Left → Type 0) (a b : Told) (start now : Flashes) → a.flashes ≡ Some start → b.flashes ≡ Some now → Runs (Stage a d In n P) a b

@@ -8,6 +8,7 @@ pub mod Laying
 pub mod Loading
 pub mod Looking
 pub mod Mending
+pub mod Ordering
 pub mod Renewing
 pub mod Rows
 pub mod Turning

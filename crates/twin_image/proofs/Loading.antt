@@ -1,7 +1,7 @@
 -- Both devices are loaded, one after the other.
-use Rattle.std.proofs.Common.{◌≡◌, ◌≢◌, ℕ, ◌+◌, ◌<◌, ◌≤◌, inl, inr, Some, List, length, sym, ap, subst, ◌∙◌, arith}
+use Rattle.std.proofs.Common.{◌≡◌, ◌≢◌, ℕ, ◌+◌, ◌<◌, ◌≤◌, inl, inr, Some, List, [], ◌∷◌, ◌++◌, length, sym, ap, subst, ◌∙◌, arith}
 use Rattle.std.specs.Option.{ForSome}
-use Rattle.urna_outside.specs.Flash.{Flash, Flashes, flash_of, after, IsClean, IsImage}
+use Rattle.urna_outside.specs.Flash.{Put, Sync, Flash, Flashes, flash_of, after, IsClean, IsImage}
 use Rattle.urna_outside.specs.Stop.{Left, left_on}
 use Rattle.urna_outside.specs.Stage.{Stage, Course}
 use Rattle.urna_outside.specs.Told.{Told, Sizes, Runs, AreSized, size_of, Does}
@@ -14,12 +14,14 @@ use Rattle.urna_outside.proofs.Places.{same_part}
 use Rattle.urna_outside.proofs.Runs.{places_of, run_keeps}
 use Rattle.urna_outside.proofs.Stages.{stage_stronger}
 use Rattle.gate_slot.specs.Device.{OnFlash}
-use Rattle.gate_slot.specs.Slot.{room}
+use Rattle.gate_slot.specs.Front.{IsFrontOf}
+use Rattle.gate_slot.proofs.Fronts.{front_first, fronts_later, none_yet}
+use Rattle.gate_slot.specs.Slot.{room, body_place, fill_ops, publish_ops}
 use Rattle.gate_slot.proofs.Written.{body_fits}
 use Rattle.twin_image.specs.Frame.{FrameStands, device_image}
-use Rattle.twin_image.specs.Lay.{IsEarly, IsLate, LeavesLaid, LaysOn, Lays, header_for, lay_ops, load_ops}
+use Rattle.twin_image.specs.Lay.{IsEarly, IsLate, LeavesLaid, LaysOn, Lays, frame_ops, header_for, lay_ops, load_ops}
 use Rattle.twin_image.specs.Slots.{AreClean}
-use Rattle.twin_image.specs.Twin.{IsTwin}
+use Rattle.twin_image.specs.Twin.{IsTwin, shutting_ops}
 use Rattle.twin_image.proofs.Committing.{internal_differs, external_differs}
 use Rattle.twin_image.proofs.Framing.{on_both}
 use Rattle.twin_image.proofs.Laid.{frame_image, twin_whole}
@@ -48,6 +50,18 @@ loaded size header body f image header_long long stands twin is =
       first = λ gate. ((live_image size 0 body f image long twin.first is).1, frame);
       second = λ gate. ((live_image size 1 body f image long twin.second is).1, frame);
     }
+
+-- there is always something to be done
+pub load_none : (size : ℕ) (internal external body : List ℕ) (start : Flashes) → IsFrontOf (load_ops size internal external body start) []
+load_none size internal external body start =
+    let content = start.internal.content in
+    let shut = shutting_ops size Internal 0 content ++ shutting_ops size Internal 1 content in
+    let fill = fill_ops size Internal 0 body ++ fill_ops size Internal 1 body in
+    let publish = publish_ops size Internal 0 ++ publish_ops size Internal 1 in
+    let none = none_yet shut (Put Internal (body_place size 0) body) (Sync Internal ∷ fill_ops size Internal 1 body) in
+    let frame = frame_ops size Internal internal in
+    front_first (lay_ops size Internal internal body content) (lay_ops size External external body start.external.content) []
+    (front_first (shut ++ fill ++ frame) publish [] (front_first (shut ++ fill) frame [] none))
 
 -- the content of a loaded device
 pub loaded_content : (size : ℕ) (header body : List ℕ) (f : Flash) → length header ≡ 512 → length body ≡ size → length f.content ≡ room size → FrameStands size header f → IsTwin size body f → f.content ≡ device_image size header body
@@ -126,3 +140,16 @@ module _ (size : ℕ) (internal external body : List ℕ) (internal_long : lengt
       let same = external_same a b (fits Internal) sized run start mid told later in
       let two = subst (λ (f : Flash). Does (lay_ops size External external body f.content) b c) same (second mid later) in
       does-append ops (lay_ops size External external body start.external.content) a b c one two
+
+  -- the load was cut off on the external flash
+  pub loads_cut : (a b c : Told) → ((d : Dev) → room size ≤ size_of d a.sizes) → ForSome a.flashes (AreSized a.sizes) → Runs (LaysOn a Internal size internal body) a b
+      → OnFlash Internal (λ f. Does (lay_ops size Internal internal body f.content) a b) a → OnFlash External (λ f. Runs (IsFrontOf (lay_ops size External external body f.content)) b c) b
+      → ForSome a.flashes (λ start. Runs (IsFrontOf (load_ops size internal external body start)) a c)
+  loads_cut a b c fits sized run first second start told =
+      let one = first start told in
+      let ops = lay_ops size Internal internal body start.internal.content in
+      let mid = after ops start in
+      let later = told_after ops a b start one told in
+      let same = external_same a b (fits Internal) sized run start mid told later in
+      let two = subst (λ (f : Flash). Runs (IsFrontOf (lay_ops size External external body f.content)) b c) same (second mid later) in
+      fronts_later ops (lay_ops size External external body start.external.content) a b c one two

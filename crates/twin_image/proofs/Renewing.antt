@@ -1,13 +1,13 @@
 -- The two slots of a device, one after the other.
 use Rattle.std.proofs.Common.{◌≡◌, ℕ, ◌+◌, ◌<◌, ◌≤◌, ◌⊎◌, inl, inr, Some, List, [], ◌∷◌, length, refl, sym, subst, ◌∙◌, arith}
 use Rattle.std.specs.Option.{ForSome}
-use Rattle.urna_outside.specs.Flash.{Flash, Flashes, flash_of, after, IsImage, Op}
+use Rattle.urna_outside.specs.Flash.{Flash, Flashes, flash_of, after, IsImage}
 use Rattle.urna_outside.specs.Confined.{KeepsOthers}
 use Rattle.urna_outside.specs.Stop.{Left, left_on}
 use Rattle.urna_outside.specs.Stage.{Stage}
-use Rattle.urna_outside.specs.Told.{Told, Does, Runs, AreSized, size_of}
+use Rattle.urna_outside.specs.Told.{Told, Runs, AreSized, size_of}
 use Rattle.urna_outside.specs.declared.device.Dev.{Dev}
-use Rattle.urna_outside.proofs.Doing.{does-append, told_after}
+use Rattle.urna_outside.proofs.Doing.{told_after}
 use Rattle.urna_outside.proofs.Keeping.{within_keeps}
 use Rattle.urna_outside.proofs.Runs.{places_of, run_keeps}
 use Rattle.gate_slot.specs.Device.{OnFlash, KeepsRest}
@@ -16,8 +16,7 @@ use Rattle.urna_outside.proofs.Stages.{left_image, stage_weaker, stage_stronger,
 use Rattle.gate_slot.specs.Slot.{room, gate_place, body_place, gate_in, body_in}
 use Rattle.gate_slot.proofs.Written.{gate_fits, body_fits, stands_through}
 use Rattle.gate_slot.proofs.Images.{gate_image, body_image}
-use Rattle.twin_image.specs.Twin.{IsOfSlot, IsOfTwin, IsLive, IsTwin, TurnsTo, Turns, HoldsEither, Renews, StepLeaves, turn_ops, turning_ops, renew_ops}
-use Rattle.twin_image.proofs.Turning.{turning-open}
+use Rattle.twin_image.specs.Twin.{IsOfSlot, IsOfTwin, IsLive, IsTwin, TurnsTo, Turns, HoldsEither, Renews, StepLeaves}
 
 pub slot_bounded : (size index n : ℕ) → index < 2 → room size ≤ n → (k : ℕ) → IsOfSlot size index k → k < n
 slot_bounded size index n below fits k (inl gate) = omega (arith, gate_fits size index n below fits, gate.1)
@@ -69,19 +68,6 @@ live_gate size index body f live = gate_image size index 0xA5 f f.content live.g
 -- what a step leaves of a slot that has another name
 pub leaves_at : (d : Dev) (size i j : ℕ) (step : Step) (old new : List ℕ) (b : Told) → i ≡ j → OnFlash d (StepLeaves step size j old new) b → OnFlash d (StepLeaves step size i old new) b
 leaves_at d size i j step old new b same leaves = subst (λ (k : ℕ). OnFlash d (StepLeaves step size k old new) b) (sym same) leaves
-
--- the whole operations of two turns, each of a slot that is live
-pub both_turns : (d : Dev) (size : ℕ) (one two new : List ℕ) (a b c : Told) → OnFlash d (IsLive size 0 one) a → OnFlash d (IsLive size 1 two) b
-    → OnFlash d (λ f. Does (turning_ops size d 0 new f.content) a b) a → OnFlash d (λ f. Does (turning_ops size d 1 new f.content) b c) b
-    → ForSome a.flashes (λ start. Does (renew_ops size d new) a c)
-both_turns d size one two new a b c first second turns_first turns_second start told =
-    let gate = live_gate size 0 one (flash_of d start) (first start told) in
-    let does = subst (λ (ops : List Op). Does ops a b) (turning-open d size 0 new (flash_of d start).content gate) (turns_first start told) in
-    let mid = after (turn_ops size d 0 new) start in
-    let later = told_after (turn_ops size d 0 new) a b start does told in
-    let gate_2 = live_gate size 1 two (flash_of d mid) (second mid later) in
-    let does_second = subst (λ (ops : List Op). Does ops b c) (turning-open d size 1 new (flash_of d mid).content gate_2) (turns_second mid later) in
-    does-append (turn_ops size d 0 new) (turn_ops size d 1 new) a b c does does_second
 
 pub twin_bounded : (size n : ℕ) → room size ≤ n → (k : ℕ) → IsOfTwin size k → k < n
 twin_bounded size n fits k (inl first) = let below : 0 < 2 = omega arith in slot_bounded size 0 n below fits k first

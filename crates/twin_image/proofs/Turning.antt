@@ -2,7 +2,7 @@
 use Rattle.std.proofs.Common.{◌≡◌, ◌≢◌, ℕ, ◌+◌, ◌<◌, ◌≤◌, inl, inr, Option, Some, None, List, [], ◌∷◌, length, refl, sym, ap, subst, ◌∙◌, arith, Bool, cond, ◌++◌}
 use Rattle.std.proofs.lemmas.Bool.{cases_eq, eq-eqb, ne_eqb}
 use Rattle.std.specs.Option.{ForSome}
-use Rattle.urna_outside.specs.Flash.{Op, Flashes, flash_of, IsClean, Stably, part}
+use Rattle.urna_outside.specs.Flash.{Op, Put, Sync, Flashes, flash_of, IsClean, Stably, part}
 use Rattle.urna_outside.specs.Confined.{KeepsOthers}
 use Rattle.urna_outside.specs.Stop.{Left, IsLeft, left_on}
 use Rattle.urna_outside.specs.Stage.{Stage}
@@ -16,10 +16,12 @@ use Rattle.urna_outside.proofs.Stages.{left_image, stage_weaker, stages-append}
 use Rattle.gate_slot.specs.Slot.{room, gate_place, body_place, gate_in, body_in, IsGate, IsBody, IsGateShut, HasBody, IsOneWrite, shut_ops, fill_ops, publish_ops}
 use Rattle.gate_slot.proofs.Written.{gate_fits, body_fits, gate_bounded, body_bounded, stands_through}
 use Rattle.gate_slot.specs.Device.{OnFlash}
+use Rattle.gate_slot.specs.Front.{IsFrontOf}
+use Rattle.gate_slot.proofs.Fronts.{fronts_first, none_yet}
 use Rattle.gate_slot.proofs.Images.{gate_image, body_image, stands_one}
 use Rattle.gate_slot.specs.declared.slot.Step.{Step}
 use Rattle.gate_slot.specs.declared.slot.Step.TheVariants.{Shutting}
-use Rattle.twin_image.specs.Twin.{IsOfSlot, StepLeaves, TurnsTo, WasOpen, Turns, turn_ops, turning_ops, shutting_ops}
+use Rattle.twin_image.specs.Twin.{IsOfSlot, StepLeaves, TurnsTo, WasOpen, Turns, turning_ops, shutting_ops}
 
 -- one write as a stage
 pub runs_one : (d : Dev) (In : ℕ → Type 0) (P : Flashes → Left → Type 0) (a b : Told) → ForSome a.flashes (AreSized a.sizes) → ((k : ℕ) → In k → k < size_of d a.sizes)
@@ -36,6 +38,26 @@ runs_one d In P a b sized bounded holds run = (
   },
 )
 
+-- shutting was cut off, where more is to follow
+pub shutting_cut : (d : Dev) (size index : ℕ) (content : List ℕ) (more : List Op) (a b : Told) → IsFrontOf more [] → Runs (IsFrontOf (shut_ops size d index)) a b → (gate_in size index content ≢ 0xA5 → Does [] a b)
+    → Runs (IsFrontOf (shutting_ops size d index content ++ more)) a b
+shutting_cut d size index content more a b none opened other = elim (cases_eq (gate_in size index content) 0xA5) [
+  | inl gate ↦
+      subst (λ (t : Bool). Runs (IsFrontOf (cond t (shut_ops size d index) [] ++ more)) a b) (sym (eq-eqb (gate_in size index content) 0xA5 gate)) (fronts_first (shut_ops size d index) more a b opened)
+  | inr shut ↦
+      subst (λ (t : Bool). Runs (IsFrontOf (cond t (shut_ops size d index) [] ++ more)) a b) (sym (ne_eqb (gate_in size index content) 0xA5 shut)) ([], other shut, none)
+]
+
+-- a turn was cut off while the slot was shut
+pub turning_cut : (d : Dev) (size index : ℕ) (new : List ℕ) (a b : Told) → Runs (IsFrontOf (shut_ops size d index)) a b → OnFlash d (λ f. gate_in size index f.content ≢ 0xA5 → Does [] a b) a
+    → OnFlash d (λ f. Runs (IsFrontOf (turning_ops size d index new f.content)) a b) a
+turning_cut d size index new a b opened other start told =
+    let content = (flash_of d start).content in
+    let fill = fill_ops size d index new in
+    let none = none_yet [] (Put d (body_place size index) new) (Sync d ∷ []) in
+    fronts_first (shutting_ops size d index content ++ fill) (publish_ops size d index) a b
+    (shutting_cut d size index content fill a b none opened (other start told))
+
 -- what shutting does, by what the gate read
 pub shutting_does : (d : Dev) (size index : ℕ) (a b : Told) → OnFlash d (λ f. gate_in size index f.content ≡ 0xA5 → Does (shut_ops size d index) a b) a → OnFlash d (λ f. gate_in size index f.content ≢ 0xA5 → Does [] a b) a
     → OnFlash d (λ f. Does (shutting_ops size d index f.content) a b) a
@@ -46,7 +68,10 @@ shutting_does d size index a b opened other start told = elim (cases_eq (gate_in
       subst (λ (t : Bool). Does (cond t (shut_ops size d index) []) a b) (sym (ne_eqb (gate_in size index (flash_of d start).content) 0xA5 shut)) (other start told shut)
 ]
 
--- a turn of an open slot
+-- all that is done of an open slot
+abbrev pub turn_ops : ℕ → Dev → ℕ → List ℕ → List Op
+turn_ops size d index body = shut_ops size d index ++ fill_ops size d index body ++ publish_ops size d index
+
 pub turning-open : (d : Dev) (size index : ℕ) (body content : List ℕ) → gate_in size index content ≡ 0xA5 → turning_ops size d index body content ≡ turn_ops size d index body
 turning-open d size index body content gate =
     ap (λ (t : Bool). cond t (shut_ops size d index) [] ++ fill_ops size d index body ++ publish_ops size d index) (eq-eqb (gate_in size index content) 0xA5 gate)

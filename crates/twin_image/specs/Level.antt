@@ -1,11 +1,11 @@
 -- Four live slots of one body.
-use Rattle.std.specs.Prelude.{◌≡◌, ◌++◌, ℕ, List, Option, length}
+use Rattle.std.specs.Prelude.{◌≡◌, ℕ, List, Option, length}
 use Rattle.std.specs.Option.{ForSome}
 use Rattle.urna_outside.specs.Flash.{Op, Flashes, flash_of}
 use Rattle.urna_outside.specs.Told.{Told}
 use Rattle.urna_outside.specs.declared.device.Dev.{Dev}
 use Rattle.urna_outside.specs.declared.device.Dev.TheVariants.{Internal, External}
-use Rattle.twin_image.specs.Twin.{IsTwin, renew_ops}
+use Rattle.twin_image.specs.Twin.{IsTwin}
 use Rattle.twin_image.specs.Pair.{AreOf}
 use Rattle.twin_image.specs.Held.{LeavesEither}
 use Rattle.twin_image.specs.Slots.{HaveRoom, AreClean, SlotCourse}
@@ -27,10 +27,6 @@ pub record Stands {SIZE : ℕ} (told : Told) (level : Level SIZE) : Type 0 where
   pub long : length (body_of level) ≡ SIZE
   pub fits : HaveRoom SIZE told.sizes
   pub flashes : ForSome told.flashes (IsLevel SIZE (body_of level))
-
--- all four slots are brought to a body, in the order in which they are held
-abbrev pub commit_ops : ℕ → List ℕ → List Op
-commit_ops size body = renew_ops size Internal body ++ renew_ops size External body
 
 -- what a commit does: at each stop both flashes, and each alone, hold the old body or the new one
 abbrev pub CommitsTo : Told → (List ℕ → Option ℕ) → ℕ → List ℕ → List ℕ → List Op → Type 0

@@ -5,6 +5,7 @@ pub mod Heal
 pub mod Held
 pub mod Lay
 pub mod Level
+pub mod Order
 pub mod Pair
 pub mod Slots
 pub mod Survey

@@ -27,10 +27,6 @@ pub record IsTwin (size : ℕ) (body : List ℕ) (flash : Flash) : Type 0 where
   pub first : IsLive size 0 body flash
   pub second : IsLive size 1 body flash
 
--- a slot whose gate is open is shut, filled and published
-abbrev pub turn_ops : ℕ → Dev → ℕ → List ℕ → List Op
-turn_ops size d index body = shut_ops size d index ++ fill_ops size d index body ++ publish_ops size d index
-
 -- over this content: an open gate is shut, and any other is left alone
 abbrev pub shutting_ops : ℕ → Dev → ℕ → List ℕ → List Op
 shutting_ops size d index content = if gate_in size index content == 0xA5 then shut_ops size d index else []
@@ -39,10 +35,6 @@ shutting_ops size d index content = if gate_in size index content == 0xA5 then s
 abbrev pub turning_ops : ℕ → Dev → ℕ → List ℕ → List ℕ → List Op
 turning_ops size d index body content =
     shutting_ops size d index content ++ fill_ops size d index body ++ publish_ops size d index
-
--- open slot 0 is turned, and then open slot 1
-abbrev pub renew_ops : ℕ → Dev → List ℕ → List Op
-renew_ops size d body = turn_ops size d 0 body ++ turn_ops size d 1 body
 
 -- what a step that failed leaves of its slot, in every image: the old body, a shut gate, or the new body
 abbrev pub StepLeaves : Step → ℕ → ℕ → List ℕ → List ℕ → Flash → Type 0

@@ -1,11 +1,12 @@
 // A device is loaded: its slots are shut and filled, its frame is written, its slots are published.
-ghost use Rattle.std.specs.Prelude.{◌≡◌, ◌<◌, ◌≤◌, ◌++◌, length, IfOk, IfErr, OnOk};
-ghost use Rattle.urna_outside.specs.Flash.{IsClean, flash_of};
+ghost use Rattle.std.specs.Prelude.{◌≡◌, ◌<◌, ◌≤◌, ◌∷◌, ◌++◌, List, length, IfOk, IfErr, OnOk, OnErr};
+ghost use Rattle.urna_outside.specs.Flash.{IsClean, Op, flash_of};
 ghost use Rattle.urna_outside.specs.Faults.{FailsAt};
 ghost use Rattle.urna_outside.specs.Stage.{Stage};
 ghost use Rattle.urna_outside.specs.Stop.{left_on};
 ghost use Rattle.urna_outside.specs.Told.{Does, Runs, port_of, size_of};
 ghost use Rattle.gate_slot.specs.Device.{OnFlash};
+ghost use Rattle.gate_slot.specs.Front.{IsFrontOf};
 ghost use Rattle.gate_slot.specs.Slot.{fill_ops, publish_ops, room};
 ghost use Rattle.gate_slot.specs.Token.{slot_of_shut, slot_of_filled, torn_port};
 ghost use Rattle.twin_image.specs.Frame.{FrameStands, IsOfFrame, padding};
@@ -29,6 +30,12 @@ fn shut_both<M: Machine, const SIZE: usize>(
     ensures clean { OnOk result (OnFlash dev IsClean (M.told m.new)) }
     ensures exact { OnOk result (OnFlash dev
         (λ flash. Does (shutting_ops SIZE dev 0 flash.content ++ shutting_ops SIZE dev 1 flash.content)
+        (M.told m.old) (M.told m.new))
+        (M.told m.old)) }
+    // Where neither gate reads open there is nothing to do, so a front of it is one with whatever follows.
+    ensures cut { OnErr result (OnFlash dev
+        (λ flash. (next : Op) (more : List Op)
+        → Runs (IsFrontOf (shutting_ops SIZE dev 0 flash.content ++ shutting_ops SIZE dev 1 flash.content ++ next ∷ more))
         (M.told m.old) (M.told m.new))
         (M.told m.old)) }
     ensures torn { IfErr result (λ torn. torn.slot.dev ≡ dev) }
@@ -58,6 +65,8 @@ fn fill_both<M: Machine, const SIZE: usize>(
     ensures shut { OnOk result (OnFlash dev (AreShut SIZE) (M.told m.new)) }
     ensures exact { OnOk result (Does (fill_ops SIZE dev 0 body.now ++ fill_ops SIZE dev 1 body.now)
         (M.told m.old) (M.told m.new)) }
+    ensures cut { OnErr result (Runs (IsFrontOf (fill_ops SIZE dev 0 body.now ++ fill_ops SIZE dev 1 body.now))
+        (M.told m.old) (M.told m.new)) }
     ensures torn { IfErr result (λ torn. torn.slot.dev ≡ dev) }
     ensures ran { Runs (WritesOnly dev (IsOfBodies SIZE) 2) (M.told m.old) (M.told m.new) }
     ensures fails { FailsAt torn_port result (M.told m.old) (M.told m.new) }
@@ -85,6 +94,7 @@ fn write_frame<M: Machine, const SIZE: usize>(
 
     ensures stands { OnOk result (OnFlash dev (FrameStands SIZE header.now) (M.told m.new)) }
     ensures exact { OnOk result (Does (frame_ops SIZE dev header.now) (M.told m.old) (M.told m.new)) }
+    ensures cut { OnErr result (Runs (IsFrontOf (frame_ops SIZE dev header.now)) (M.told m.old) (M.told m.new)) }
     ensures ran { Runs (WritesOnly dev (IsOfFrame SIZE) 1) (M.told m.old) (M.told m.new) }
     ensures fails { FailsAt (λ failed. port_of dev) result (M.told m.old) (M.told m.new) }
 {
@@ -110,6 +120,8 @@ fn publish_both<M: Machine, const SIZE: usize>(
     ensures opened { OnOk result (OnFlash dev (AreOpen SIZE) (M.told m.new)) }
     ensures clean { OnOk result (OnFlash dev IsClean (M.told m.new)) }
     ensures exact { OnOk result (Does (publish_ops SIZE dev 0 ++ publish_ops SIZE dev 1)
+        (M.told m.old) (M.told m.new)) }
+    ensures cut { OnErr result (Runs (IsFrontOf (publish_ops SIZE dev 0 ++ publish_ops SIZE dev 1))
         (M.told m.old) (M.told m.new)) }
     ensures torn { IfErr result (λ torn. torn.slot.dev ≡ dev) }
     ensures ran { Runs (WritesOnly dev (IsOfGates SIZE) 2) (M.told m.old) (M.told m.new) }
@@ -140,6 +152,9 @@ pub(crate) fn lay_on<M: Machine, const SIZE: usize>(
     ensures dev { IfErr result (λ failed. failed ≡ dev) }
     ensures exact { OnOk result (OnFlash dev
         (λ flash. Does (lay_ops SIZE dev header.now body.now flash.content) (M.told m.old) (M.told m.new))
+        (M.told m.old)) }
+    ensures cut { OnErr result (OnFlash dev
+        (λ flash. Runs (IsFrontOf (lay_ops SIZE dev header.now body.now flash.content)) (M.told m.old) (M.told m.new))
         (M.told m.old)) }
     ensures ran { Runs (LaysOn (M.told m.old) dev SIZE header.now body.now) (M.told m.old) (M.told m.new) }
     ensures fails { FailsAt port_of result (M.told m.old) (M.told m.new) }

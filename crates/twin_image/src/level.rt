@@ -3,12 +3,14 @@ ghost use Rattle.std.specs.Prelude.{◌≡◌, ◌≢◌, ◌≤◌, length, IfO
 ghost use Rattle.std.specs.Option.{ForSome};
 ghost use Rattle.urna_outside.specs.Flash.{IsClean};
 ghost use Rattle.urna_outside.specs.Faults.{FailsAt};
-ghost use Rattle.urna_outside.specs.Told.{Does, Runs, port_of, size_of};
+ghost use Rattle.urna_outside.specs.Told.{Runs, port_of, size_of};
 ghost use Rattle.gate_slot.specs.Device.{OnFlash};
+ghost use Rattle.gate_slot.specs.Front.{RunsUpTo};
 ghost use Rattle.gate_slot.specs.Slot.{room};
 ghost use Rattle.twin_image.specs.Held.{Outranks};
+ghost use Rattle.twin_image.specs.Order.{IsRenewal};
 ghost use Rattle.twin_image.specs.Pair.{AreOf};
-ghost use Rattle.twin_image.specs.Twin.{IsTwin, Renews, renew_ops};
+ghost use Rattle.twin_image.specs.Twin.{IsTwin, Renews};
 
 use crate::{Ranked, renew};
 use gate_slot::Live;
@@ -44,8 +46,8 @@ fn renew_on<M: Machine, const SIZE: usize>(
     ensures dev { IfErr result (λ failed. failed ≡ dev) }
 
     ensures ran { Runs (Renews (M.told m.old) dev SIZE old.now new.now) (M.told m.old) (M.told m.new) }
-    ensures exact { OnOk result (ForSome (M.told m.old).flashes
-        (λ start. Does (renew_ops SIZE dev new.now) (M.told m.old) (M.told m.new))) }
+    ensures order { ForSome (M.told m.old).flashes
+        (λ start. RunsUpTo result (IsRenewal SIZE dev old.now new.now) (M.told m.old) (M.told m.new)) }
     ensures fails { FailsAt port_of result (M.told m.old) (M.told m.new) }
 {
     let (first, second) = lives;
@@ -56,7 +58,8 @@ fn renew_on<M: Machine, const SIZE: usize>(
 }
 
 impl<const SIZE: usize> Level<SIZE> {
-    ghost use Rattle.twin_image.specs.Level.{body_of, Stands, CommitsTo, commit_ops};
+    ghost use Rattle.twin_image.specs.Level.{body_of, Stands, CommitsTo};
+    ghost use Rattle.twin_image.specs.Order.{AreRenewals};
 
     // A level of these tokens.
     pub(crate) fn of(
@@ -103,8 +106,9 @@ impl<const SIZE: usize> Level<SIZE> {
 
         ensures ran { Runs (CommitsTo (M.told m.old) (R.rank ranks.now) SIZE (body_of self.entry) next.now)
             (M.told m.old) (M.told m.new) }
-        ensures exact { OnOk result (ForSome (M.told m.old).flashes
-            (λ start. Does (commit_ops SIZE next.now) (M.told m.old) (M.told m.new))) }
+        // The slots have their turns in this order; up to a fault it is a front of them that was done.
+        ensures order { ForSome (M.told m.old).flashes (λ start.
+            RunsUpTo result (AreRenewals SIZE (body_of self.entry) next.now) (M.told m.old) (M.told m.new)) }
         ensures fails { FailsAt port_of result (M.told m.old) (M.told m.new) }
     {
         let Level {

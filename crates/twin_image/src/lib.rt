@@ -3,7 +3,8 @@
 //! The layer above makes a `Twin`, finds by `survey` what both flashes hold, and brings all four slots to it by `heal`,
 //! or loads blank devices by `lay`. Either gives a `Level`, whose `commit` takes the four slots to the next body, so that
 //! at every stop both flashes, and each alone, hold the old body or the new one. `specs/Held.antt` says what slots hold,
-//! `specs/Level.antt` what a level says (cite `Stands` and `body_of`), `specs/Heal.antt` what a heal keeps,
+//! `specs/Level.antt` what a level says (cite `Stands` and `body_of`), `specs/Order.antt` in which order a commit goes
+//! through the slots (cite `AreRenewals`), `specs/Heal.antt` what a heal keeps,
 //! `specs/Frame.antt` and `specs/Lay.antt` what a whole device is and what a load leaves at each stop.
 //! `proofs/Laid.antt` and `proofs/Framing.antt` have the lemmas that tie them.
 #![tactic(auto)]

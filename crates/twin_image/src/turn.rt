@@ -1,9 +1,10 @@
 // One slot is brought to a new body.
-ghost use Rattle.std.specs.Prelude.{◌≡◌, ℕ, ◌<◌, ◌≤◌, List, length, IfOk, IfErr, OnOk};
+ghost use Rattle.std.specs.Prelude.{◌≡◌, ℕ, ◌<◌, ◌≤◌, List, length, IfOk, IfErr, OnOk, OnErr};
 ghost use Rattle.urna_outside.specs.Flash.{IsClean};
 ghost use Rattle.urna_outside.specs.Faults.{FailsAt};
 ghost use Rattle.urna_outside.specs.Told.{Does, Runs, size_of};
 ghost use Rattle.gate_slot.specs.Device.{OnFlash, KeepsRest};
+ghost use Rattle.gate_slot.specs.Front.{IsFrontOf};
 ghost use Rattle.gate_slot.specs.Slot.{HasBody, room, gate_in};
 ghost use Rattle.gate_slot.specs.Token.{slot_of_live, torn_port};
 ghost use Rattle.twin_image.specs.Twin.{IsLive, IsOfSlot, StepLeaves, Turns, turning_ops};
@@ -34,6 +35,10 @@ pub(crate) fn turn<M: Machine, const SIZE: usize>(
     ensures ran { Runs (Turns (M.told m.old) slot.entry.dev SIZE slot.entry.index new.now) (M.told m.old) (M.told m.new) }
     ensures exact { OnOk result (OnFlash slot.entry.dev
         (λ flash. Does (turning_ops SIZE slot.entry.dev slot.entry.index new.now flash.content)
+        (M.told m.old) (M.told m.new))
+        (M.told m.old)) }
+    ensures cut { OnErr result (OnFlash slot.entry.dev
+        (λ flash. Runs (IsFrontOf (turning_ops SIZE slot.entry.dev slot.entry.index new.now flash.content))
         (M.told m.old) (M.told m.new))
         (M.told m.old)) }
     ensures fails { FailsAt torn_port result (M.told m.old) (M.told m.new) }

@@ -18,10 +18,11 @@ pub struct Twin<const SIZE: usize> {
 }
 
 impl<const SIZE: usize> Twin<SIZE> {
-    ghost use Rattle.std.specs.Prelude.{[], Some, IfOk, IsSome, IsErrOf, OnOk};
+    ghost use Rattle.std.specs.Prelude.{[], Some, IfOk, IsSome, IsErrOf, OnOk, OnErr};
     ghost use Rattle.std.specs.Option.{ForSome};
     ghost use Rattle.urna_outside.specs.Faults.{FailsAt};
     ghost use Rattle.urna_outside.specs.Told.{Does, Runs, port_of};
+    ghost use Rattle.gate_slot.specs.Front.{IsFrontOf};
     ghost use Rattle.twin_image.specs.Found.{found_body};
     ghost use Rattle.twin_image.specs.Held.{HoldsBody, NoneStands};
     ghost use Rattle.twin_image.specs.Lay.{AreFull, AreLaid, Lays, load_ops};
@@ -102,6 +103,9 @@ impl<const SIZE: usize> Twin<SIZE> {
 
         ensures exact { OnOk result (ForSome (M.told m.old).flashes
             (λ start. Does (load_ops SIZE internal.now external.now body.now start) (M.told m.old) (M.told m.new))) }
+        // Up to a fault it is a front of the same that was done.
+        ensures cut { OnErr result (ForSome (M.told m.old).flashes
+            (λ start. Runs (IsFrontOf (load_ops SIZE internal.now external.now body.now start)) (M.told m.old) (M.told m.new))) }
         ensures ran { Runs (Lays (M.told m.old) SIZE internal.now external.now body.now)
             (M.told m.old) (M.told m.new) }
         ensures fails { FailsAt port_of result (M.told m.old) (M.told m.new) }

@@ -3,11 +3,13 @@ ghost use Rattle.std.specs.Prelude.{◌≡◌, ◌<◌, ◌≤◌, ◌++◌, len
 ghost use Rattle.std.specs.Option.{ForSome};
 ghost use Rattle.urna_outside.specs.Flash.{IsClean};
 ghost use Rattle.urna_outside.specs.Faults.{FailsAt};
-ghost use Rattle.urna_outside.specs.Told.{Does, Runs, size_of};
+ghost use Rattle.urna_outside.specs.Told.{Runs, size_of};
 ghost use Rattle.gate_slot.specs.Device.{OnFlash, KeepsRest};
+ghost use Rattle.gate_slot.specs.Front.{RunsUpTo};
 ghost use Rattle.gate_slot.specs.Slot.{room};
 ghost use Rattle.gate_slot.specs.Token.{slot_of_live, torn_port};
-ghost use Rattle.twin_image.specs.Twin.{IsOfTwin, IsTwin, Renews, StepLeaves, renew_ops};
+ghost use Rattle.twin_image.specs.Order.{IsRenewal};
+ghost use Rattle.twin_image.specs.Twin.{IsOfTwin, IsTwin, Renews, StepLeaves};
 ghost use Rattle.twin_image.specs.Pair.{AreOf};
 
 use crate::turn::turn;
@@ -45,8 +47,8 @@ pub fn renew<M: Machine, const SIZE: usize>(
 
     ensures ran { Runs (Renews (M.told m.old) (slot_of_live first.entry).dev SIZE old.now new.now)
         (M.told m.old) (M.told m.new) }
-    ensures exact { OnOk result (ForSome (M.told m.old).flashes
-        (λ start. Does (renew_ops SIZE (slot_of_live first.entry).dev new.now) (M.told m.old) (M.told m.new))) }
+    ensures order { ForSome (M.told m.old).flashes (λ start.
+        RunsUpTo result (IsRenewal SIZE (slot_of_live first.entry).dev old.now new.now) (M.told m.old) (M.told m.new)) }
     ensures rest { KeepsRest (slot_of_live first.entry).dev (IsOfTwin SIZE) (M.told m.old) (M.told m.new) }
     ensures fails { FailsAt torn_port result (M.told m.old) (M.told m.new) }
 {

@@ -1,7 +1,8 @@
 use Rattle.std.proofs.Common.{◌<◌, ◌≤◌, inl, inr, sym, subst, arith, rules}
 use Rattle.urna_outside.specs.Told.{Sizes, size_of}
 use Rattle.urna_outside.proofs.Faults.{ends_later}
-use Rattle.gate_slot.specs.Slot.{room}
+use Rattle.gate_slot.specs.Slot.{room, fill_ops}
+use Rattle.gate_slot.proofs.Fronts.{fronts_first, fronts_later}
 use Rattle.gate_slot.proofs.Written.{body_bounded}
 use Rattle.twin_image.specs.Lay.{IsOfBodies}
 use Rattle.twin_image.proofs.Renewing.{twin_bounded}
@@ -60,3 +61,14 @@ returns-clause-exact g c =
     let first = rw c.requires.slots.first_is at c.in_ok-first.ensures.exact in
     let second = rw c.requires.slots.second_is at c.in_ok-second.ensures.exact in
     does-append _ _ _ _ _ first second
+
+pub returns-in_err-first-clause-cut : goal.returns-in_err-first-clause-cut
+returns-in_err-first-clause-cut g c =
+    let cut = rw c.requires.slots.first_is at c.in_err-first.ensures.cut in
+    let front = fronts_first _ (fill_ops g.row.SIZE c.args.dev 1 c.args.body.now) _ _ cut in search rules
+
+pub returns-in_err-second-clause-cut : goal.returns-in_err-second-clause-cut
+returns-in_err-second-clause-cut g c =
+    let first = rw c.requires.slots.first_is at c.in_ok-first.ensures.exact in
+    let cut = rw c.requires.slots.second_is at c.in_err-second.ensures.cut in
+    let front = fronts_later _ _ _ _ _ first cut in search rules

@@ -1,6 +1,9 @@
-use Rattle.std.proofs.Common.{◌≤◌, sym, ◌∙◌, subst, arith}
+use Rattle.std.proofs.Common.{◌≤◌, ◌∷◌, ◌++◌, sym, ◌∙◌, subst, arith}
+use Rattle.urna_outside.specs.Flash.{Put, Sync}
 use Rattle.urna_outside.specs.Told.{Sizes, size_of}
-use Rattle.gate_slot.specs.Slot.{room}
+use Rattle.gate_slot.specs.Slot.{room, body_place, fill_ops, publish_ops}
+use Rattle.gate_slot.proofs.Fronts.{fronts_first, fronts_later}
+use Rattle.twin_image.specs.Lay.{frame_ops}
 use Rattle.twin_image.proofs.Laying.{laid_shut, laid_fill, laid_frame, laid, filled_twins, body_framed, twins_laid, frame_laid}
 use Rattle.twin_image.proofs.lay.lay_on.Goals as goal
 use Rattle.urna_outside.proofs.Doing.{does-append}
@@ -63,3 +66,29 @@ returns-in-Err-clause-ran g c =
 pub returns-in-Ok-publish_both-clause-exact : goal.returns-in-Ok-publish_both-clause-exact
 returns-in-Ok-publish_both-clause-exact g c = λ fs told.
     does-append _ _ _ _ _ (does-append _ _ _ _ _ (does-append _ _ _ _ _ (c.in-Ok.ensures.exact fs told) c.in-Ok-fill_both.ensures.exact) c.in-Ok-write_frame.ensures.exact) c.in-Ok-publish_both.ensures.exact
+
+pub returns-in_default-clause-cut : goal.returns-in_default-clause-cut
+returns-in_default-clause-cut g c = λ fs told.
+    let d = c.args.dev in
+    let size = g.row.SIZE in
+    let body = c.args.body.now in
+    let cut = c.in_default.ensures.cut fs told (Put d (body_place size 0) body) (Sync d ∷ fill_ops size d 1 body) in
+    fronts_first _ (publish_ops size d 0 ++ publish_ops size d 1) _ _ (fronts_first _ (frame_ops size d c.args.header.now) _ _ cut)
+
+pub returns-in_default-fill_both-clause-cut : goal.returns-in_default-fill_both-clause-cut
+returns-in_default-fill_both-clause-cut g c = λ fs told.
+    let d = c.args.dev in
+    let size = g.row.SIZE in
+    let cut = fronts_later _ _ _ _ _ (c.in-Ok.ensures.exact fs told) c.in_default-fill_both.ensures.cut in
+    fronts_first _ (publish_ops size d 0 ++ publish_ops size d 1) _ _ (fronts_first _ (frame_ops size d c.args.header.now) _ _ cut)
+
+pub returns-in_default-write_frame-clause-cut : goal.returns-in_default-write_frame-clause-cut
+returns-in_default-write_frame-clause-cut g c = λ fs told.
+    let d = c.args.dev in
+    let size = g.row.SIZE in
+    let cut = fronts_later _ _ _ _ _ (does-append _ _ _ _ _ (c.in-Ok.ensures.exact fs told) c.in-Ok-fill_both.ensures.exact) c.in_default-write_frame.ensures.cut in
+    fronts_first _ (publish_ops size d 0 ++ publish_ops size d 1) _ _ cut
+
+pub returns-in-Err-clause-cut : goal.returns-in-Err-clause-cut
+returns-in-Err-clause-cut g c = λ fs told.
+    fronts_later _ _ _ _ _ (does-append _ _ _ _ _ (does-append _ _ _ _ _ (c.in-Ok.ensures.exact fs told) c.in-Ok-fill_both.ensures.exact) c.in-Ok-write_frame.ensures.exact) c.in-Err.ensures.cut

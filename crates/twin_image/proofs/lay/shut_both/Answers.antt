@@ -4,7 +4,7 @@ use Rattle.urna_outside.proofs.Faults.{ends_later}
 use Rattle.gate_slot.specs.Slot.{room}
 use Rattle.gate_slot.proofs.Written.{gate_bounded}
 use Rattle.twin_image.proofs.Turning.{shut_only, shutting_does}
-use Rattle.twin_image.proofs.Laying.{shut_first_early, shut_second_early, early_more, early_stages, first_shut_kept, one_write_keeps, shuts_both}
+use Rattle.twin_image.proofs.Laying.{shut_first_early, shut_second_early, early_more, early_stages, first_shut_kept, one_write_keeps, shuts_both, shuts_cut_first, shuts_cut_second}
 use Rattle.twin_image.proofs.lay.shut_both.Goals as goal
 
 pub returns-in_err-first-clause-ran : goal.returns-in_err-first-clause-ran
@@ -61,3 +61,13 @@ returns-clause-exact g c =
     let first = shutting_does d g.row.SIZE 0 _ _ c.in_ok-first.ensures.exact c.shut.ensures.idle in
     let second = shutting_does d g.row.SIZE 1 _ _ c.in_ok-second.ensures.exact c.shut-2.ensures.idle in
     shuts_both d g.row.SIZE _ _ _ c.shut.ensures.rest first second
+
+pub returns-in_err-first-clause-cut : goal.returns-in_err-first-clause-cut
+returns-in_err-first-clause-cut g c =
+    let front = shuts_cut_first c.args.dev g.row.SIZE _ _ c.in_err-first.ensures.cut c.shut.ensures.idle in search rules
+
+pub returns-in_err-second-clause-cut : goal.returns-in_err-second-clause-cut
+returns-in_err-second-clause-cut g c =
+    let d = c.args.dev in
+    let first = shutting_does d g.row.SIZE 0 _ _ c.in_ok-first.ensures.exact c.shut.ensures.idle in
+    let front = shuts_cut_second d g.row.SIZE _ _ _ c.shut.ensures.rest first c.in_err-second.ensures.cut c.shut-2.ensures.idle in search rules

@@ -1,9 +1,15 @@
 use Rattle.std.proofs.Common.{rules}
 use Rattle.urna_outside.proofs.Faults.{fails_later, ends_later, faultless_trans}
-use Rattle.std.proofs.lemmas.Result.{on_ok_weaker}
+use Rattle.std.proofs.lemmas.Result.{on_err_weaker, on_ok_weaker}
 use Rattle.urna_outside.proofs.Doing.{does-append}
+use Rattle.urna_outside.specs.Told.{Runs}
+use Rattle.gate_slot.specs.Device.{OnFlash}
+use Rattle.gate_slot.specs.Front.{IsFrontOf}
+use Rattle.gate_slot.specs.Slot.{publish_ops}
+use Rattle.twin_image.specs.Twin.{turning_ops}
+use Rattle.gate_slot.proofs.Fronts.{fronts_first, fronts_later}
 use Rattle.gate_slot.proofs.Written.{body_stays_there}
-use Rattle.twin_image.proofs.Turning.{shut_stage, turned_shut, turned_fill, turned, shutting_leaves, shutting_does}
+use Rattle.twin_image.proofs.Turning.{shut_stage, turned_shut, turned_fill, turned, shutting_leaves, shutting_does, turning_cut}
 use Rattle.twin_image.proofs.turn.turn.Goals as goal
 
 pub returns-in_err-shut-clause-torn : goal.returns-in_err-shut-clause-torn
@@ -54,3 +60,24 @@ returns-clause-exact g c =
     let shut = shutting_does c.args.slot.dev g.row.SIZE c.args.slot.index _ _ c.in_ok-shut.ensures.exact c.shut.ensures.idle in
     on_ok_weaker c.publish.result (λ does fs told.
     does-append _ _ _ _ _ (does-append _ _ _ _ _ (shut fs told) fill) does) publish
+
+pub returns-in_err-shut-clause-cut : goal.returns-in_err-shut-clause-cut
+returns-in_err-shut-clause-cut g c =
+    let front = turning_cut c.args.slot.dev g.row.SIZE c.args.slot.index c.args.new.now _ _ c.in_err-shut.ensures.cut c.shut.ensures.idle in search rules
+
+pub returns-in_err-filled-clause-cut : goal.returns-in_err-filled-clause-cut
+returns-in_err-filled-clause-cut g c =
+    let fill = rw c.in_ok-shut.ensures.slot at c.in_err-filled.ensures.cut in
+    let shut = shutting_does c.args.slot.dev g.row.SIZE c.args.slot.index _ _ c.in_ok-shut.ensures.exact c.shut.ensures.idle in
+    let d = c.args.slot.dev in
+    let front : OnFlash d (λ f. Runs (IsFrontOf (turning_ops g.row.SIZE d c.args.slot.index c.args.new.now f.content)) (g.M.Machine.told c.args.m.now) (g.M.Machine.told c.fill.new.m)) (g.M.Machine.told c.args.m.now) =
+    λ fs told. fronts_first _ (publish_ops g.row.SIZE d c.args.slot.index) _ _ (fronts_later _ _ _ _ _ (shut fs told) fill) in
+    search rules
+
+pub returns-clause-cut : goal.returns-clause-cut
+returns-clause-cut g c =
+    let fill = rw c.in_ok-shut.ensures.slot at c.in_ok-filled.ensures.exact in
+    let publish = rw (c.in_ok-filled.ensures.slot, c.in_ok-shut.ensures.slot) at c.publish.ensures.cut in
+    let shut = shutting_does c.args.slot.dev g.row.SIZE c.args.slot.index _ _ c.in_ok-shut.ensures.exact c.shut.ensures.idle in
+    on_err_weaker c.publish.result (λ front fs told.
+    fronts_later _ _ _ _ _ (does-append _ _ _ _ _ (shut fs told) fill) front) publish

@@ -3,7 +3,8 @@ use Rattle.urna_outside.specs.Told.{Sizes, size_of}
 use Rattle.urna_outside.proofs.Faults.{ends_later}
 use Rattle.gate_slot.specs.Slot.{room}
 use Rattle.gate_slot.specs.Token.{slot_of_live}
-use Rattle.twin_image.proofs.Renewing.{first_stage, second_stage, second_live, first_live, renewed_first, renewed, stage_rest, twin_bounded, leaves_at, both_turns}
+use Rattle.twin_image.proofs.Ordering.{first_cut, second_cut, renewal_done}
+use Rattle.twin_image.proofs.Renewing.{first_stage, second_stage, second_live, first_live, renewed_first, renewed, stage_rest, twin_bounded, leaves_at}
 use Rattle.twin_image.proofs.twins.renew.Goals as goal
 
 pub returns-in_err-first_new-clause-ran : goal.returns-in_err-first_new-clause-ran
@@ -61,15 +62,31 @@ returns-clause-twin g c =
     let still = first_live d g.row.SIZE c.args.old.now c.args.new.now r.old r.new _ _ fits (g.met.M.Machine.sized c.turn.new.m) live second_ran in
     λ fs told. record { first = still fs told; second = last fs told }
 
-pub returns-clause-exact : goal.returns-clause-exact
-returns-clause-exact g c =
+pub returns-in_err-first_new-clause-order : goal.returns-in_err-first_new-clause-order
+returns-in_err-first_new-clause-order g c =
+    let r = c.requires in
+    let cut = rw (c.slot.ensures, r.pair.first_index) at c.in_err-first_new.ensures.cut in
+    let front = first_cut (slot_of_live c.args.first).dev g.row.SIZE c.args.old.now c.args.new.now _ _ (λ fs told. (r.twin fs told).first) cut in search rules
+
+pub returns-in_err-second_new-clause-order : goal.returns-in_err-second_new-clause-order
+returns-in_err-second_new-clause-order g c =
     let r = c.requires in
     let d = (slot_of_live c.args.first).dev in
     let first_ran = rw (c.slot.ensures, r.pair.first_index) at c.turn.ensures.ran in
     let other = second_live d g.row.SIZE c.args.old.now c.args.new.now r.old r.new _ _ r.room (g.met.M.Machine.sized c.args.m.now) r.twin first_ran in
-    let turns_first = rw (c.slot.ensures, r.pair.first_index) at c.in_ok-first_new.ensures.exact in
-    let turns_second = rw (c.slot-2.ensures, r.pair.second_dev, r.pair.second_index) at c.in_ok-second_new.ensures.exact in
-    both_turns d g.row.SIZE c.args.old.now c.args.old.now c.args.new.now _ _ _ (λ fs told. (r.twin fs told).first) other turns_first turns_second
+    let first = rw (c.slot.ensures, r.pair.first_index) at c.in_ok-first_new.ensures.exact in
+    let cut = rw (c.slot-2.ensures, r.pair.second_dev, r.pair.second_index) at c.in_err-second_new.ensures.cut in
+    let front = second_cut d g.row.SIZE c.args.old.now c.args.new.now _ _ (λ fs told. (r.twin fs told).first) _ other first cut in search rules
+
+pub returns-clause-order : goal.returns-clause-order
+returns-clause-order g c =
+    let r = c.requires in
+    let d = (slot_of_live c.args.first).dev in
+    let first_ran = rw (c.slot.ensures, r.pair.first_index) at c.turn.ensures.ran in
+    let other = second_live d g.row.SIZE c.args.old.now c.args.new.now r.old r.new _ _ r.room (g.met.M.Machine.sized c.args.m.now) r.twin first_ran in
+    let first = rw (c.slot.ensures, r.pair.first_index) at c.in_ok-first_new.ensures.exact in
+    let second = rw (c.slot-2.ensures, r.pair.second_dev, r.pair.second_index) at c.in_ok-second_new.ensures.exact in
+    renewal_done d g.row.SIZE c.args.old.now c.args.new.now _ _ (λ fs told. (r.twin fs told).first) _ other first second
 
 pub returns-clause-ran : goal.returns-clause-ran
 returns-clause-ran g c =

@@ -1,6 +1,7 @@
 use Rattle.std.proofs.Common.{◌+◌, ◌≤◌, [], ◌∷◌, ℕ, subst, ap, arith}
 use Rattle.urna_outside.specs.Flash.{flash_of, Stably}
 use Rattle.urna_outside.specs.Told.{size_of}
+use Rattle.gate_slot.proofs.Fronts.{fronts_none}
 use Rattle.gate_slot.proofs.Written.{written, gate_fits, gate_bounded, runs_later, same_write, one_write_keeps, shut_as_read}
 use Rattle.gate_slot.proofs.slot.Slot.shut.Goals as goal
 
@@ -41,3 +42,6 @@ returns-in-Err-clause-ran g c =
 pub returns-in-Err-clause-rest : goal.returns-in-Err-clause-rest
 returns-in-Err-clause-rest g c =
     one_write_keeps _ _ _ _ (g.met.M.Machine.sized c.args.m.now) (gate_bounded _ _ _ c.requires.index c.requires.room) (returns-in-Err-clause-ran g c)
+
+pub returns-in_default-clause-cut : goal.returns-in_default-clause-cut
+returns-in_default-clause-cut g c = fronts_none _ _ _ _ c.read_gate.ensures.done

@@ -6,7 +6,8 @@ use Rattle.gate_slot.specs.Slot.{room}
 use Rattle.twin_image.specs.Level.{IsLevel, body_of}
 use Rattle.twin_image.specs.Slots.{HaveRoom}
 use Rattle.twin_image.specs.Twin.{IsTwin}
-use Rattle.twin_image.proofs.Committing.{external_stays, committed_internal, committed, level_at, both_renewed}
+use Rattle.twin_image.proofs.Committing.{external_stays, committed_internal, committed, level_at}
+use Rattle.twin_image.proofs.Ordering.{internal_cut, external_cut, renewals_done}
 use Rattle.twin_image.proofs.level.Level.commit.Goals as goal
 
 pub renew_on-requires : goal.renew_on-requires
@@ -68,5 +69,19 @@ returns-clause-ran g c =
     let run_2 = rw c.deref-2.ensures.value at c.renew_on-2.ensures.ran in
     committed (g.R.Ranked.rank c.args.ranks.now) g.row.SIZE (body_of c.args.self) c.args.next.now s.long c.requires.next c.requires.rank _ _ _ s.fits (g.met.M.Machine.sized c.args.m.now) (g.met.M.Machine.sized c.renew_on.new.m) s.flashes run c.in_ok-internal.ensures.twin run_2
 
-pub returns-clause-exact : goal.returns-clause-exact
-returns-clause-exact g c = both_renewed g.row.SIZE c.args.next.now _ _ _ c.in_ok-internal.ensures.exact c.in_ok-external.ensures.exact
+pub returns-in_err-internal-clause-order : goal.returns-in_err-internal-clause-order
+returns-in_err-internal-clause-order g c =
+    let cut = rw c.deref.ensures.value at c.in_err-internal.ensures.order in
+    let front = internal_cut g.row.SIZE (body_of c.args.self) c.args.next.now _ _ cut in search rules
+
+pub returns-in_err-external-clause-order : goal.returns-in_err-external-clause-order
+returns-in_err-external-clause-order g c =
+    let first = rw c.deref.ensures.value at c.in_ok-internal.ensures.order in
+    let cut = rw c.deref-2.ensures.value at c.in_err-external.ensures.order in
+    let front = external_cut g.row.SIZE (body_of c.args.self) c.args.next.now _ _ _ first cut in search rules
+
+pub returns-clause-order : goal.returns-clause-order
+returns-clause-order g c =
+    let first = rw c.deref.ensures.value at c.in_ok-internal.ensures.order in
+    let second = rw c.deref-2.ensures.value at c.in_ok-external.ensures.order in
+    renewals_done g.row.SIZE (body_of c.args.self) c.args.next.now _ _ _ first second

@@ -1,18 +1,21 @@
 use Rattle.std.proofs.Common.{◌≡◌, ◌≤◌, ℕ, List, length, sym, ap, ◌∙◌, subst, arith, rules}
 use Rattle.urna_outside.specs.Flash.{IsClean, flash_of}
-use Rattle.urna_outside.specs.Told.{Sizes, size_of}
+use Rattle.std.specs.Option.{ForSome}
+use Rattle.urna_outside.specs.Told.{Runs, Sizes, size_of}
 use Rattle.urna_outside.specs.declared.device.Dev.{Dev}
 use Rattle.urna_outside.specs.declared.device.Dev.TheVariants.{Internal, External}
 use Rattle.urna_outside.proofs.Faults.{ends_later}
 use Rattle.gate_slot.specs.Slot.{room}
+use Rattle.gate_slot.specs.Front.{IsFrontOf}
+use Rattle.gate_slot.proofs.Fronts.{fronts_first}
 use Rattle.twin_image.specs.Frame.{FrameStands, device_image}
-use Rattle.twin_image.specs.Lay.{header_for}
+use Rattle.twin_image.specs.Lay.{header_for, lay_ops, load_ops}
 use Rattle.twin_image.specs.Level.{IsLevel}
 use Rattle.twin_image.specs.Slots.{HaveRoom}
 use Rattle.twin_image.specs.Twin.{IsTwin}
 use Rattle.twin_image.proofs.Committing.{internal_differs, external_differs, level_of}
 use Rattle.twin_image.proofs.Framing.{on_both}
-use Rattle.twin_image.proofs.Loading.{other_kept, loaded_content, loads_internal, loads, loads_all}
+use Rattle.twin_image.proofs.Loading.{other_kept, loaded_content, loads_internal, loads, loads_all, loads_cut}
 use Rattle.twin_image.proofs.twin.Twin.lay.Goals as goal
 
 pub lay_on-requires : goal.lay_on-requires
@@ -85,3 +88,16 @@ returns-clause-exact g c =
     let r = c.requires in
     let fits : HaveRoom g.row.SIZE (g.M.Machine.told c.args.m.now).sizes = λ d. omega (arith, r.full d) in
     loads_all g.row.SIZE c.args.internal.now c.args.external.now c.args.body.now r.internal r.external r.body _ _ _ fits (g.met.M.Machine.sized c.args.m.now) c.lay_on.ensures.ran c.in_ok-internal.ensures.exact c.in_ok-external.ensures.exact
+
+pub returns-in_err-internal-clause-cut : goal.returns-in_err-internal-clause-cut
+returns-in_err-internal-clause-cut g c =
+    let a = g.M.Machine.told c.args.m.now in
+    let front : ForSome a.flashes (λ start. Runs (IsFrontOf (load_ops g.row.SIZE c.args.internal.now c.args.external.now c.args.body.now start)) a (g.M.Machine.told c.lay_on.new.m)) =
+    λ fs told. fronts_first _ (lay_ops g.row.SIZE External c.args.external.now c.args.body.now fs.external.content) _ _ (c.in_err-internal.ensures.cut fs told) in
+    search rules
+
+pub returns-in_err-external-clause-cut : goal.returns-in_err-external-clause-cut
+returns-in_err-external-clause-cut g c =
+    let r = c.requires in
+    let fits : HaveRoom g.row.SIZE (g.M.Machine.told c.args.m.now).sizes = λ d. omega (arith, r.full d) in
+    let front = loads_cut g.row.SIZE c.args.internal.now c.args.external.now c.args.body.now r.internal r.external r.body _ _ _ fits (g.met.M.Machine.sized c.args.m.now) c.lay_on.ensures.ran c.in_ok-internal.ensures.exact c.in_err-external.ensures.cut in search rules
