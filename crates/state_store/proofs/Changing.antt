@@ -123,6 +123,11 @@ module _ (t tables : TablesData) (voters count : ℕ) (s u : State) (old new : L
       (subst (λ (body : List ℕ). Outranks (rank_in tables count) body (encode s)) (sym is.new_state.same)
       (subst (λ (rank : List ℕ → Option ℕ). Outranks rank (encode u) (encode s)) same_rank (outranks t voters s u old_known new_known below)))
 
+  -- what is so of the bytes is so of the encodings
+  pub followed_as : (F : List ℕ → List ℕ → Type 0) → F old new → F (encode s) (encode u)
+  followed_as F was =
+      subst (λ (body : List ℕ). F body (encode u)) is.old_state.same (subst (F old) is.new_state.same was)
+
   -- flashes at rest with the first state stand for its bytes
   pub followed_stands : (level : Level body_size) (told : Told) (load : Load) → HasTokens level → AreDevices told.sizes → ForSome told.flashes (AreSized told.sizes) → body_of level ≡ old → ForSome told.flashes (AreAtRest load s) → Stands told level
   followed_stands level told load tokens devices sized holds rest =

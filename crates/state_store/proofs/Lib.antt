@@ -6,6 +6,7 @@ pub mod Counting
 pub mod Holding
 pub mod Resting
 pub mod ShowStops
+pub mod Ordering
 pub mod Playing
 pub mod Stored
 pub mod Empty

@@ -109,7 +109,7 @@ IsBusy External flashes = (¬ IsInUse flashes.internal.content) × IsInUse flash
 abbrev pub AreFree : Flashes → Type 0
 AreFree flashes = (d : Dev) → ¬ IsInUse (flash_of d flashes).content
 
--- What loading does behind the two syncs: writes and few syncs. Neither device was in use, and at no stop one is.
+-- What loading does behind the two syncs: writes and few syncs. Neither device was in use, and at no stop behind the syncs one is.
 pub record Loads (told : Told) (ops : List Op) : Type 0 where
   pub within : AreIn (λ d k. k < device_size) ops
   pub syncs : count_syncs ops ≤ 14

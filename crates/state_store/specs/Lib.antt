@@ -5,6 +5,7 @@ pub mod Looking
 pub mod Finding
 pub mod Store
 pub mod Calls
+pub mod Order
 pub mod Steps
 pub mod Played
 pub mod Laws

@@ -2,7 +2,8 @@
 //!
 //! `Store::format` loads both flashes with a poll before it begins, `Store::recover` finds the poll that they hold after
 //! any power cut, and `Store::commit` brings both to a state of greater rank. `specs/Held.antt` says what flashes hold,
-//! `specs/Rest.antt` when they are at rest or in use, `specs/Calls.antt` what the calls do, also where the power goes.
+//! `specs/Rest.antt` when they are at rest or in use, `specs/Calls.antt` what the calls do, also where the power goes,
+//! `specs/Order.antt` in which order.
 #![tactic(auto)]
 
 mod find;

@@ -4,11 +4,13 @@ ghost use Rattle.std.specs.Option.{ForSome};
 ghost use Rattle.urna_outside.specs.Faults.{FailsAt, IsFaultless};
 ghost use Rattle.urna_outside.specs.Flash.{Op};
 ghost use Rattle.urna_outside.specs.Told.{Runs, port_of};
+ghost use Rattle.gate_slot.specs.Front.{RunsUpTo};
 ghost use Rattle.image_codec.specs.Encoding.{IsEncoding, IsStateOf, encode};
 ghost use Rattle.image_codec.specs.State.{State};
 ghost use Rattle.image_codec.specs.Valid.{ready_state};
 ghost use Rattle.state_store.specs.Calls.{Commits, FailsToLoad, FailsToRecover, IsRecovery, Loads, Recovers, both_synced};
 ghost use Rattle.state_store.specs.Load.{IsSectionOf, load_of};
+ghost use Rattle.state_store.specs.Order.{IsCommit, IsLoad};
 ghost use Rattle.state_store.specs.Rest.{AreAtRest};
 ghost use Rattle.state_store.specs.Store.{AreDevices, IsBelow, IsLoadedWith, Keeps};
 
@@ -73,7 +75,8 @@ impl Model for Store {
 impl Store {
     /// Loads both flashes with the poll of a section before it begins: headers, zeros behind the gates, open gates and the
     /// ready state in all four slots. It takes its memory, syncs both devices and tests whether one is in use, Internal
-    /// first, before it writes. No device is in use at any stop behind the syncs.
+    /// first, before it writes. No device is in use at any stop behind the syncs. The order of all that is done is that of
+    /// `IsLoad`, up to a fault a front of it.
     ///
     /// The caller owes that both devices have the size of a flash, and that the section is one of the tables with as many
     /// voters as the roll. `Memory` comes where an allocation failed, before any call of the machine; `Busy` where that
@@ -90,6 +93,8 @@ impl Store {
         ensures store { IfOk result (λ store. store.load ≡ load_of tables.now roll.now section) }
         ensures kept { IfOk result (λ store. Keeps tables.now (M.told m.new) store (ready_state tables.now (length roll.now.titles))) }
         ensures ran { OnOk result (Runs (λ ops. (rest : List Op) × (ops ≡ both_synced ++ rest) × Loads (M.told m.old) rest) (M.told m.old) (M.told m.new)) }
+        ensures order { ForSome (M.told m.old).flashes (λ start. RunsUpTo result
+            (IsLoad (load_of tables.now roll.now section) (ready_state tables.now (length roll.now.titles)) start) (M.told m.old) (M.told m.new)) }
         ensures fine { OnOk result (IsFaultless (M.told m.old) (M.told m.new)) }
         ensures fails { IfErr result (FailsToLoad (M.told m.old) (M.told m.new)) }
     {
@@ -162,7 +167,8 @@ impl Store {
     }
 
     /// Brings both flashes to a state of greater rank. At each stop both flashes, and each alone, hold the old state or the
-    /// new one; no frame is written. It takes no memory.
+    /// new one; no frame is written. The slots have their turns in the order of `IsCommit`, up to a fault a front of it. It
+    /// takes no memory.
     ///
     /// The caller owes that the flashes are at rest with the store's state, and that the new state is one of the same poll
     /// and of greater rank. A device is answered only where its count of faults rose; the store is then gone, and a
@@ -175,6 +181,8 @@ impl Store {
         ensures kept { IfOk result (λ store. Keeps tables.now (M.told m.new) store state.now) }
         ensures ran { (s : State) → Keeps tables.now (M.told m.old) self s
             → Runs (Commits tables.now self.load.section.voters s state.now (M.told m.old)) (M.told m.old) (M.told m.new) }
+        ensures order { (s : State) → Keeps tables.now (M.told m.old) self s → ForSome (M.told m.old).flashes
+            (λ start. RunsUpTo result (IsCommit s state.now) (M.told m.old) (M.told m.new)) }
         ensures fails { FailsAt port_of result (M.told m.old) (M.told m.new) }
     {
         let Store {

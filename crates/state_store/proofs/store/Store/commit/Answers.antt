@@ -1,11 +1,15 @@
 use Rattle.std.proofs.Common.{◌≡◌, ℕ, List, length, drop, refl, sym, ap, subst, ◌∙◌, arith, rules}
+use Rattle.std.specs.Option.{ForSome}
+use Rattle.urna_outside.specs.Told.{Runs}
+use Rattle.gate_slot.specs.Front.{IsCutOff}
+use Rattle.twin_image.specs.Order.{AreRenewals}
 use Rattle.image_codec.specs.Encoding.{encode}
 use Rattle.twin_image.specs.Level.{IsLevel, body_of}
 use Rattle.twin_image.proofs.Looking.{refilled}
 use Rattle.state_store.specs.Rest.{body_size}
 use Rattle.state_store.specs.Store.{Keeps, StoreData}
 use Rattle.state_store.specs.declared.load.Load.{Load}
-use Rattle.state_store.proofs.Changing.{followed_by, followed_commits, followed_fills, followed_outranks, followed_rests, followed_stands}
+use Rattle.state_store.proofs.Changing.{followed_as, followed_by, followed_commits, followed_fills, followed_outranks, followed_rests, followed_stands}
 use Rattle.state_store.proofs.store.Store.commit.Goals as goal
 
 pub commit-requires : goal.commit-requires
@@ -81,3 +85,36 @@ returns-clause-ran g c s kept =
     let written : new ≡ encode u = c.deref.ensures.value ∙ refilled c.self.inside.next.len into (drop (length into) c.self.inside.next.items) long ∙ c.encode_into.ensures in
     let is = followed_by t tables _ c.args.self count s u old new c.of-ranks.ensures.whole c.of-ranks.result.few c.of-ranks.ensures.tables (c.of-ranks.ensures.voters ∙ c.voters.ensures.count ∙ ap length c.turnout.ensures) c.requires.state written kept (ap (λ (d : StoreData). d.body) c.self.view_is) in
     followed_commits t tables c.args.self.load.section.voters count s u old new is _ _ c.commit.ensures.ran
+
+pub returns-in_err-level-clause-order : goal.returns-in_err-level-clause-order
+returns-in_err-level-clause-order g c s kept =
+    let t = c.args.tables.now in
+    let tables = c.of-ranks.result.tables.now in
+    let count = c.of-ranks.result.voters in
+    let u = c.args.state.now in
+    let old = body_of c.self.inside.level in
+    let new = c.deref.result.now in
+    let into = c.encode_into.new.into in
+    let long : c.self.inside.next.len ≡ length into = search rules in
+    let written : new ≡ encode u = c.deref.ensures.value ∙ refilled c.self.inside.next.len into (drop (length into) c.self.inside.next.items) long ∙ c.encode_into.ensures in
+    let is = followed_by t tables _ c.args.self count s u old new c.of-ranks.ensures.whole c.of-ranks.result.few c.of-ranks.ensures.tables (c.of-ranks.ensures.voters ∙ c.voters.ensures.count ∙ ap length c.turnout.ensures) c.requires.state written kept (ap (λ (d : StoreData). d.body) c.self.view_is) in
+    let a = g.M.Machine.told c.args.m.now in
+    let b = g.M.Machine.told c.commit.new.m in
+    let cut = followed_as t tables c.args.self.load.section.voters count s u old new is (λ old new. ForSome a.flashes (λ start. Runs (IsCutOff (AreRenewals body_size old new)) a b)) c.in_err-level.ensures.order in
+    search rules
+
+pub returns-clause-order : goal.returns-clause-order
+returns-clause-order g c s kept =
+    let t = c.args.tables.now in
+    let tables = c.of-ranks.result.tables.now in
+    let count = c.of-ranks.result.voters in
+    let u = c.args.state.now in
+    let old = body_of c.self.inside.level in
+    let new = c.deref.result.now in
+    let into = c.encode_into.new.into in
+    let long : c.self.inside.next.len ≡ length into = search rules in
+    let written : new ≡ encode u = c.deref.ensures.value ∙ refilled c.self.inside.next.len into (drop (length into) c.self.inside.next.items) long ∙ c.encode_into.ensures in
+    let is = followed_by t tables _ c.args.self count s u old new c.of-ranks.ensures.whole c.of-ranks.result.few c.of-ranks.ensures.tables (c.of-ranks.ensures.voters ∙ c.voters.ensures.count ∙ ap length c.turnout.ensures) c.requires.state written kept (ap (λ (d : StoreData). d.body) c.self.view_is) in
+    let a = g.M.Machine.told c.args.m.now in
+    let b = g.M.Machine.told c.commit.new.m in
+    followed_as t tables c.args.self.load.section.voters count s u old new is (λ old new. ForSome a.flashes (λ start. Runs (AreRenewals body_size old new) a b)) c.in_ok-level.ensures.order

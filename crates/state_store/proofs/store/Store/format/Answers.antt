@@ -1,5 +1,6 @@
 use Rattle.std.proofs.Common.{◌≡◌, ℕ, List, [], length, drop, get_or, sym, ap, subst, ◌∙◌, arith, rules}
-use Rattle.urna_outside.proofs.Doing.{then_told}
+use Rattle.urna_outside.specs.declared.device.Dev.TheVariants.{Internal, External}
+use Rattle.urna_outside.proofs.Doing.{does_nothing, then_told}
 use Rattle.urna_outside.proofs.Faults.{faultless_trans}
 use Rattle.image_codec.specs.Encoding.{IsStateOf, encode}
 use Rattle.image_codec.specs.State.{State}
@@ -7,11 +8,13 @@ use Rattle.image_codec.specs.Valid.{ready_state}
 use Rattle.twin_image.specs.Level.{IsLevel}
 use Rattle.twin_image.specs.Slots.{AreClean}
 use Rattle.twin_image.proofs.Looking.{refilled}
+use Rattle.state_store.specs.Load.{header, load_of}
 use Rattle.state_store.specs.Rest.{body_size}
 use Rattle.state_store.specs.Store.{AreDevices}
 use Rattle.state_store.specs.declared.load.Load.{Load}
 use Rattle.state_store.proofs.Formatting.{fails_laying, fails_testing, laid_rests, loaded}
 use Rattle.image_codec.proofs.OfTables.{of_tables-ready_state}
+use Rattle.state_store.proofs.Ordering.{load_cut, load_done, load_not_begun, load_not_tested, load_syncing}
 use Rattle.state_store.proofs.Ready.{ready_named, ready_unused}
 use Rattle.state_store.proofs.Recovering.{clean_after}
 use Rattle.state_store.proofs.store.Store.format.Goals as goal
@@ -81,3 +84,62 @@ returns-clause-fails g c =
     let tested = c.in_ok-test_free.ensures in
     fails_laying c.header-internal.result c.header-external.result body fresh (g.M.Machine.told c.args.m.now) (g.M.Machine.told c.sync_both.new.m) (g.M.Machine.told c.test_free.new.m) (g.M.Machine.told c.lay.new.m)
     synced.does c.test_free.ensures.done tested.free c.lay.ensures.ran c.in-Err-lay.dev (faultless_trans _ _ _ synced.fine tested.fine) c.in-Err-lay.ensures.fails
+
+pub returns-in_default-clause-order : goal.returns-in_default-clause-order
+returns-in_default-clause-order g c =
+    let t = c.args.tables.now in
+    let load = load_of t c.args.roll.now c.args.section in
+    let ready = ready_state t (length c.args.roll.now.titles) in
+    let a = g.M.Machine.told c.args.m.now in
+    load_not_begun load ready a a (does_nothing a)
+
+pub returns-in-Err-clause-order : goal.returns-in-Err-clause-order
+returns-in-Err-clause-order g c =
+    let t = c.args.tables.now in
+    let load = load_of t c.args.roll.now c.args.section in
+    let ready = ready_state t (length c.args.roll.now.titles) in
+    let a = g.M.Machine.told c.args.m.now in
+    load_syncing load ready a (g.M.Machine.told c.sync_both.new.m) c.in-Err.ensures.ran
+
+pub returns-in_err-test_free-clause-order : goal.returns-in_err-test_free-clause-order
+returns-in_err-test_free-clause-order g c =
+    let t = c.args.tables.now in
+    let load = load_of t c.args.roll.now c.args.section in
+    let ready = ready_state t (length c.args.roll.now.titles) in
+    let a = g.M.Machine.told c.args.m.now in
+    let cut = load_not_tested load ready a (g.M.Machine.told c.sync_both.new.m) (g.M.Machine.told c.test_free.new.m) c.in_default-sync_both.ensures.synced.does c.test_free.ensures.done in
+    search rules
+
+pub returns-in-Ok-lay-clause-order : goal.returns-in-Ok-lay-clause-order
+returns-in-Ok-lay-clause-order g c =
+    let t = c.args.tables.now in
+    let load = load_of t c.args.roll.now c.args.section in
+    let ready = ready_state t (length c.args.roll.now.titles) in
+    let a = g.M.Machine.told c.args.m.now in
+    let load_is = c.of-load.ensures in
+    let body = c.deref.result.now in
+    let into = c.encode_into.new.into in
+    let long : c.in-Ok.room.next.len ≡ length into = search rules in
+    let written : body ≡ encode ready =
+    c.deref.ensures.value ∙ refilled c.in-Ok.room.next.len into (drop (length into) c.in-Ok.room.next.items) long ∙ c.encode_into.ensures ∙ ap encode c.in-Ok.ensures ∙ ap (λ (n : ℕ). encode (ready_state t n)) c.len.ensures.count in
+    let internal_is = c.header-internal.ensures ∙ ap (λ (l : Load). header l Internal) load_is in
+    let external_is = c.header-external.ensures ∙ ap (λ (l : Load). header l External) load_is in
+    load_done load ready a (g.M.Machine.told c.sync_both.new.m) (g.M.Machine.told c.test_free.new.m) c.in_default-sync_both.ensures.synced.does c.test_free.ensures.done
+    (g.M.Machine.told c.lay.new.m) c.header-internal.result c.header-external.result body internal_is external_is written c.in-Ok-lay.ensures.exact
+
+pub returns-clause-order : goal.returns-clause-order
+returns-clause-order g c =
+    let t = c.args.tables.now in
+    let load = load_of t c.args.roll.now c.args.section in
+    let ready = ready_state t (length c.args.roll.now.titles) in
+    let a = g.M.Machine.told c.args.m.now in
+    let load_is = c.of-load.ensures in
+    let body = c.deref.result.now in
+    let into = c.encode_into.new.into in
+    let long : c.in-Ok.room.next.len ≡ length into = search rules in
+    let written : body ≡ encode ready =
+    c.deref.ensures.value ∙ refilled c.in-Ok.room.next.len into (drop (length into) c.in-Ok.room.next.items) long ∙ c.encode_into.ensures ∙ ap encode c.in-Ok.ensures ∙ ap (λ (n : ℕ). encode (ready_state t n)) c.len.ensures.count in
+    let internal_is = c.header-internal.ensures ∙ ap (λ (l : Load). header l Internal) load_is in
+    let external_is = c.header-external.ensures ∙ ap (λ (l : Load). header l External) load_is in
+    load_cut load ready a (g.M.Machine.told c.sync_both.new.m) (g.M.Machine.told c.test_free.new.m) c.in_default-sync_both.ensures.synced.does c.test_free.ensures.done
+    (g.M.Machine.told c.lay.new.m) c.header-internal.result c.header-external.result body internal_is external_is written c.in-Err-lay.ensures.cut
