@@ -1,11 +1,14 @@
-# make demo: the example election, from the load of the flashes over a morning and an afternoon to the last line of the poll
-# make test: the gate
-# make bench: how long sessions, commits and the reading of tables take, as ratios
-# make crash-trial: sessions that are killed and go on, as many as TRIALS says
-.PHONY: demo test bench crash-trial urna
+.PHONY: list demo test bench crash-trial urna
 
 TRIALS = 25
 URNA = $(CURDIR)/crates/urna_app/out/urna_app
+
+# The minutes are those of four processors. A proof that was made before and where nothing has changed takes seconds.
+list:
+	@echo "make demo         urna proved and built, and the example day on real files: 20 minutes from nothing, then seconds"
+	@echo "make test         the gate, each proof from nothing, each edit that must be refused, each test and program: 35 minutes"
+	@echo "make bench        how long sessions, commits and the reading of tables take, as ratios: 2 minutes behind a demo"
+	@echo "make crash-trial  sessions that are killed and go on, as many as TRIALS says: 2 minutes behind a demo"
 
 demo: urna
 	@examples/run $(URNA)
