@@ -1,14 +1,18 @@
-.PHONY: list demo test bench crash-trial urna
+.PHONY: list try demo test bench crash-trial urna
 
 TRIALS = 25
 URNA = $(CURDIR)/crates/urna_app/out/urna_app
 
 # The minutes are those of four processors. A proof that was made before and where nothing has changed takes seconds.
 list:
+	@echo "make try          the example day, compiled without a proof: under a minute"
 	@echo "make demo         urna proved and built, and the example day on real files: 20 minutes from nothing, then seconds"
 	@echo "make test         the gate, each proof from nothing, each edit that must be refused, each test and program: 35 minutes"
 	@echo "make bench        how long sessions, commits and the reading of tables take, as ratios: 2 minutes behind a demo"
 	@echo "make crash-trial  sessions that are killed and go on, as many as TRIALS says: 2 minutes behind a demo"
+
+try:
+	@examples/try
 
 demo: urna
 	@examples/run $(URNA)
