@@ -17,7 +17,7 @@ use Rattle.election_tables.specs.Tables.{IsPanelOf, candidates_of, entry_of_cand
 abbrev code_of : Panel → ℤ
 code_of p = pos p.office.code
 
--- the panels of a code
+-- how many panels have a code
 abbrev panels_with : ℤ → List Panel → ℕ
 panels_with code panels = count_by (λ p. int_eq code (code_of p)) panels
 

@@ -16,8 +16,9 @@ use urna_base::Memory;
 use vote_kinds::Choice;
 use vote_record::Rdv;
 
-/// The state of a poll (docs/RULES.md, "The state of a poll"). Contracts see its phase, who came, and for each panel how many
-/// votes a voter has in it and a bag of choices.
+/// The state of a poll (docs/RULES.md, "The state of a poll"). It has the memory for just its voters and all their votes, from
+/// the start to the end: the rooms of its lists follow from the number of voters and the places of the panels, which no step
+/// changes. Contracts see its phase, who came, and for each panel how many votes a voter has in it and a bag of choices.
 #[derive(Debug, Drop)]
 pub struct State {
     phase: Phase,
@@ -86,7 +87,7 @@ impl State {
         rank_with(self.phase, self.turnout.len())
     }
 
-    /// Opens the poll. The caller owes that the state is ready, and that the opening moment is one.
+    /// Opens the poll. It takes no memory. The caller owes that the state is ready, and that the opening moment is one.
     pub fn begin(&mut self, opened: u64)
         requires ready { self.old.phase ≡ Phase.Ready }
         requires moment { is_moment opened ≡ true }
@@ -95,9 +96,9 @@ impl State {
         self.phase = Phase::Polling { opened };
     }
 
-    /// The voter of a place came and chose so. The caller owes that the poll is open and the voter has not come, that there
-    /// is one choice for each line of the ballot, each a choice of its line, and that the tables have the panels of the state,
-    /// with as many votes of a voter in each.
+    /// The voter of a place came and chose so. It takes no memory. The caller owes that the poll is open and the voter has not
+    /// come, that there is one choice for each line of the ballot, each a choice of its line, and that the tables have the
+    /// panels of the state, with as many votes of a voter in each.
     pub fn ballot(&mut self, tables: &Tables, place: u32, choices: &[Choice])
         requires voter { MayVote self.old place }
         requires ballot { IsBallot (ballot_lines tables.now) choices.now }
@@ -131,7 +132,8 @@ impl State {
         }
     }
 
-    /// Seals the poll. The caller owes that the poll is open, and that the closing moment is one and not below the opening.
+    /// Seals the poll. It takes no memory. The caller owes that the poll is open, and that the closing moment is one and not
+    /// below the opening.
     pub fn seal(&mut self, closed: u64)
         requires closing { MayClose self.old.phase closed }
         requires moment { is_moment closed ≡ true }

@@ -91,6 +91,30 @@ fn an_open_poll_is_read(rt: HostRuntime) -> Result<(), Fail> {
 }
 
 #[test]
+fn only_a_whole_body_of_this_version_is_a_state(rt: HostRuntime) -> Result<(), Fail> {
+    let tables = Tables::read(rt.alloc(), TABLES)?;
+    let mut body = body_of(rt.alloc(), &POLLING, &VOTE)?;
+    body.push(0)?;
+    for (version, length, is_state) in [
+        (1, 65_536, true),
+        (9, 65_536, false),
+        (1, 65_535, false),
+        (1, 65_537, false),
+        (1, 107, false),
+        (1, 0, false),
+    ] {
+        assert!(rt; 0 < body.len() && length <= body.len());
+        body[0] = version;
+        let state = decode(rt.alloc(), &tables, 1, &body[..length])?;
+        assert!(rt;
+            state.is_some() == is_state,
+            "version {version}, {length} bytes"
+        );
+    }
+    Ok(())
+}
+
+#[test]
 fn a_body_with_a_wrong_field_is_no_encoding(rt: HostRuntime) -> Result<(), Fail> {
     let tables = Tables::read(rt.alloc(), TABLES)?;
     let wrong: [(usize, &[u8], &str); 15] = [
