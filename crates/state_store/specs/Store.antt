@@ -1,5 +1,5 @@
 -- What a store stands for, and what is so of the machine beside it
-use Rattle.std.specs.Prelude.{◌≡◌, ℕ, ◌<◌, List}
+use Rattle.std.specs.Prelude.{◌≡◌, ℕ, ◌<◌, List, length}
 use Rattle.std.specs.Option.{ForSome}
 use Rattle.urna_outside.specs.Told.{Told, Sizes, size_of}
 use Rattle.urna_outside.specs.declared.device.Dev.{Dev}
@@ -8,13 +8,18 @@ use Rattle.election_tables.specs.TablesData.{IsTables, TablesData}
 use Rattle.image_codec.specs.Encoding.{IsEncoding}
 use Rattle.image_codec.specs.State.{State, rank_of}
 use Rattle.state_store.specs.Load.{IsSectionOf, load_of}
-use Rattle.state_store.specs.Rest.{AreAtRest, device_size}
+use Rattle.state_store.specs.Rest.{AreAtRest, body_size, device_size}
 use Rattle.state_store.specs.declared.load.Load.{Load}
 
 -- what the flashes are loaded with, and the body of their slots
 pub record StoreData : Type 0 where
   pub load : Load
   pub body : List ℕ
+
+-- where a next body is written: as many bytes, and memory for just them
+pub record IsBuffer (bytes : List ℕ) (capacity : ℕ) : Type 0 where
+  pub whole : length bytes ≡ body_size
+  pub reserved : capacity ≡ body_size
 
 -- both devices have the size of a flash
 abbrev pub AreDevices : Sizes → Type 0

@@ -1,6 +1,7 @@
 //! The memory of a store.
-ghost use Rattle.std.specs.Prelude.{◌≡◌, ◌≤◌, length, IfOk};
+ghost use Rattle.std.specs.Prelude.{◌≡◌, ◌≤◌, length, IfOk, vec_capacity};
 ghost use Rattle.image_codec.specs.Valid.{ready_state};
+ghost use Rattle.state_store.specs.Store.{IsBuffer};
 
 use election_tables::Tables;
 use image_codec::State;
@@ -17,7 +18,7 @@ pub(crate) struct Room {
     pub(crate) twin: Twin<BODY_SIZE>,
     pub(crate) state: State,
     pub(crate) next: Vec<u8>,
-    pub(crate) ghost whole: { length next.items ≡ 65536 },
+    pub(crate) ghost buffer: { IsBuffer next.items (vec_capacity next) },
 }
 
 impl Room {
@@ -29,7 +30,19 @@ impl Room {
         Ok(Room {
             twin: Twin::new(alloc)?,
             state: State::ready(alloc, tables, voters)?,
-            next: vec![in alloc; 0; BODY_SIZE]?,
+            next: buffer(alloc)?,
         })
     }
+}
+
+// Where a next body is written: zeros, and memory for just them.
+fn buffer(alloc: Global) -> Result<Vec<u8>, Memory>
+    ensures { IfOk result (λ next. IsBuffer next.items (vec_capacity next)) }
+{
+    // one by one, since only these pushes tell that they take no memory more
+    let mut next = Vec::with_capacity(alloc, BODY_SIZE)?;
+    for _ in 0..BODY_SIZE {
+        next.push_reserved(0);
+    }
+    Ok(next)
 }

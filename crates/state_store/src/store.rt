@@ -56,20 +56,20 @@ pub enum LoadError {
 pub struct Store {
     load: Load,
     level: Level<BODY_SIZE>,
-    // where the next body is written
+    // where the next body is written, with memory for just that
     next: Vec<u8>,
 }
 
 impl Model for Store {
-    ghost use Rattle.std.specs.Prelude.{◌≡◌, length};
-    ghost use Rattle.state_store.specs.Store.{StoreData};
+    ghost use Rattle.std.specs.Prelude.{vec_capacity};
+    ghost use Rattle.state_store.specs.Store.{StoreData, IsBuffer};
     ghost use Rattle.twin_image.specs.Level.{HasTokens, body_of};
 
     ghost Value = { StoreData };
 
     ghost view = { λ s. record { load = s.load; body = body_of s.level } };
 
-    ghost invariant = { λ s. (length s.next.items ≡ 65536) × HasTokens s.level };
+    ghost invariant = { λ s. IsBuffer s.next.items (vec_capacity s.next) × HasTokens s.level };
 }
 
 impl Store {
