@@ -12,13 +12,14 @@ use Rattle.state_store.specs.Rest.{body_size}
 use Rattle.state_store.specs.declared.load.Load.{Load}
 
 -- All that a commit does over flashes at rest with a state: internal 0, internal 1, external 0 and external 1 are brought to the
--- next state, one after the other. Of each the gate is shut, the body is put and the gate is opened, and each of these is synced.
+-- next state, one after the other. Of each the gate is shut, the body is put and the gate is opened, and each of these is synced: 24
+-- operations.
 abbrev pub IsCommit : State → State → List Op → Type 0
 IsCommit s u ops = AreRenewals body_size (encode s) (encode u) ops
 
 -- All that a load with a state does over these flashes: both are synced, and then the internal one is loaded and after it the external
--- one. Of each both gates that read open are shut, both bodies are put, header and paddings are written, and both gates are opened;
--- each is synced.
+-- one. Of each the gates that read open are shut, both bodies are put, header and paddings are written, and both gates are opened.
+-- Header and paddings are synced together, every other write by itself.
 abbrev pub IsLoad : Load → State → Flashes → List Op → Type 0
 IsLoad load s start ops =
     ops ≡ both_synced ++ load_ops body_size (header load Internal) (header load External) (encode s) start

@@ -1,5 +1,5 @@
 -- Slots have their turns in order.
-use Rattle.std.proofs.Common.{ℕ, List, ◌++◌, refl, subst}
+use Rattle.std.proofs.Common.{◌≡◌, ℕ, List, ◌++◌, refl, ap, subst, ◌∙◌}
 use Rattle.std.specs.Option.{ForSome}
 use Rattle.urna_outside.specs.Flash.{Op, flash_of, after}
 use Rattle.urna_outside.specs.Told.{Told, Does, Runs}
@@ -8,7 +8,7 @@ use Rattle.urna_outside.specs.declared.device.Dev.TheVariants.{Internal, Externa
 use Rattle.urna_outside.proofs.Doing.{runs-append, told_after}
 use Rattle.gate_slot.specs.Device.{OnFlash}
 use Rattle.gate_slot.specs.Front.{IsFrontOf, IsCutOff}
-use Rattle.gate_slot.specs.Slot.{fill_ops}
+use Rattle.gate_slot.specs.Slot.{shut_ops, fill_ops, publish_ops}
 use Rattle.gate_slot.proofs.Fronts.{cut_first, cut_later}
 use Rattle.twin_image.specs.Order.{IsTurn, IsRenewal, AreRenewals}
 use Rattle.twin_image.specs.Twin.{IsLive, turning_ops}
@@ -93,3 +93,21 @@ pub renewals_done : (size : ℕ) (old new : List ℕ) (a b c : Told) → ForSome
     → ForSome a.flashes (λ start. Runs (AreRenewals size old new) a c)
 renewals_done size old new a b c first second =
     in_row (IsRenewal size Internal old new) (IsRenewal size External old new) (AreRenewals size old new) a b c (renewals_join size old new) first second
+
+-- the operations of turns and renewals
+turn_exactly : (size : ℕ) (d : Dev) (index : ℕ) (old new : List ℕ) (ops : List Op) → IsTurn size d index old new ops → ops ≡ turn_ops size d index new
+turn_exactly size d index old new ops turn =
+    turn.in_row ∙ ap (λ (body : List Op). shut_ops size d index ++ body ++ publish_ops size d index) turn.body_is
+
+renewal_exactly : (size : ℕ) (d : Dev) (old new : List ℕ) (ops : List Op) → IsRenewal size d old new ops → ops ≡ turn_ops size d 0 new ++ turn_ops size d 1 new
+renewal_exactly size d old new ops renewal =
+    renewal.in_row
+    ∙ ap (λ (l : List Op). l ++ renewal.second) (turn_exactly size d 0 old new renewal.first renewal.first_is)
+    ∙ ap (λ (l : List Op). turn_ops size d 0 new ++ l) (turn_exactly size d 1 old new renewal.second renewal.second_is)
+
+pub renewals_exactly : (size : ℕ) (old new : List ℕ) (ops : List Op) → AreRenewals size old new ops
+    → ops ≡ (turn_ops size Internal 0 new ++ turn_ops size Internal 1 new) ++ (turn_ops size External 0 new ++ turn_ops size External 1 new)
+renewals_exactly size old new ops are =
+    are.in_row
+    ∙ ap (λ (l : List Op). l ++ are.external) (renewal_exactly size Internal old new are.internal are.internal_is)
+    ∙ ap (λ (l : List Op). (turn_ops size Internal 0 new ++ turn_ops size Internal 1 new) ++ l) (renewal_exactly size External old new are.external are.external_is)

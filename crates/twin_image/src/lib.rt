@@ -23,7 +23,7 @@ mod twin;
 mod twins;
 
 pub use found::Found;
-pub use law::held_is_the_first_of_greatest_rank;
+pub use law::{a_commit_has_24_operations, held_is_the_first_of_greatest_rank};
 pub use level::Level;
 pub use ranked::Ranked;
 pub use survey::SurveyError;
