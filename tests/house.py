@@ -1,0 +1,156 @@
+"""What the scripts of this folder read of the repository: its crates, and the definitions of a file with the names that they cite."""
+
+import functools
+import os
+import re
+
+TOP = os.path.dirname(os.path.dirname(os.path.abspath(__file__)))
+NAME = r"[A-Za-z_][\w'-]*"
+WORDS = r"(?:(?:abbrev|unfoldable|pub|record|data|ruleset)\s+)*"
+# A name that is no field of something and no part of a longer name.
+CITED = re.compile(rf"(?<![\w'.-]){NAME}")
+
+
+def read(path):
+    with open(os.path.join(TOP, path)) as file:
+        return file.read()
+
+
+def files(*ends, below="crates"):
+    """The paths of the files with these ends, what `rt` made left out."""
+    found = []
+    for folder, folders, names in os.walk(os.path.join(TOP, below)):
+        folders[:] = sorted(it for it in folders if it not in ("out", ".git"))
+        found += [os.path.relpath(os.path.join(folder, it), TOP) for it in sorted(names) if it.endswith(ends)]
+    return found
+
+
+@functools.cache
+def crates():
+    """Each crate with the libraries that it uses, the lower ones first."""
+    lines = [line.split("#")[0].partition(":") for line in read("crates.txt").splitlines()]
+    uses = {head.split()[0]: rest.split() for head, _, rest in lines if head.strip()}
+    ordered = {}
+
+    def place(crate):
+        if crate in uses and crate not in ordered:
+            for used in uses[crate]:
+                place(used)
+            ordered[crate] = uses[crate]
+
+    for crate in uses:
+        place(crate)
+    return ordered
+
+
+def blank(match):
+    return re.sub(r"[^\n]", " ", match.group())
+
+
+@functools.cache
+def stripped(path):
+    """A file with its comments, and what stands in quotes, as blanks."""
+    comment = r"--[^\n]*" if path.endswith(".antt") else r"//[^\n]*"
+    return re.sub(rf'"(?:[^"\\\n]|\\.)*"|{comment}', blank, read(path))
+
+
+@functools.cache
+def imports(path):
+    """Each name that a file brings in, with the module and the name there; of a whole module the name is empty."""
+    found = {}
+    before = r"^\s*(?:pub )?use" if path.endswith(".antt") else r"^\s*ghost use"
+    for line in re.findall(rf"{before} ([^;\n]+)", stripped(path), re.M):
+        whole, _, as_name = line.partition("{")[0].partition(" as ")
+        whole = whole.strip().rstrip(".")
+        if "{" not in line:
+            found[as_name.strip() or whole.rpartition(".")[2]] = (whole, "")
+            continue
+        for it in line.partition("{")[2].rpartition("}")[0].split(","):
+            name, _, own = it.strip().partition(" as ")
+            found[own.strip() or name.strip()] = (whole, name.strip())
+    return found
+
+
+class Definition:
+    """A definition of a file of definitions or of proofs: its name, its line, the comment above it, and its text."""
+
+    def __init__(self, path, name, line, comment, is_public):
+        self.path, self.name, self.line, self.comment, self.is_public = path, name, line, comment, is_public
+        self.kind, self.text, self.constructors = "", [], []
+
+
+def head_of(line, width):
+    """What of a line begins a definition: its leading words and its name; None where the line doesn't begin one."""
+    match = re.match(rf" {{{width}}}({WORDS})({NAME})(?= |$)(.*)", line)
+    if not match or match[2] in ("use", "module", "mod", "open", "where", "unfolding", "with"):
+        return None
+    if match[1]:
+        return match[1].split(), match[2]
+    # Brackets are left out: a clause has parameters and then an equals sign, a signature a colon first.
+    flat, inner = match[3], None
+    while inner != flat:
+        inner, flat = flat, re.sub(r"\([^()]*\)|\{[^{}]*\}|\[[^\[\]]*\]", "", flat)
+    signs = re.search(r"(?<=\s)[:=](?=\s|$)", flat)
+    return ([], match[2]) if signs and signs.group() == ":" else None
+
+
+@functools.cache
+def definitions(path):
+    """The definitions of a file, in order; those of `module` blocks too, which may stand in one another."""
+    found, comment, widths, block = [], [], [0], None
+    for number, (line, code) in enumerate(zip(read(path).splitlines(), stripped(path).splitlines()), 1):
+        if not code.strip():
+            comment = comment + [line.strip()[2:].strip()] if line.strip().startswith("--") else []
+            continue
+        indent = len(code) - len(code.lstrip())
+        while indent < widths[-1] and code.lstrip()[0] not in ")]}":
+            widths.pop()
+        head = head_of(code, widths[-1])
+        if re.match(r" *module _", code):
+            widths.append(indent + 2)
+            block = None
+        elif head:
+            block = Definition(path, head[1], number, comment, "pub" in head[0])
+            block.kind = next((it for it in ("record", "data") if it in head[0]), "")
+            found.append(block)
+        elif re.match(r"(pub )?(use|mod) ", code):
+            block = None
+        elif block and block.kind == "data":
+            made = re.match(rf" +({NAME}) :", code)
+            block.constructors += [made[1]] if made else []
+        if block:
+            block.text.append((number, code))
+        comment = []
+    return found
+
+
+def module_of(path):
+    """The name by which others bring in a file of definitions or of proofs."""
+    return "Rattle." + os.path.splitext(path)[0].removeprefix("crates/").replace("/", ".")
+
+
+def names_in(definition):
+    """The names that a definition's text cites, its own left out."""
+    text = "\n".join(code for _, code in definition.text)
+    return set(CITED.findall(text)) - {definition.name}
+
+
+@functools.cache
+def defining(crate, kept):
+    """The paths of a crate's files of definitions or of proofs by the names of their modules."""
+    return {module_of(path): path for path in files(".antt", below=os.path.join("crates", crate, kept))}
+
+
+@functools.cache
+def type_at(module):
+    """The path and the line of the code's type that a module `declared` stands for."""
+    _, crate, _, _, *inside = module.removesuffix(".TheVariants").split(".")
+    name = inside.pop()
+    for depth in range(len(inside), -1, -1):
+        stems = ["/".join(inside[:depth])] if depth else ["lib", "main"]
+        for path in (f"crates/{crate}/src/{stem}.rt" for stem in stems):
+            if os.path.exists(os.path.join(TOP, path)):
+                for number, line in enumerate(read(path).splitlines(), 1):
+                    if re.match(rf"\s*(pub(\(\w+\))? )?(struct|enum|trait) {name}\b", line):
+                        return path, number
+    return None
