@@ -1,4 +1,4 @@
-.PHONY: list try demo test bench crash-trial urna
+.PHONY: list try demo test check-house bench crash-trial urna
 
 TRIALS = 25
 URNA = $(CURDIR)/crates/urna_app/out/urna_app
@@ -8,6 +8,7 @@ list:
 	@echo "make try          the example day, compiled without a proof: under a minute"
 	@echo "make demo         urna proved and built, and the example day on real files in out/demo: 20 minutes from nothing, then seconds"
 	@echo "make test         the gate, each proof from nothing, each edit that must be refused, each test and program: 35 minutes"
+	@echo "make check-house  names, sessions and lines of the documents and the sources: seconds"
 	@echo "make bench        how long sessions, commits and the reading of tables take, as ratios: 2 minutes behind a demo"
 	@echo "make crash-trial  sessions that are killed and go on, as many as TRIALS says: 2 minutes behind a demo"
 
@@ -19,6 +20,9 @@ demo: urna
 
 test:
 	.ci/run
+
+check-house:
+	@tests/check-house
 
 bench:
 	bench/run
