@@ -72,9 +72,6 @@ known (p ∷ panels) (suc i) h = known panels i (omega arith)
 abbrev pub first_lines : TablesData → List (List Choice) → ℕ → List (List ℕ)
 first_lines t bags i = lines_of_panels t bags 0 (take i t.panels)
 
-pub first_none : (t : TablesData) (bags : List (List Choice)) → first_lines t bags 0 ≡ []
-first_none t bags = refl
-
 pub first_more : (t : TablesData) (bags : List (List Choice)) (i : ℕ) → i < length t.panels
     → first_lines t bags (i + 1) ≡ first_lines t bags i ++ panel_lines t (panel_at t i) (bag_at bags i)
 first_more t bags i h =

@@ -27,22 +27,6 @@ pub state_after-append : (s : State) (xs ys : List Step) → state_after s (xs +
 state_after-append s [] ys = refl
 state_after-append s (x ∷ xs) ys = state_after-append (unwrap_or x.commit s) xs ys
 
-pub full-append : (xs ys : List Step) → AreFull xs → AreFull ys → AreFull (xs ++ ys)
-full-append [] ys first second = second
-full-append (x ∷ xs) ys first second = (first.0, full-append xs ys first.1 second)
-
-pub full_front : (xs ys : List Step) → AreFull (xs ++ ys) → AreFull xs
-full_front [] ys full = tt
-full_front (x ∷ xs) ys full = (full.0, full_front xs ys full.1)
-
-pub full_back : (xs ys : List Step) → AreFull (xs ++ ys) → AreFull ys
-full_back [] ys full = full
-full_back (x ∷ xs) ys full = full_back xs ys full.1
-
-pub full-quiet : (lines : List (List ℕ)) → AllByRecursion (λ line. 0 < length line) lines → AreFull (quiet lines)
-full-quiet [] full = tt
-full-quiet (line ∷ lines) full = (full.0, full-quiet lines full.1)
-
 -- How many lines that tell a state are reached
 
 pub reached_none : (xs : List Step) → commits_reached xs 0 ≡ 0
@@ -103,14 +87,6 @@ states_after s (x ∷ xs) states k =
     ∙ ap (λ (j : ℕ). slice_get (s ∷ (option_to_list x.commit ++ (commits_in xs ++ states))) j) number
     ∙ first_state s x.commit (commits_in xs ++ states) (length (commits_in xs) + k)
     ∙ states_after (unwrap_or x.commit s) xs states k
-
--- the state after the steps is the last of them
-pub last_state : (s : State) (xs : List Step) → slice_get (s ∷ commits_in xs) (length (commits_in xs)) ≡ Some (state_after s xs)
-last_state s xs =
-    let number : length (commits_in xs) ≡ length (commits_in xs) + 0 = omega arith in
-    ap (λ (j : ℕ). slice_get (s ∷ commits_in xs) j) number
-    ∙ ap (λ (l : List State). slice_get (s ∷ l) (length (commits_in xs) + 0)) (sym (append-nil (commits_in xs)))
-    ∙ states_after s xs [] 0
 
 pub last_contained : (s : State) (xs : List Step) → Contains (s ∷ commits_in xs) (state_after s xs)
 last_contained s [] = (0, omega arith, refl)

@@ -431,16 +431,6 @@ stopped_after t load s xs ys p a b c full first stopped =
       fault = ends_later p a b c first.fine stopped.fault;
     }
 
--- steps behind others, which may be stopped
-pub puts-append : {T E : Type 0} (port_in : E → Port) (result : Result T E) (t : TablesData) (load : Load) (s : State) (xs ys : List Step) (a b c : Told) → AreFull xs → HasPut t load s xs a b → Puts port_in result t load (state_after s xs) ys b c → Puts port_in result t load s (xs ++ ys) a c
-puts-append port_in (Ok x) t load s xs ys a b c full first second = put-append t load s xs ys a b c full first second
-puts-append port_in (Err e) t load s xs ys a b c full first second = stopped_after t load s xs ys (port_in e) a b c full first second
-
--- where the call answers a fault
-pub puts_err : {T E : Type 0} (port_in : E → Port) (result : Result T E) (t : TablesData) (load : Load) (s : State) (steps : List Step) (a b : Told) → IsErr result → ((e : E) → result ≡ Err e → HasStopped t load s steps (port_in e) a b) → Puts port_in result t load s steps a b
-puts_err port_in (Ok x) t load s steps a b err stopped = absurd (cc)
-puts_err port_in (Err e) t load s steps a b err stopped = stopped e refl
-
 -- steps behind others, by what all steps come to
 pub put_to : (t : TablesData) (load : Load) (s : State) (front step all : List Step) (a b c : Told) → all ≡ front ++ step → AreFull front → HasPut t load s front a b → HasPut t load (state_after s front) step b c → HasPut t load s all a c
 put_to t load s front step all a b c e full first second =

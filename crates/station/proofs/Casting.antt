@@ -296,9 +296,6 @@ pub run_shown : {s u : State} {es : List Event} {out : List Output} (t : TablesD
     → (run : IsRun (setting_of t titles) s es u out) (n : ℕ) → AreShownIn (ballot_lines t) s (ballots_of run) (opening t s ++ session_steps t out) n
 run_shown {s} t titles r run n = casts_shown t (shows (Says (line.Poll s.phase (number_came s.came))) tt (run_casts r run)) n
 
-pub opening_other : (t : TablesData) (s : State) → IsOther (opening_line t s)
-opening_other t s = poll_other t s.phase (number_came s.came)
-
 -- ---- the state in the end
 
 casts_last : {v : Setting} {s t : State} {out : List Output} {ballots : List Ballot} → Casts v s out ballots t → last_state s out ≡ t

@@ -26,13 +26,6 @@ commits_of (Says l ∷ out) = commits_of out
 commits_of (Commits s l ∷ out) = s ∷ commits_of out
 commits_of (Reports t s ∷ out) = commits_of out
 
--- the lines that tell them
-abbrev pub commit_lines : List Output → List Line
-commit_lines [] = []
-commit_lines (Says l ∷ out) = commit_lines out
-commit_lines (Commits s l ∷ out) = l ∷ commit_lines out
-commit_lines (Reports t s ∷ out) = commit_lines out
-
 -- what shows that a key of the clerk is refused
 abbrev pub refusal : ClerkAnswer → List Output
 refusal (answer.Refused n) = Says (line.Refused n) ∷ []

@@ -30,7 +30,7 @@ use Rattle.station.specs.Run.{IsRun}
 use Rattle.station.specs.Setting.{setting_of}
 use Rattle.station.specs.Start.{opening, opening_line}
 use Rattle.station.specs.Text.{session_steps}
-use Rattle.station.proofs.Casting.{opening_other, run_shown}
+use Rattle.station.proofs.Casting.{run_shown}
 use Rattle.station.proofs.Fims.{AreShown, fims_none, fims_past}
 use Rattle.urna_app.specs.Headline.{HoldsShown, KeepsVotes, session_lines}
 

@@ -15,14 +15,6 @@ is_no_feed c = not (c == 10)
 pub not_feed : (c : ℕ) → is_no_feed c ≡ true → (c == 10) ≡ false
 not_feed c e = grind (arith, nat_tests)
 
--- a text that begins with a line and its line feed
-pub lines_of-feed : (line rest : List ℕ) → list_all is_no_feed line ≡ true → lines_of (line ++ 10 ∷ rest) ≡ line ∷ lines_of rest
-unfolding lines_of
-lines_of-feed [] rest e = refl
-lines_of-feed (c ∷ line) rest e =
-    let both = both_from_and (is_no_feed c) (list_all is_no_feed line) e in
-    rw (not_feed c both.0, lines_of-feed line rest both.1) refl
-
 -- a text of one line with no line feed
 pub lines_of-last : (c : ℕ) (line : List ℕ) → list_all is_no_feed (c ∷ line) ≡ true → lines_of (c ∷ line) ≡ (c ∷ line) ∷ []
 unfolding lines_of

@@ -37,12 +37,3 @@ stops_later a b c first stop =
       without_fault = stop.without_fault ∙ first;
       then_fault = stop.then_fault;
     }
-
--- one call, as its result says
-pub on_ok_without_fault : {T E : Type 0} (r : Result T E) (a b : Told) → IsCalled r a b → OnOk r (WithoutFault a b)
-on_ok_without_fault {T} {E} (Ok x) a b called = without_fault_one {T = T} {E = E} (Ok x) a b refl called
-on_ok_without_fault (Err e) a b called = tt
-
-pub on_err_stops : {T E : Type 0} (r : Result T E) (a b : Told) → IsCalled r a b → OnErr r (StopsAtFault a b)
-on_err_stops (Ok x) a b called = tt
-on_err_stops {T} {E} (Err e) a b called = stops_one {T = T} {E = E} (Err e) a b refl called

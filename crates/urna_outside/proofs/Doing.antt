@@ -52,10 +52,6 @@ pub runs-append : (P Q R : List Op → Type 0) (a b c : Told) → ((xs ys : List
 runs-append P Q R a b c joined first second =
     (first.0 ++ second.0, does-append first.0 second.0 a b c first.1 second.1, joined first.0 second.0 first.2 second.2)
 
--- a run of which less is said
-pub runs_weaker : (P Q : List Op → Type 0) (a b : Told) → ((ops : List Op) → P ops → Q ops) → Runs P a b → Runs Q a b
-runs_weaker P Q a b says run = (run.0, run.1, says run.0 run.2)
-
 some_before : {A : Type 0} (f : A → A) (o : Option A) (y : A) → option_map f o ≡ Some y → (x : A) × (o ≡ Some x) × (y ≡ f x)
 some_before f None y is = absurd (cc)
 some_before f (Some x) y is = let same : f x ≡ y = cc in (x, refl, sym same)
@@ -69,7 +65,3 @@ pub then_told : (ops : List Op) (a b : Told) (P : Flashes → Type 0) → Does o
 then_told ops a b P does holds fs told =
     let before = some_before (after ops) a.flashes fs (sym does.flashes ∙ told) in
     subst P (sym before.2) (holds before.0 before.1)
-
--- the counts of a call after calls that ended well
-pub counts_later : {T E : Type 0} (port : Port) (r : Result T E) (a b c : Faults) → b ≡ a → Counts port r b c → Counts port r a c
-counts_later port r a b c same counts = subst (λ (f : Faults). Counts port r f c) same counts

@@ -29,13 +29,3 @@ ends_later port a b c first stop =
 pub fails_later : {T E : Type 0} (port_in : E → Port) (r : Result T E) (a b c : Told) → IsFaultless a b → FailsAt port_in r b c → FailsAt port_in r a c
 fails_later port_in (Ok x) a b c first later = faultless_trans a b c first later
 fails_later port_in (Err e) a b c first later = ends_later (port_in e) a b c first later
-
--- one call
-pub fails_one : {T E : Type 0} (port : Port) (r : Result T E) (a b : Told) → Counts port r a.faults b.faults → IsCalled r a b → FailsAt (λ (e : E). port) r a b
-fails_one {T} {E} port (Ok x) a b counts called =
-    record { faults = counts.ok; calls = without_fault_one {T = T} {E = E} (Ok x) a b refl called }
-fails_one {T} {E} port (Err e) a b counts called =
-    record {
-      faults = record { never_falls = counts.never_falls; others = counts.others; rose = counts.failed };
-      calls = stops_one {T = T} {E = E} (Err e) a b refl called;
-    }

@@ -8,12 +8,6 @@ use Rattle.urna_outside.specs.declared.device.Dev.{Dev}
 use Rattle.urna_outside.proofs.Keeping.{HasPlaces, within_keeps}
 use Rattle.urna_outside.proofs.Doing.{then_told}
 
-pub puts-append : (xs ys : List Op) → count_puts (xs ++ ys) ≡ count_puts xs + count_puts ys
-puts-append [] ys = omega arith
-puts-append (Put d at bytes ∷ xs) ys = omega (arith, puts-append xs ys)
-puts-append (Sync d ∷ xs) ys = puts-append xs ys
-puts-append (Show bytes ∷ xs) ys = puts-append xs ys
-
 pub syncs-append : (xs ys : List Op) → count_syncs (xs ++ ys) ≡ count_syncs xs + count_syncs ys
 syncs-append [] ys = omega arith
 syncs-append (Put d at bytes ∷ xs) ys = syncs-append xs ys

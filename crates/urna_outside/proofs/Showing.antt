@@ -5,7 +5,7 @@ use Rattle.std.specs.Option.{option_map}
 use Rattle.urna_outside.specs.Flash.{Op, Put, Sync, Show, Flashes, after, shown_by}
 use Rattle.urna_outside.specs.Shows.{AreShows, ShowsText, ShowsFront}
 use Rattle.urna_outside.specs.Told.{Told, Does, Runs, IsTornShow}
-use Rattle.urna_outside.proofs.Doing.{shown_by-append, runs-append, runs_weaker}
+use Rattle.urna_outside.proofs.Doing.{shown_by-append, runs-append}
 
 pub are_shows-append : (xs ys : List Op) → AreShows xs → AreShows ys → AreShows (xs ++ ys)
 are_shows-append [] ys first second = second
@@ -41,11 +41,6 @@ shows_text-append s t xs ys first second =
       whole = shown_by-append xs ys ∙ ap (λ l. l ++ shown_by ys) first.whole ∙ ap (λ l. s ++ l) second.whole;
     }
 
--- a whole text is a front of a longer one
-pub shows_front_whole : (s t : List ℕ) (xs : List Op) → ShowsText s xs → ShowsFront (s ++ t) xs
-shows_front_whole s t xs whole =
-    record { shows = whole.shows; back = t; front = ap (λ l. l ++ t) (sym whole.whole) }
-
 -- a front is a front of a longer text
 pub shows_front_longer : (s t : List ℕ) (xs : List Op) → ShowsFront s xs → ShowsFront (s ++ t) xs
 shows_front_longer s t xs part =
@@ -75,31 +70,3 @@ shows_front_torn bytes ops (inr torn) =
       back = torn.1;
       front = torn.3 ∙ ap (λ l. l ++ torn.1) (sym (append-nil torn.0));
     })
-
--- The same of runs: nothing shown, one call that showed its text, and one that failed in it.
-pub runs_text_none : (a b : Told) → Does [] a b → Runs (ShowsText []) a b
-runs_text_none a b does = ([], does, shows_text_none)
-
-pub runs_text_one : (bytes : List ℕ) (a b : Told) → Does (Show bytes ∷ []) a b → Runs (ShowsText bytes) a b
-runs_text_one bytes a b does = (Show bytes ∷ [], does, shows_text_one bytes)
-
-pub runs_front_torn : (bytes : List ℕ) (a b : Told) → Runs (IsTornShow bytes) a b → Runs (ShowsFront bytes) a b
-runs_front_torn bytes a b run = (run.0, run.1, shows_front_torn bytes run.0 run.2)
-
--- one text after another, and a front of one after a whole one
-pub runs_text-append : (s t : List ℕ) (a b c : Told) → Runs (ShowsText s) a b → Runs (ShowsText t) b c → Runs (ShowsText (s ++ t)) a c
-runs_text-append s t a b c = runs-append (ShowsText s) (ShowsText t) (ShowsText (s ++ t)) a b c (shows_text-append s t)
-
-pub runs_front-append : (s t : List ℕ) (a b c : Told) → Runs (ShowsText s) a b → Runs (ShowsFront t) b c → Runs (ShowsFront (s ++ t)) a c
-runs_front-append s t a b c = runs-append (ShowsText s) (ShowsFront t) (ShowsFront (s ++ t)) a b c (shows_front-append s t)
-
--- a front of a text is one of a longer text
-pub runs_front_longer : (s t : List ℕ) (a b : Told) → Runs (ShowsFront s) a b → Runs (ShowsFront (s ++ t)) a b
-runs_front_longer s t a b = runs_weaker (ShowsFront s) (ShowsFront (s ++ t)) a b (shows_front_longer s t)
-
-pub runs_front_whole : (s t : List ℕ) (a b : Told) → Runs (ShowsText s) a b → Runs (ShowsFront (s ++ t)) a b
-runs_front_whole s t a b = runs_weaker (ShowsText s) (ShowsFront (s ++ t)) a b (shows_front_whole s t)
-
--- what is told of the flashes stays
-pub runs_keep : (P : List Op → Type 0) (a b : Told) → ((ops : List Op) → P ops → AreShows ops) → Runs P a b → b.flashes ≡ a.flashes
-runs_keep P a b shows run = shows_keep run.0 a b (shows run.0 run.2) run.1

@@ -81,41 +81,6 @@ stops-append_silent start xs ys P silent first second =
     stops-append start xs ys P first (λ done stop left is.
     subst (λ (s : List ℕ). P (record { internal = left.internal; external = left.external; shown = s ++ left.shown })) (sym silent) (second done stop left is))
 
--- a stop of one show: a front of the bytes was shown, and the flashes stayed
-record ShowsFront (start : Flashes) (bytes : List ℕ) (done : List Op) : Type 0 where
-  some : List ℕ
-  rest : List ℕ
-  split : bytes ≡ some ++ rest
-  same : after done start ≡ start
-  text : shown_by done ≡ some
-
-stop_show : (start : Flashes) (bytes : List ℕ) (done : List Op) → IsStop (Show bytes ∷ []) done → ShowsFront start bytes done
-stop_show start bytes [] stop = record { some = []; rest = bytes; split = refl; same = refl; text = refl }
-stop_show start bytes (one ∷ []) (inl whole) =
-    record {
-      some = bytes;
-      rest = [];
-      split = sym (append-nil bytes);
-      same = ap (λ (op : Op). after (op ∷ []) start) whole.0;
-      text = ap (λ (op : Op). shown_by (op ∷ [])) whole.0 ∙ append-nil bytes;
-    }
-stop_show start bytes (one ∷ other ∷ more) (inl whole) = absurd whole.1
-stop_show start bytes (one ∷ done) (inr part) =
-    record {
-      some = part.0.0;
-      rest = part.0.1;
-      split = part.0.2;
-      same = ap (λ (l : List Op). after l start) (λ i. part.0.3 i ∷ part.1 i);
-      text = ap shown_by (λ i. part.0.3 i ∷ part.1 i) ∙ append-nil part.0.0;
-    }
-
--- Stops of one show: the flashes stay, and a front of the bytes is shown.
-pub stops_show : (start : Flashes) (bytes : List ℕ) (P : Left → Type 0) → ((left : Left) → IsImage start.internal left.internal → IsImage start.external left.external → (rest : List ℕ) → bytes ≡ left.shown ++ rest → P left) → AtEachStop start (Show bytes ∷ []) P
-stops_show start bytes P holds done stop left is =
-    let front = stop_show start bytes done stop in
-    holds left (subst (λ (fs : Flashes). IsImage fs.internal left.internal) front.same is.internal) (subst (λ (fs : Flashes). IsImage fs.external left.external) front.same is.external) front.rest
-    (front.split ∙ ap (λ (l : List ℕ). l ++ front.rest) (sym (is.shown ∙ front.text)))
-
 -- the stop of no operations
 pub stops_none : (start : Flashes) (P : Left → Type 0) → ((left : Left) → IsLeft start [] left → P left) → AtEachStop start [] P
 stops_none start P holds [] stop left is = holds left is
