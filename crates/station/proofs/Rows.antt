@@ -12,8 +12,8 @@ use Rattle.vote_kinds.specs.declared.choice.Field.TheVariants as field
 use Rattle.turnout.specs.declared.phase.Phase.TheVariants as phase
 use Rattle.image_codec.specs.State.{State}
 use Rattle.station.specs.Setting.{Setting}
-use Rattle.station.specs.Output.{Output, Says, Commits, Reports}
 use Rattle.station.specs.Press.{idle_at, outputs, after}
+use Rattle.station.specs.Screens.{lines_in, screens_of}
 use Rattle.station.specs.declared.line.Line.{Line}
 use Rattle.station.specs.declared.line.Line.TheVariants as line
 
@@ -28,12 +28,6 @@ setting = record { lines = councillor ∷ mayor ∷ []; places = 1 ∷ 1 ∷ [];
 
 abbrev polling : State
 polling = record { phase = phase.Polling 20261004080000; came = false ∷ false ∷ false ∷ []; places = 1 ∷ 1 ∷ []; bags = [] ∷ [] ∷ [] }
-
--- the lines, without those of reports
-abbrev lines_in : Output → List Line
-lines_in (Says l) = l ∷ []
-lines_in (Commits s l) = l ∷ []
-lines_in (Reports t s) = []
 
 abbrev told : State → List Event → List Line
 told s es = flat_map lines_in (outputs setting (idle_at s) es)
@@ -118,8 +112,22 @@ refused_when_sealed = refl
 abbrev senator : BallotLine
 senator = record { panel = 0; code = 5; digits = 3; proportional = false; places = 2; candidates = 101 ∷ 102 ∷ 201 ∷ []; parties = 10 ∷ 20 ∷ [] }
 
-same_candidate_twice : flat_map lines_in (outputs (record { lines = senator ∷ senator ∷ []; places = 2 ∷ []; roll = 10000000001 ∷ [] }) (idle_at polling) (admitted ++ keys (Digit 1 ∷ Digit 0 ∷ Digit 1 ∷ Confirm ∷ Digit 1 ∷ Digit 0 ∷ Digit 1 ∷ Confirm ∷ [])))
+abbrev two_senators : Setting
+two_senators = record { lines = senator ∷ senator ∷ []; places = 2 ∷ []; roll = 10000000001 ∷ [] }
+
+abbrev same_twice : List Event
+same_twice = admitted ++ keys (Digit 1 ∷ Digit 0 ∷ Digit 1 ∷ Confirm ∷ Digit 1 ∷ Digit 0 ∷ Digit 1 ∷ Confirm ∷ [])
+
+same_candidate_twice : flat_map lines_in (outputs two_senators (idle_at polling) same_twice)
     ≡ line.Voter 10000000001 ∷ line.Released ∷ line.Ballot 1 5 ∷ line.Screen 0 (field.Digits 1 1) ∷ line.Screen 0 (field.Digits 2 10)
     ∷ line.Screen 0 (field.Digits 3 101) ∷ line.Ballot 2 5 ∷ line.Screen 0 (field.Digits 1 1)
     ∷ line.Screen 0 (field.Digits 2 10) ∷ line.Screen 0 (field.Digits 3 101) ∷ line.Ended ∷ []
 same_candidate_twice = refl
+
+second_is_null : (after two_senators (idle_at polling) same_twice).state.bags ≡ (choice.Nominal 101 ∷ choice.Null ∷ []) ∷ [] ∷ []
+second_is_null = refl
+
+-- the screens, by the lines of the ballot
+screens_of_a_visit : screens_of (outputs setting (idle_at polling) (admitted ++ keys (Blank ∷ Correct ∷ party_45 ++ Digit 9 ∷ Confirm ∷ [])))
+    ≡ (line.Screen 0 field.Blank ∷ line.Screen 0 field.Empty ∷ at_4 ∷ at_45 ∷ []) ∷ (line.Screen 1 (field.Digits 1 9) ∷ []) ∷ []
+screens_of_a_visit = refl

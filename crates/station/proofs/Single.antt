@@ -1,15 +1,14 @@
 -- One event at a standing
-use Rattle.std.proofs.Common.{◌≡◌, ℕ, ◌<◌, Bool, true, false, cond, ◌&&◌, List, [], ◌∷◌, ◌++◌, Option, Some, None, refl, sym, ap, ◌∙◌}
-use Rattle.std.proofs.lemmas.Bool.{eqb-true}
+use Rattle.std.proofs.Common.{◌≡◌, ℕ, ◌<◌, Bool, true, false, cond, List, [], ◌∷◌, ◌++◌, Option, Some, None, refl, sym, ap, ◌∙◌}
 use Rattle.key_script.specs.declared.keys.Key.{Key}
 use Rattle.key_script.specs.declared.keys.Key.TheVariants as key
 use Rattle.vote_kinds.specs.declared.choice.Choice.{Choice}
 use Rattle.vote_kinds.specs.declared.choice.Field.{Field}
-use Rattle.vote_kinds.specs.declared.choice.Field.TheVariants as field
 use Rattle.voter_term.specs.declared.panel.Shown.TheVariants as shown
 use Rattle.vote_kinds.specs.Ballot.{BallotLine, is_confirmable, choice_of}
 use Rattle.voter_term.specs.Field.{field_after, same_field}
 use Rattle.voter_term.specs.Panel.{next_field}
+use Rattle.voter_term.proofs.Screens.{same_field_is}
 use Rattle.voter_term.proofs.Words.{field_after-more}
 use Rattle.turnout.specs.Turnout.{has_come}
 use Rattle.clerk_term.specs.Reply.{answer_to, polling_answer, title_answer, place_of}
@@ -81,25 +80,6 @@ pub press_refused : (v : Setting) (x : Standing) (c : ClerkKey) → IsRefused (r
 press_refused v x c r = rw r.1 refl
 
 -- The voter
-
-and_true : (a b : Bool) → (a && b) ≡ true → (a ≡ true) × (b ≡ true)
-and_true true b h = (refl, h)
-and_true false b h = absurd (cc)
-
-pub same_field_is : (f g : Field) → same_field f g ≡ true → f ≡ g
-same_field_is field.Empty field.Empty h = refl
-same_field_is field.Blank field.Blank h = refl
-same_field_is (field.Digits m a) (field.Digits n b) h =
-    let both = and_true _ _ h in
-    let e : m ≡ n = eqb-true m n both.0 in
-    let f : a ≡ b = eqb-true a b both.1 in
-    cc
-same_field_is field.Empty field.Blank h = absurd (cc)
-same_field_is field.Empty (field.Digits n b) h = absurd (cc)
-same_field_is field.Blank field.Empty h = absurd (cc)
-same_field_is field.Blank (field.Digits n b) h = absurd (cc)
-same_field_is (field.Digits m a) field.Empty h = absurd (cc)
-same_field_is (field.Digits m a) field.Blank h = absurd (cc)
 
 after_change : (v : Setting) (s : State) (place : ℕ) (choices : List Choice) (l : BallotLine) (k : Key) (f g : Field) (b : Bool)
     → same_field g f ≡ b → next_field l.digits f k ≡ g

@@ -8,7 +8,7 @@ ghost use Rattle.voter_term.specs.Panel.{next_field, next_shown};
 use arrayvec::ArrayVec;
 use election_tables::Tables;
 use key_script::Key;
-use vote_kinds::{Choice, Field};
+use vote_kinds::{Choice, Field, office_digits};
 use voter_term::{Panel, Shown};
 
 /// The choices of a visit so far, one for each line of the ballot that was confirmed.
@@ -35,7 +35,7 @@ pub(crate) fn take_key(tables: &Tables, panel: u32, field: Field, key: Key) -> (
     ensures field { result.0 ≡ next_field (line_of tables.now panel).digits field key }
     ensures shown { result.1 ≡ next_shown (line_of tables.now panel) None field key }
 {
-    match digits_of(tables, panel) {
+    match office_digits(tables, panel) {
         2 => take_key_of::<2>(tables, panel, field, key),
         3 => take_key_of::<3>(tables, panel, field, key),
         4 => take_key_of::<4>(tables, panel, field, key),
@@ -54,15 +54,6 @@ fn take_key_of<const CAP: u8>(tables: &Tables, panel: u32, field: Field, key: Ke
     let mut standing = Panel::<CAP>::with(field);
     let shown = standing.key(tables, panel, key);
     (standing.field(), shown)
-}
-
-#[tactic(auto, using(vote_kinds::proofs::Lookups::office_known))]
-fn digits_of(tables: &Tables, panel: u32) -> u8
-    requires { panel < length tables.now.panels }
-    ensures digits { result ≡ (line_of tables.now panel).digits }
-    ensures range { (2 ≤ result) × (result ≤ 5) }
-{
-    tables.office(panel).digits
 }
 
 /// Adds Null until there is a choice for so many lines.

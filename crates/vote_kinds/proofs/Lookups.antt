@@ -104,11 +104,6 @@ pub panel_places : (t : TablesData) → map (λ line. line.places) (lines_by_pan
 unfolding lines_by_panel
 panel_places t = from_places t 0 t.panels
 
--- A field that may be confirmed has at least two digits.
-pub confirmable_count : (p : Bool) (count digits : ℕ) → cond p (nat_le 2 count) (nat_eq count digits) ≡ true → 2 ≤ digits → 2 ≤ count
-confirmable_count true count digits h two = leb-true 2 count h
-confirmable_count false count digits h two = let e : count ≡ digits = eqb-true count digits h in omega arith
-
 line_in_digits : (t : TablesData) (n : ℕ) (panels : List Panel) (l : BallotLine) → All (IsPanel t.parties) panels → (k : ℕ) → option_map (line_for t n) (slice_get panels k) ≡ Some l
     → (2 ≤ l.digits) × (l.digits ≤ 5)
 line_in_digits t n panels l all k e = elim ((slice_get_cases panels k).1) [

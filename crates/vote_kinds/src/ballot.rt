@@ -69,6 +69,17 @@ pub fn is_choice(tables: &Tables, panel: u32, choice: Choice) -> bool
     }
 }
 
+/// How many digits the office of a panel has: 2, 3, 4 or 5.
+///
+/// The caller owes that the panel is one of the tables.
+pub fn office_digits(tables: &Tables, panel: u32) -> u8
+    requires { panel < length tables.now.panels }
+    ensures digits { result ≡ (line_of tables.now panel).digits }
+    ensures range { (2 ≤ result) × (result ≤ 5) }
+{
+    office_of(tables, panel).digits
+}
+
 fn choice_of_digits(tables: &Tables, panel: u32, office: Office, count: u8, value: u32) -> Choice
     requires panel { panel < length tables.now.panels }
     requires office { office ≡ (panel_at tables.now panel).office }

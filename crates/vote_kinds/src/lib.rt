@@ -8,5 +8,5 @@
 mod ballot;
 mod choice;
 
-pub use ballot::{choice_of, confirmable, is_choice};
+pub use ballot::{choice_of, confirmable, is_choice, office_digits};
 pub use choice::{Choice, Field};

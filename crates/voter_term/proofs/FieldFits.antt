@@ -32,9 +32,3 @@ next_field-fits digits (field.Digits count value) key.Blank some k is = is
 next_field-fits digits field.Empty (key.Digit d) some k is = (omega arith, some, one_digit d k)
 next_field-fits digits field.Blank (key.Digit d) some k is = tt
 next_field-fits digits (field.Digits count value) (key.Digit d) some k is = digit_fits digits count value d (nat_lt count digits) refl k is
-
--- a field of few digits is one of more
-pub fits_more : (few many : ℕ) (f : Field) → few ≤ many → IsField few f → IsField many f
-fits_more few many field.Empty h is = tt
-fits_more few many field.Blank h is = tt
-fits_more few many (field.Digits count value) h is = (is.0, omega arith, is.2)

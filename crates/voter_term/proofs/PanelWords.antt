@@ -1,5 +1,5 @@
 -- Words without a panel word at their front, key by key
-use Rattle.std.proofs.Common.{◌≡◌, Bool, true, false, cond, List, [], ◌∷◌, ◌++◌, Option, ◌⊎◌, inl, inr, refl, sym, ap, ◌∙◌, append_assoc}
+use Rattle.std.proofs.Common.{◌≡◌, Bool, true, false, cond, List, [], ◌∷◌, ◌++◌, Option, ◌⊎◌, inl, inr, refl, sym, ap, ◌∙◌}
 use Rattle.key_script.specs.declared.keys.Key.{Key}
 use Rattle.key_script.specs.declared.keys.Key.TheVariants as key
 use Rattle.vote_kinds.specs.declared.choice.Choice.{Choice}
@@ -25,10 +25,6 @@ split_last {A} (b ∷ w) (a ∷ x) y k c e =
 pub unconfirmed_nil : (line : BallotLine) → IsUnconfirmed line []
 unconfirmed_nil line [] y e = absurd (cc)
 unconfirmed_nil line (a ∷ x) y e = absurd (cc)
-
--- the front of a word
-pub unconfirmed_front : (line : BallotLine) (w z : List Key) → IsUnconfirmed line (w ++ z) → IsUnconfirmed line w
-unconfirmed_front line w z h = λ x y e. h x (y ++ z) (ap (λ (l : List Key). l ++ z) e ∙ append_assoc x (key.Confirm ∷ y) z)
 
 -- one more key
 pub unconfirmed_more : (line : BallotLine) (w : List Key) (k : Key) → IsUnconfirmed line w → (key.Confirm ≡ k → is_confirmable line (field_after line.digits w) ≡ false) → IsUnconfirmed line (w ++ k ∷ [])

@@ -14,25 +14,26 @@ use Rattle.voter_term.specs.declared.panel.Shown.TheVariants as shown
 use Rattle.voter_term.specs.Field.{field_after, same_field, screen_in, screens_behind, shown_by}
 use Rattle.voter_term.proofs.Words.{field_after-more}
 
-same_is : (f g : Field) → same_field f g ≡ true → f ≡ g
-same_is field.Empty field.Empty e = refl
-same_is field.Blank field.Blank e = refl
-same_is (field.Digits count value) (field.Digits other_count other_value) e =
+-- fields that pass the test are one
+pub same_field_is : (f g : Field) → same_field f g ≡ true → f ≡ g
+same_field_is field.Empty field.Empty e = refl
+same_field_is field.Blank field.Blank e = refl
+same_field_is (field.Digits count value) (field.Digits other_count other_value) e =
     let both = and_parts (nat_eq count other_count) (nat_eq value other_value) e in
     ap (λ (n : ℕ). field.Digits n value) (eqb-true count other_count both.0) ∙ ap (λ (n : ℕ). field.Digits other_count n) (eqb-true value other_value both.1)
-same_is field.Empty field.Blank e = absurd (cc)
-same_is field.Empty (field.Digits count value) e = absurd (cc)
-same_is field.Blank field.Empty e = absurd (cc)
-same_is field.Blank (field.Digits count value) e = absurd (cc)
-same_is (field.Digits count value) field.Empty e = absurd (cc)
-same_is (field.Digits count value) field.Blank e = absurd (cc)
+same_field_is field.Empty field.Blank e = absurd (cc)
+same_field_is field.Empty (field.Digits count value) e = absurd (cc)
+same_field_is field.Blank field.Empty e = absurd (cc)
+same_field_is field.Blank (field.Digits count value) e = absurd (cc)
+same_field_is (field.Digits count value) field.Empty e = absurd (cc)
+same_field_is (field.Digits count value) field.Blank e = absurd (cc)
 
 -- a key shows the new field, or nothing, and then the field is the old one
 abbrev ShowsChange : List Field → Field → Field → Type 0
 ShowsChange screen new old = (screen ≡ new ∷ []) ⊎ ((screen ≡ []) × (new ≡ old))
 
 typed : (b : Bool) (new old : Field) → same_field new old ≡ b → ShowsChange (screen_in (cond b shown.Nothing shown.Screen) new) new old
-typed true new old e = inr (refl, same_is new old e)
+typed true new old e = inr (refl, same_field_is new old e)
 typed false new old e = inl refl
 
 confirmed : (b : Bool) (choice : Choice) (new old : Field) → new ≡ old → ShowsChange (screen_in (cond b (shown.Voted choice) shown.Nothing) new) new old

@@ -9,7 +9,7 @@ ghost use Rattle.voter_term.specs.Panel.{next_field, next_shown};
 use election_tables::Tables;
 use key_script::Key;
 use std::marker::Model;
-use vote_kinds::{Choice, Field, choice_of, confirmable};
+use vote_kinds::{Choice, Field, choice_of, confirmable, office_digits};
 
 /// What a key does on the panel that stands.
 #[derive(Clone, Copy, Debug, PartialEq, Eq)]
@@ -98,7 +98,7 @@ impl<const CAP: u8> Panel<CAP> {
         ensures tells { result ≡ next_shown (line_of tables.now panel) None self.old key }
         ensures some { 2 ≤ CAP }
     {
-        let digits = digits_of(tables, panel);
+        let digits = office_digits(tables, panel);
         if key == Key::Confirm {
             return confirm(tables, panel, self.field);
         }
@@ -120,15 +120,6 @@ fn confirm(tables: &Tables, panel: u32, field: Field) -> Shown
         return Shown::Nothing;
     }
     Shown::Voted(choice_of(tables, panel, &field))
-}
-
-#[tactic(auto, using(vote_kinds::proofs::Lookups::office_known))]
-pub(crate) fn digits_of(tables: &Tables, panel: u32) -> u8
-    requires { panel < length tables.now.panels }
-    ensures digits { result ≡ (line_of tables.now panel).digits }
-    ensures range { (2 ≤ result) × (result ≤ 5) }
-{
-    tables.office(panel).digits
 }
 
 /// The field after one more key, where so many digits may stand.

@@ -1,11 +1,11 @@
 ghost use Rattle.key_script.specs.Event.{IsKey};
 
 use super::*;
-use crate::panel::digits_of;
 use election_tables::Tables;
 use key_script::Key;
 use std::process::Abort;
 use std::test::Fail;
+use vote_kinds::office_digits;
 
 const TABLES: &[u8] = br#"
 processo = 7
@@ -47,7 +47,7 @@ fn shown_by<const CAP: u8>(
     keys: &str,
 ) -> Result<String, Fail> {
     assert!(rt; number < tables.panels());
-    assert!(rt; digits_of(tables, number) == CAP);
+    assert!(rt; office_digits(tables, number) == CAP);
     let mut panel = Panel::<CAP>::new();
     let mut text = String::new(rt.alloc());
     for &byte in keys.as_bytes() {

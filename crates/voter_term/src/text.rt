@@ -2,10 +2,9 @@ ghost use Rattle.std.specs.Prelude.{◌≡◌, ◌+◌, ◌<◌, ◌≤◌, ◌+
 ghost use Rattle.vote_kinds.specs.Ballot.{IsField, line_of};
 ghost use Rattle.voter_term.specs.Screen.{choice_text, field_text, screen_text, shown_choice};
 
-use crate::panel::digits_of;
 use election_tables::Tables;
 use urna_base::LineBuffer;
-use vote_kinds::{Choice, Field, choice_of, confirmable};
+use vote_kinds::{Choice, Field, choice_of, confirmable, office_digits};
 
 /// Puts the screen line of a panel's field at the front of `into`, and tells its length (docs/FORMATS.md, "Shown texts"). The line
 /// shows the choice that the field stands for, where CONFIRMA is taken at it.
@@ -31,7 +30,7 @@ fn screen_line(tables: &Tables, panel: u32, field: Field) -> LineBuffer
     ensures { result ≡ screen_text tables.now panel None field }
 {
     // an office has at most five digits
-    let _digits = digits_of(tables, panel);
+    let _digits = office_digits(tables, panel);
     let choice = shown_choice(tables, panel, field);
     let mut line = LineBuffer::new();
     line.push_text(b"TELA ");
