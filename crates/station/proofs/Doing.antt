@@ -25,6 +25,7 @@ use Rattle.station.specs.Acts.{IsAct, act_of, last_state}
 use Rattle.station.specs.Output.{Output, Says, Commits, Reports}
 use Rattle.station.specs.Press.{Pressed, press}
 use Rattle.station.specs.Setting.{setting_of}
+use Rattle.station.specs.Session.{FitsLine}
 use Rattle.station.specs.Station.{IsStationed, StationData}
 use Rattle.station.specs.Text.{title_text}
 use Rattle.station.proofs.Faithful.{press_faithful}
@@ -138,10 +139,12 @@ module _ (t : TablesData) (r : RollData) (told : Told) (x : StationData) (e : Ev
   event_after = state_after_outputs t x.standing.state pressed.out ∙ (press_faithful (setting_of t r.titles) x.standing e).last
 
   -- the station that stands after it
-  pub event_stationed : (new : Told) (store : StoreData) → store.load ≡ x.store.load → Keeps t new store pressed.standing.state → IsStationed t r new (record { standing = pressed.standing; store = store })
-  event_stationed new store same kept =
+  pub event_stationed : (new : Told) (store : StoreData) (digits : ℕ) → FitsLine (setting_of t r.titles) pressed.standing digits → store.load ≡ x.store.load
+      → Keeps t new store pressed.standing.state → IsStationed t r new (record { standing = pressed.standing; digits = digits; store = store })
+  event_stationed new store digits panel same kept =
       record {
         stands = press_stands (setting_of t r.titles) x.standing e (tables_setting t r.titles is.load.tables) valid is.stands;
+        panel = panel;
         load = subst (λ (l : Load). IsLoadedWith t r l) (sym same) is.load;
         kept = kept;
       }

@@ -57,10 +57,11 @@ module _ (t : TablesData) (r : RollData) (store : StoreData) (s : State) (a b c 
         shown = put_shown t store.load s (line ∷ []) b c (stored t r store.load s loaded kept.encoding.state) kept.rest shown;
       }
 
-  pub stationed : HasShown (line ∷ []) b c → IsStationed t r c (record { standing = idle_at s; store = store })
-  stationed shown =
+  pub stationed : HasShown (line ∷ []) b c → (digits : ℕ) → IsStationed t r c (record { standing = idle_at s; digits = digits; store = store })
+  stationed shown digits =
       let state = kept.encoding.state in
       record {
+        panel = record { fits = λ place l voting at. absurd (cc) };
         stands = idle_stands (setting_of t r.titles) s (record { roll = state.roll ∙ loaded.section.voters; places = state.places });
         load = loaded;
         kept = keeps_shown t r store s (line ∷ []) b c loaded kept shown;

@@ -1,12 +1,15 @@
 -- A key of the voter, where one line of the ballot stands
-use Rattle.std.proofs.Common.{◌≡◌, ℕ, false, List, [], ◌∷◌, ◌++◌, length, nat_eq, Option, None, Some, refl, ap, ◌∙◌}
+use Rattle.std.proofs.Common.{◌≡◌, ℕ, Bool, true, false, cond, List, [], ◌∷◌, ◌++◌, length, nat_eq, Option, None, Some, refl, ap, ◌∙◌}
 use Rattle.key_script.specs.declared.keys.Key.{Key}
+use Rattle.key_script.specs.declared.keys.Key.TheVariants as key
 use Rattle.vote_kinds.specs.declared.choice.Choice.{Choice}
 use Rattle.vote_kinds.specs.declared.choice.Field.{Field}
 use Rattle.vote_kinds.specs.Ballot.{BallotLine}
 use Rattle.voter_term.specs.declared.panel.Shown.{Shown}
 use Rattle.voter_term.specs.declared.panel.Shown.TheVariants as shown
+use Rattle.voter_term.specs.Field.{same_field}
 use Rattle.voter_term.specs.Panel.{next_field, next_shown}
+use Rattle.voter_term.proofs.Screens.{same_field_is}
 use Rattle.clerk_term.specs.declared.replies.Mode.TheVariants as mode
 use Rattle.image_codec.specs.State.{State, with_ballot, filled_up}
 use Rattle.station.specs.Setting.{Setting}
@@ -20,6 +23,22 @@ typed_is : (v : Setting) (s : State) (place : ℕ) (choices : List Choice) (f : 
 typed_is v s place choices f k l r at none shows =
     ap (on_line v s place choices f k) at
     ∙ (ap (λ (e : Option Choice). after_key v s place choices f l k (next_shown l e f k)) none ∙ ap (after_key v s place choices f l k) shows)
+
+-- the key that isn't taken changes nothing
+pub typed_nothing : (v : Setting) (s : State) (place : ℕ) (choices : List Choice) (f : Field) (k : Key) (l : BallotLine)
+    → line_at v choices ≡ Some l → earlier_for v choices l ≡ None → next_shown l None f k ≡ shown.Nothing
+    → typed v s (mode.Voting place) choices f k ≡ record { standing = voting_at s place choices f; out = [] }
+typed_nothing v s place choices f k l at none shows = typed_is v s place choices f k l shown.Nothing at none shows
+
+unchanged : (f g : Field) (same : Bool) → same_field g f ≡ same → cond same shown.Nothing shown.Screen ≡ shown.Nothing → g ≡ f
+unchanged f g true e h = same_field_is g f e
+unchanged f g false e h = absurd (cc)
+
+pub nothing_stays : (l : BallotLine) (f : Field) (k : Key) → next_shown l None f k ≡ shown.Nothing → next_field l.digits f k ≡ f
+nothing_stays l f key.Confirm h = refl
+nothing_stays l f key.Blank h = unchanged f (next_field l.digits f key.Blank) _ refl h
+nothing_stays l f key.Correct h = unchanged f (next_field l.digits f key.Correct) _ refl h
+nothing_stays l f (key.Digit d) h = unchanged f (next_field l.digits f (key.Digit d)) _ refl h
 
 -- the key that changes the field shows the screen
 pub typed_screen : (v : Setting) (s : State) (place : ℕ) (choices : List Choice) (f : Field) (k : Key) (l : BallotLine)

@@ -12,3 +12,5 @@ pub mod Doing
 pub mod Start
 pub mod Cast
 pub mod Screens
+pub mod Terminal
+pub mod Session

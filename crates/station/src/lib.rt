@@ -12,6 +12,7 @@
 mod act;
 pub mod laws;
 mod line;
+mod panel;
 mod perform;
 mod session;
 mod station;

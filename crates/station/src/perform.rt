@@ -31,13 +31,13 @@ pub(crate) fn perform_all<M: Machine>(
     requires acts { AllByRecursion (IsAct tables.now) acts.now }
     requires devices { AreDevices (M.told m.old).sizes }
     requires load { IsLoadedWith tables.now roll.now store.load }
-    requires state { IsStateOf tables.now store.load.section.voters session.now.state }
-    requires may { AreDoable tables.now (M.told m.old) store session.now.state acts.now }
+    requires state { IsStateOf tables.now store.load.section.voters session.now.standing.state }
+    requires may { AreDoable tables.now (M.told m.old) store session.now.standing.state acts.now }
     ensures load { IfOk result (λ next. next.load ≡ store.load) }
     ensures kept { (s : State) → Keeps tables.now (M.told m.old) store s
-        → IfOk result (λ next. Keeps tables.now (M.told m.new) next (state_after s (session_steps tables.now (outputs_of session.now.state acts.now)))) }
+        → IfOk result (λ next. Keeps tables.now (M.told m.new) next (state_after s (session_steps tables.now (outputs_of session.now.standing.state acts.now)))) }
     ensures puts { (s : State) → Keeps tables.now (M.told m.old) store s
-        → Puts (λ port. port) result tables.now store.load s (session_steps tables.now (outputs_of session.now.state acts.now)) (M.told m.old) (M.told m.new) }
+        → Puts (λ port. port) result tables.now store.load s (session_steps tables.now (outputs_of session.now.standing.state acts.now)) (M.told m.old) (M.told m.new) }
 {
     let mut store = store;
     for act in acts {
@@ -60,13 +60,13 @@ fn perform<M: Machine>(
     requires act { IsAct tables.now act }
     requires devices { AreDevices (M.told m.old).sizes }
     requires load { IsLoadedWith tables.now roll.now store.load }
-    requires state { IsStateOf tables.now store.load.section.voters session.now.state }
-    requires may { AreDoable tables.now (M.told m.old) store session.now.state (act ∷ []) }
+    requires state { IsStateOf tables.now store.load.section.voters session.now.standing.state }
+    requires may { AreDoable tables.now (M.told m.old) store session.now.standing.state (act ∷ []) }
     ensures load { IfOk result (λ next. next.load ≡ store.load) }
     ensures kept { (s : State) → Keeps tables.now (M.told m.old) store s
-        → IfOk result (λ next. Keeps tables.now (M.told m.new) next (state_after s (output_steps tables.now (output_of session.now.state act)))) }
+        → IfOk result (λ next. Keeps tables.now (M.told m.new) next (state_after s (output_steps tables.now (output_of session.now.standing.state act)))) }
     ensures puts { (s : State) → Keeps tables.now (M.told m.old) store s
-        → Puts (λ port. port) result tables.now store.load s (output_steps tables.now (output_of session.now.state act)) (M.told m.old) (M.told m.new) }
+        → Puts (λ port. port) result tables.now store.load s (output_steps tables.now (output_of session.now.standing.state act)) (M.told m.old) (M.told m.new) }
 {
     match act {
         Act::Say(line) => match show_line(m, line.text(tables).as_bytes()) {
@@ -93,12 +93,12 @@ fn tell<M: Machine>(
     requires line { IsLine tables.now line }
     requires devices { AreDevices (M.told m.old).sizes }
     requires load { IsLoadedWith tables.now roll.now store.load }
-    requires state { IsStateOf tables.now store.load.section.voters session.now.state }
-    requires below { IsBelow tables.now (M.told m.old) store session.now.state }
+    requires state { IsStateOf tables.now store.load.section.voters session.now.standing.state }
+    requires below { IsBelow tables.now (M.told m.old) store session.now.standing.state }
     ensures load { IfOk result (λ next. next.load ≡ store.load) }
-    ensures kept { IfOk result (λ next. Keeps tables.now (M.told m.new) next session.now.state) }
+    ensures kept { IfOk result (λ next. Keeps tables.now (M.told m.new) next session.now.standing.state) }
     ensures puts { (s : State) → Keeps tables.now (M.told m.old) store s
-        → Puts (λ port. port) result tables.now store.load s (telling session.now.state (line_text tables.now line)) (M.told m.old) (M.told m.new) }
+        → Puts (λ port. port) result tables.now store.load s (telling session.now.standing.state (line_text tables.now line)) (M.told m.old) (M.told m.new) }
 {
     let store = match store.commit(tables, m, session.state()) {
         Ok(store) => store,

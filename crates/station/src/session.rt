@@ -4,7 +4,8 @@ ghost use Rattle.election_tables.specs.TablesData.{IsTables, places_of};
 ghost use Rattle.key_script.specs.Event.{IsClerkKey, IsEvent, IsKey};
 ghost use Rattle.vote_kinds.specs.Ballot.{ballot_lines};
 ghost use Rattle.image_codec.specs.State.{AreFirst, MayVote};
-ghost use Rattle.station.specs.Setting.{reply_at, setting_of};
+ghost use Rattle.station.specs.Session.{FitsLine};
+ghost use Rattle.station.specs.Setting.{Setting, reply_at, setting_of};
 ghost use Rattle.station.specs.Run.{after_suspension, suspension};
 ghost use Rattle.station.specs.Press.{answered, goes_on, idle_at, press, title_of, typed};
 ghost use Rattle.station.specs.Acts.{act_of};
@@ -12,31 +13,36 @@ ghost use Rattle.station.specs.Valid.{IsAnswer, IsStanding};
 
 use crate::act::Act;
 use crate::line::{Line, Title};
-use crate::visit::{Choices, fill_up, panel_of_line, take_key};
+use crate::panel::OpenPanel;
+use crate::visit::{Choices, fill_up, panel_of_line};
 use arrayvec::ArrayVec;
 use clerk_term::{ClerkAnswer, Mode, reply};
 use election_tables::{Roll, Tables};
 use image_codec::State;
 use key_script::{ClerkKey, Event, Key};
 use std::marker::Model;
-use vote_kinds::Field;
+use vote_kinds::office_digits;
 use voter_term::Shown;
 
-/// Both terminals over the state of one poll, in memory. Contracts see a session as a `Standing` (`specs/Press.antt`).
+/// Both terminals over the state of one poll, in memory. Contracts see a session as `SessionData` (`specs/Session.antt`).
 #[derive(Drop)]
 pub struct Session {
     state: State,
     mode: Mode,
     choices: Choices,
-    field: Field,
+    panel: OpenPanel,
 }
 
 impl Model for Session {
-    ghost use Rattle.station.specs.Press.{Standing};
+    ghost use Rattle.station.specs.Session.{SessionData};
+    ghost use Rattle.station.specs.Terminal.{digits_in, field_in};
 
-    ghost Value = { Standing };
+    ghost Value = { SessionData };
 
-    ghost view = { λ s. record { state = s.state; mode = s.mode; choices = s.choices.items; field = s.field } };
+    ghost view = { λ s. record {
+      standing = record { state = s.state; mode = s.mode; choices = s.choices.items; field = field_in s.panel };
+      digits = digits_in s.panel;
+    } };
 }
 
 /// What one event asks to be done, in order.
@@ -62,26 +68,26 @@ fn two(first: Act, second: Act) -> Acts
 impl Session {
     /// Nobody is at the station.
     pub(crate) fn of(state: State) -> Session
-        ensures { result ≡ idle_at state }
+        ensures { result.standing ≡ idle_at state }
     {
         Session {
             state,
             mode: Mode::Idle,
             choices: Choices::new(),
-            field: Field::Empty,
+            panel: OpenPanel::of(2),
         }
     }
 
     /// The state of the poll.
     pub(crate) fn state(&self) -> &State
-        ensures { result.now ≡ self.now.state }
+        ensures { result.now ≡ self.now.standing.state }
     {
         &self.state
     }
 
     /// Who is at the station.
     pub(crate) fn mode(&self) -> Mode
-        ensures { result ≡ self.now.mode }
+        ensures { result ≡ self.now.standing.mode }
     {
         self.mode
     }
@@ -89,9 +95,11 @@ impl Session {
     /// One event.
     pub(crate) fn take_event(&mut self, tables: &Tables, roll: &Roll, event: Event) -> Acts
         requires event { IsEvent event }
-        requires stands { IsStanding (setting_of tables.now roll.now.titles) self.old }
-        ensures standing { self.new ≡ (press (setting_of tables.now roll.now.titles) self.old event).standing }
-        ensures acts { result.items ≡ map act_of (press (setting_of tables.now roll.now.titles) self.old event).out }
+        requires stands { IsStanding (setting_of tables.now roll.now.titles) self.old.standing }
+        requires panel { FitsLine (setting_of tables.now roll.now.titles) self.old.standing self.old.digits }
+        ensures standing { self.new.standing ≡ (press (setting_of tables.now roll.now.titles) self.old.standing event).standing }
+        ensures panel { FitsLine (setting_of tables.now roll.now.titles) self.new.standing self.new.digits }
+        ensures acts { result.items ≡ map act_of (press (setting_of tables.now roll.now.titles) self.old.standing event).out }
         ensures tables { IsTables tables.now }
     {
         let _panels = tables.panels();
@@ -106,9 +114,9 @@ impl Session {
 
     /// What a key of the clerk does, which may be acted on.
     fn answer(&self, tables: &Tables, roll: &Roll, key: ClerkKey) -> ClerkAnswer
-        requires { IsStanding (setting_of tables.now roll.now.titles) self.now }
-        ensures value { result ≡ reply_at (setting_of tables.now roll.now.titles) self.now.state self.now.mode key }
-        ensures may { IsAnswer (setting_of tables.now roll.now.titles) self.now.state self.now.choices key result }
+        requires { IsStanding (setting_of tables.now roll.now.titles) self.now.standing }
+        ensures value { result ≡ reply_at (setting_of tables.now roll.now.titles) self.now.standing.state self.now.standing.mode key }
+        ensures may { IsAnswer (setting_of tables.now roll.now.titles) self.now.standing.state self.now.standing.choices key result }
     {
         let _panels = tables.panels();
         reply(
@@ -123,9 +131,11 @@ impl Session {
     /// A key of the voter.
     fn typed(&mut self, tables: &Tables, roll: &Roll, key: Key) -> Acts
         requires key { IsKey key }
-        requires stands { IsStanding (setting_of tables.now roll.now.titles) self.old }
-        ensures standing { self.new ≡ (typed (setting_of tables.now roll.now.titles) self.old.state self.old.mode self.old.choices self.old.field key).standing }
-        ensures acts { result.items ≡ map act_of (typed (setting_of tables.now roll.now.titles) self.old.state self.old.mode self.old.choices self.old.field key).out }
+        requires stands { IsStanding (setting_of tables.now roll.now.titles) self.old.standing }
+        requires panel { FitsLine (setting_of tables.now roll.now.titles) self.old.standing self.old.digits }
+        ensures standing { self.new.standing ≡ (typed (setting_of tables.now roll.now.titles) self.old.standing.state self.old.standing.mode self.old.standing.choices self.old.standing.field key).standing }
+        ensures panel { FitsLine (setting_of tables.now roll.now.titles) self.new.standing self.new.digits }
+        ensures acts { result.items ≡ map act_of (typed (setting_of tables.now roll.now.titles) self.old.standing.state self.old.standing.mode self.old.standing.choices self.old.standing.field key).out }
     {
         let Mode::Voting(place) = self.mode else {
             return Acts::new();
@@ -133,13 +143,12 @@ impl Session {
         let Some(panel) = panel_of_line(tables, self.choices.len()) else {
             return Acts::new();
         };
-        let (next, shown) = take_key(tables, panel, self.field, key);
-        match shown {
+        match self.panel.key(tables, panel, key) {
             Shown::Nothing => Acts::new(),
-            Shown::Screen => {
-                self.field = next;
-                one(Act::Say(Line::Screen { panel, field: next }))
-            }
+            Shown::Screen => one(Act::Say(Line::Screen {
+                panel,
+                field: self.panel.field(),
+            })),
             Shown::Voted(choice) => {
                 self.choices.push(choice);
                 one(self.goes_on(tables, roll, place))
@@ -150,10 +159,12 @@ impl Session {
     /// A key of the clerk, with its answer.
     fn answered(&mut self, tables: &Tables, roll: &Roll, key: ClerkKey, answer: ClerkAnswer) -> Acts
         requires key { IsClerkKey key }
-        requires stands { IsStanding (setting_of tables.now roll.now.titles) self.old }
-        requires answer { IsAnswer (setting_of tables.now roll.now.titles) self.old.state self.old.choices key answer }
-        ensures standing { self.new ≡ (answered (setting_of tables.now roll.now.titles) self.old key answer).standing }
-        ensures acts { result.items ≡ map act_of (answered (setting_of tables.now roll.now.titles) self.old key answer).out }
+        requires stands { IsStanding (setting_of tables.now roll.now.titles) self.old.standing }
+        requires panel { FitsLine (setting_of tables.now roll.now.titles) self.old.standing self.old.digits }
+        requires answer { IsAnswer (setting_of tables.now roll.now.titles) self.old.standing.state self.old.standing.choices key answer }
+        ensures standing { self.new.standing ≡ (answered (setting_of tables.now roll.now.titles) self.old.standing key answer).standing }
+        ensures panel { FitsLine (setting_of tables.now roll.now.titles) self.new.standing self.new.digits }
+        ensures acts { result.items ≡ map act_of (answered (setting_of tables.now roll.now.titles) self.old.standing key answer).out }
     {
         match answer {
             ClerkAnswer::Refused(number) => one(Act::Say(Line::Refused(number))),
@@ -197,16 +208,17 @@ impl Session {
 
     /// Calls the next line of the ballot, or ends the visit.
     fn goes_on(&mut self, tables: &Tables, roll: &Roll, place: u32) -> Act
-        requires voter { MayVote self.old.state place }
-        requires choices { AreFirst (ballot_lines tables.now) self.old.choices }
-        requires roll { length self.old.state.came ≡ length roll.now.titles }
-        requires places { self.old.state.places ≡ places_of tables.now }
-        ensures standing { self.new ≡ (goes_on (setting_of tables.now roll.now.titles) self.old.state place self.old.choices).standing }
-        ensures act { result ∷ [] ≡ map act_of (goes_on (setting_of tables.now roll.now.titles) self.old.state place self.old.choices).out }
+        requires voter { MayVote self.old.standing.state place }
+        requires choices { AreFirst (ballot_lines tables.now) self.old.standing.choices }
+        requires roll { length self.old.standing.state.came ≡ length roll.now.titles }
+        requires places { self.old.standing.state.places ≡ places_of tables.now }
+        ensures standing { self.new.standing ≡ (goes_on (setting_of tables.now roll.now.titles) self.old.standing.state place self.old.standing.choices).standing }
+        ensures panel { FitsLine (setting_of tables.now roll.now.titles) self.new.standing self.new.digits }
+        ensures act { result ∷ [] ≡ map act_of (goes_on (setting_of tables.now roll.now.titles) self.old.standing.state place self.old.standing.choices).out }
     {
-        self.field = Field::Empty;
         match panel_of_line(tables, self.choices.len()) {
             Some(panel) => {
+                self.panel = OpenPanel::of(office_digits(tables, panel));
                 self.mode = Mode::Voting(place);
                 Act::Say(Line::Ballot {
                     number: panel + 1,
@@ -223,12 +235,13 @@ impl Session {
 
     /// Ends the visit of a voter who is suspended.
     fn suspends(&mut self, tables: &Tables, roll: &Roll, place: u32) -> Act
-        requires voter { MayVote self.old.state place }
-        requires choices { AreFirst (ballot_lines tables.now) self.old.choices }
-        requires roll { length self.old.state.came ≡ length roll.now.titles }
-        requires places { self.old.state.places ≡ places_of tables.now }
-        ensures standing { self.new ≡ idle_at (after_suspension (setting_of tables.now roll.now.titles) self.old.state place self.old.choices) }
-        ensures act { result ≡ act_of (suspension (setting_of tables.now roll.now.titles) self.old.state place self.old.choices) }
+        requires voter { MayVote self.old.standing.state place }
+        requires choices { AreFirst (ballot_lines tables.now) self.old.standing.choices }
+        requires roll { length self.old.standing.state.came ≡ length roll.now.titles }
+        requires places { self.old.standing.state.places ≡ places_of tables.now }
+        ensures standing { self.new.standing ≡ idle_at (after_suspension (setting_of tables.now roll.now.titles) self.old.standing.state place self.old.standing.choices) }
+        ensures panel { FitsLine (setting_of tables.now roll.now.titles) self.new.standing self.new.digits }
+        ensures act { result ≡ act_of (suspension (setting_of tables.now roll.now.titles) self.old.standing.state place self.old.standing.choices) }
     {
         if self.choices.is_empty() {
             self.rests();
@@ -240,13 +253,14 @@ impl Session {
         Act::Commit(Line::Ended)
     }
 
-    /// Nobody is at the station.
+    /// Nobody is at the station. The panel is an empty one; no key reaches it.
     fn rests(&mut self)
-        ensures { self.new ≡ idle_at self.old.state }
+        ensures standing { self.new.standing ≡ idle_at self.old.standing.state }
+        ensures panel { (v : Setting) → FitsLine v self.new.standing self.new.digits }
     {
         self.mode = Mode::Idle;
         self.choices.clear();
-        self.field = Field::Empty;
+        self.panel = OpenPanel::of(2);
     }
 }
 

@@ -55,7 +55,7 @@ impl Model for Station {
 
     ghost Value = { StationData };
 
-    ghost view = { λ s. record { standing = s.session; store = s.store } };
+    ghost view = { λ s. record { standing = s.session.standing; digits = s.session.digits; store = s.store } };
 }
 
 impl Station {

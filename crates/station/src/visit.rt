@@ -1,15 +1,11 @@
 //! The lines of a ballot in a visit.
-ghost use Rattle.std.specs.Prelude.{◌≡◌, ◌<◌, ◌≤◌, ◌-◌, ◌++◌, None, IfSome, length, option_map, replicate, slice_get};
+ghost use Rattle.std.specs.Prelude.{◌≡◌, ◌<◌, ◌≤◌, ◌-◌, ◌++◌, IfSome, length, option_map, replicate, slice_get};
 ghost use Rattle.vote_kinds.specs.declared.choice.Choice.TheVariants.{Null};
-ghost use Rattle.key_script.specs.Event.{IsKey};
-ghost use Rattle.vote_kinds.specs.Ballot.{IsField, ballot_lines, line_of};
-ghost use Rattle.voter_term.specs.Panel.{next_field, next_shown};
+ghost use Rattle.vote_kinds.specs.Ballot.{ballot_lines, line_of};
 
 use arrayvec::ArrayVec;
 use election_tables::Tables;
-use key_script::Key;
-use vote_kinds::{Choice, Field, office_digits};
-use voter_term::{Panel, Shown};
+use vote_kinds::Choice;
 
 /// The choices of a visit so far, one for each line of the ballot that was confirmed.
 pub type Choices = ArrayVec<Choice, 9>;
@@ -25,35 +21,6 @@ pub(crate) fn panel_of_line(tables: &Tables, number: usize) -> Option<u32>
     } else {
         None
     }
-}
-
-/// One key on a panel with this field: the field after it, and what the key does. The panel is one for the digits of its office.
-pub(crate) fn take_key(tables: &Tables, panel: u32, field: Field, key: Key) -> (Field, Shown)
-    requires panel { panel < length tables.now.panels }
-    requires key { IsKey key }
-    requires field { IsField (line_of tables.now panel).digits field }
-    ensures field { result.0 ≡ next_field (line_of tables.now panel).digits field key }
-    ensures shown { result.1 ≡ next_shown (line_of tables.now panel) None field key }
-{
-    match office_digits(tables, panel) {
-        2 => take_key_of::<2>(tables, panel, field, key),
-        3 => take_key_of::<3>(tables, panel, field, key),
-        4 => take_key_of::<4>(tables, panel, field, key),
-        _ => take_key_of::<5>(tables, panel, field, key),
-    }
-}
-
-fn take_key_of<const CAP: u8>(tables: &Tables, panel: u32, field: Field, key: Key) -> (Field, Shown)
-    requires panel { panel < length tables.now.panels }
-    requires digits { (line_of tables.now panel).digits ≡ CAP }
-    requires key { IsKey key }
-    requires field { IsField CAP field }
-    ensures field { result.0 ≡ next_field CAP field key }
-    ensures shown { result.1 ≡ next_shown (line_of tables.now panel) None field key }
-{
-    let mut standing = Panel::<CAP>::with(field);
-    let shown = standing.key(tables, panel, key);
-    (standing.field(), shown)
 }
 
 /// Adds Null until there is a choice for so many lines.

@@ -1,10 +1,9 @@
 -- Look-ups in the tables, as the lines of the ballot see them
-use Rattle.std.proofs.Common.{◌≡◌, ℕ, ◌+◌, ◌≤◌, nat_le, ◌||◌, zero, suc, Bool, true, false, cond, List, [], ◌∷◌, map, length, replicate, slice_get, Option, Some, None, option_map, unwrap_or, nat_eq, find, is_some, Bor, option_copied, refl, sym, ap, subst, ◌∙◌, inl, inr, arith}
+use Rattle.std.proofs.Common.{◌≡◌, ℕ, ◌+◌, ◌≤◌, ◌||◌, zero, suc, Bool, true, false, cond, List, [], ◌∷◌, map, length, replicate, slice_get, Option, Some, None, option_map, unwrap_or, nat_eq, find, is_some, Bor, option_copied, refl, sym, ap, subst, ◌∙◌, inl, inr, arith}
 use Rattle.std.specs.List.{flat_map, list_any, All}
 use Rattle.std.proofs.lemmas.Option.{slice_get_cases}
 use Rattle.election_tables.proofs.Kept.{code_digits-range}
 use Rattle.std.specs.Option.{option_map_or}
-use Rattle.std.proofs.lemmas.Bool.{eqb-true, leb-true}
 use Rattle.std.proofs.lemmas.Bool.Decides.{nat_tests}
 use Rattle.election_tables.specs.declared.office.Office.{Office}
 use Rattle.election_tables.specs.declared.tables.panels.Panel.{Panel}

@@ -53,14 +53,6 @@ impl<const CAP: u8> Panel<CAP> {
         }
     }
 
-    /// The panel with this field. The caller owes that it has at most CAP digits.
-    pub fn with(field: Field) -> Panel<CAP>
-        requires { IsField CAP field }
-        ensures { result ≡ field }
-    {
-        Panel { field }
-    }
-
     /// What stands typed in the panel.
     pub fn field(&self) -> Field
         ensures field { result ≡ self.now }

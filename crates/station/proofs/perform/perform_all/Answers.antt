@@ -17,12 +17,12 @@ use Rattle.station.proofs.perform.perform_all.Goals as goal
 
 pub loop-act-init : goal.loop-act-init
 loop-act-init g c =
-    acts_begin c.args.tables.now c.args.roll.now c.args.session.now.state c.args.store c.args.acts.now (g.M.Machine.told c.args.m.now) c.requires.load c.requires.state c.requires.devices c.requires.may
+    acts_begin c.args.tables.now c.args.roll.now c.args.session.now.standing.state c.args.store c.args.acts.now (g.M.Machine.told c.args.m.now) c.requires.load c.requires.state c.requires.devices c.requires.may
 
 pub returns-in-Err-clause-puts : goal.returns-in-Err-clause-puts
 returns-in-Err-clause-puts g c s kept =
     let t = c.args.tables.now in
-    let u = c.args.session.now.state in
+    let u = c.args.session.now.standing.state in
     let acts = c.args.acts.now in
     let i = c.loop-act.act-index in
     let act = get_or acts i (Say (line.Poll phase.Ready 0)) in
@@ -39,7 +39,7 @@ returns-in-Err-clause-puts g c s kept =
 pub loop-act-preserved : goal.loop-act-preserved
 loop-act-preserved g c =
     let t = c.args.tables.now in
-    let u = c.args.session.now.state in
+    let u = c.args.session.now.standing.state in
     acts_go_on t c.args.roll.now u c.args.store c.loop-act.store c.in-Ok.store c.args.acts.now c.loop-act.act-index (Say (line.Poll phase.Ready 0)) (g.M.Machine.told c.args.m.now) (g.M.Machine.told c.loop-act.m) (g.M.Machine.told c.perform.new.m)
     c.loop-act-test.true c.loop-act.invariant c.in-Ok.ensures.load c.in-Ok.ensures.kept c.in-Ok.ensures.puts
 
@@ -47,12 +47,12 @@ pub returns-clause-kept : goal.returns-clause-kept
 returns-clause-kept g c s kept =
     let acts = c.args.acts.now in
     let all = take_all c.loop-act.act-index acts (omega arith) in
-    subst (λ (l : List Act). Keeps c.args.tables.now (g.M.Machine.told c.loop-act.m) c.loop-act.store (state_after s (session_steps c.args.tables.now (outputs_of c.args.session.now.state l)))) all
+    subst (λ (l : List Act). Keeps c.args.tables.now (g.M.Machine.told c.loop-act.m) c.loop-act.store (state_after s (session_steps c.args.tables.now (outputs_of c.args.session.now.standing.state l)))) all
     (c.loop-act.invariant.kept s kept)
 
 pub returns-clause-puts : goal.returns-clause-puts
 returns-clause-puts g c s kept =
     let acts = c.args.acts.now in
     let all = take_all c.loop-act.act-index acts (omega arith) in
-    subst (λ (l : List Act). HasPut c.args.tables.now c.args.store.load s (session_steps c.args.tables.now (outputs_of c.args.session.now.state l)) (g.M.Machine.told c.args.m.now) (g.M.Machine.told c.loop-act.m)) all
+    subst (λ (l : List Act). HasPut c.args.tables.now c.args.store.load s (session_steps c.args.tables.now (outputs_of c.args.session.now.standing.state l)) (g.M.Machine.told c.args.m.now) (g.M.Machine.told c.loop-act.m)) all
     (c.loop-act.invariant.put s kept)

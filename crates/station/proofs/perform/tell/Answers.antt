@@ -23,7 +23,7 @@ returns-in-Err-clause-puts g c s kept =
     let b = g.M.Machine.told c.commit.new.m in
     let line = line_text t c.args.line in
     let stopped = stopped_commit t load s c.state.result.now line c.in-Err.dev a b (c.commit.ensures.ran s kept) c.in-Err.ensures.fails in
-    subst (λ (p : Port). HasStopped t load s (telling c.args.session.now.state line) p a b) (sym c.port_of.ensures)
+    subst (λ (p : Port). HasStopped t load s (telling c.args.session.now.standing.state line) p a b) (sym c.port_of.ensures)
     (subst (λ (u : State). HasStopped t load s (telling u line) (port_of c.in-Err.dev) a b) c.state.ensures stopped)
 
 pub returns-in-Ok-show_line-clause-puts : goal.returns-in-Ok-show_line-clause-puts

@@ -2,7 +2,7 @@ use Rattle.std.proofs.Common.{◌≡◌, List, length, slice_get, option_map, No
 use Rattle.vote_kinds.specs.declared.choice.Choice.{Choice}
 use Rattle.vote_kinds.specs.Ballot.{ballot_lines, line_of}
 use Rattle.image_codec.specs.State.{IsBallot}
-use Rattle.station.specs.Press.{Standing}
+use Rattle.station.specs.Session.{SessionData}
 use Rattle.station.proofs.Choosing.{first_all}
 use Rattle.station.proofs.session.Session.goes_on.Goals as goal
 
@@ -10,8 +10,8 @@ pub ballot-requires-clause-ballot : goal.ballot-requires-clause-ballot
 ballot-requires-clause-ballot c =
     let t = c.args.tables.now in
     let lines = ballot_lines t in
-    let choices = c.args.self.now.choices in
-    let held : c.self.inside.choices.items ≡ choices = ap (λ (x : Standing). x.choices) c.self.view_is in
+    let choices = c.args.self.now.standing.choices in
+    let held : c.self.inside.choices.items ≡ choices = ap (λ (x : SessionData). x.standing.choices) c.self.view_is in
     let at : slice_get lines (length choices) ≡ None =
     ap (slice_get lines) (sym (c.len.ensures.value ∙ ap length held)) ∙ (sym c.panel_of_line.ensures.line ∙ ap (option_map (line_of t)) c.in-None.is) in
     subst (λ (cs : List Choice). IsBallot lines cs) (sym (c.deref.ensures.0 ∙ held)) (first_all lines choices c.requires.choices at)

@@ -5,7 +5,8 @@ use Rattle.vote_kinds.specs.Ballot.{ballot_lines}
 use Rattle.vote_kinds.proofs.Lookups.{lines_length}
 use Rattle.image_codec.specs.State.{IsBallot, filled_up, with_ballot}
 use Rattle.station.specs.Setting.{setting_of}
-use Rattle.station.specs.Press.{Standing, idle_at}
+use Rattle.station.specs.Press.{idle_at}
+use Rattle.station.specs.Session.{SessionData}
 use Rattle.station.proofs.Choosing.{first_filled}
 use Rattle.station.proofs.Typing.{came_suspended}
 use Rattle.station.proofs.session.Session.suspends.Goals as goal
@@ -13,8 +14,8 @@ use Rattle.station.proofs.session.Session.suspends.Goals as goal
 pub ballot-requires-clause-ballot : goal.ballot-requires-clause-ballot
 ballot-requires-clause-ballot c =
     let lines = ballot_lines c.args.tables.now in
-    let choices = c.args.self.now.choices in
-    let held : c.self.inside.choices.items ≡ choices = ap (λ (x : Standing). x.choices) c.self.view_is in
+    let choices = c.args.self.now.standing.choices in
+    let held : c.self.inside.choices.items ≡ choices = ap (λ (x : SessionData). x.standing.choices) c.self.view_is in
     let filled : c.fill_up.new.choices.items ≡ filled_up lines choices =
     c.fill_up.ensures ∙ (ap (λ (cs : List Choice). cs ++ replicate (c.panels.result - length cs) Null) held
     ∙ ap (λ (n : ℕ). choices ++ replicate (n - length choices) Null) (c.panels.ensures.count ∙ sym (lines_length c.args.tables.now))) in
@@ -25,14 +26,14 @@ returns-clause-standing c =
     let t = c.args.tables.now in
     let v = setting_of t c.args.roll.now.titles in
     let lines = ballot_lines t in
-    let x = c.args.self.now in
+    let x = c.args.self.now.standing in
     let place = c.args.place in
-    let held : c.self.inside.choices.items ≡ x.choices = ap (λ (y : Standing). y.choices) c.self.view_is in
+    let held : c.self.inside.choices.items ≡ x.choices = ap (λ (y : SessionData). y.standing.choices) c.self.view_is in
     let filled : c.fill_up.new.choices.items ≡ filled_up lines x.choices =
     c.fill_up.ensures ∙ (ap (λ (cs : List Choice). cs ++ replicate (c.panels.result - length cs) Null) held
     ∙ ap (λ (n : ℕ). x.choices ++ replicate (n - length x.choices) Null) (c.panels.ensures.count ∙ sym (lines_length t))) in
     let some : nat_eq (length x.choices) 0 ≡ false = ap (λ (cs : List Choice). nat_eq (length cs) 0) (sym held) ∙ sym c.if-is_empty.ensures in
-    c.rests-2.ensures ∙ ap idle_at (c.ballot.ensures
+    c.rests-2.ensures.standing ∙ ap idle_at (c.ballot.ensures
     ∙ (ap (with_ballot lines c.self.inside.state place) (c.deref.ensures.0 ∙ filled)
-    ∙ (ap (λ (y : Standing). with_ballot lines y.state place (filled_up lines x.choices)) c.self.view_is
+    ∙ (ap (λ (y : SessionData). with_ballot lines y.standing.state place (filled_up lines x.choices)) c.self.view_is
     ∙ sym (came_suspended v x.state place x.choices some))))

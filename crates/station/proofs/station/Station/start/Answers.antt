@@ -26,8 +26,8 @@ returns-in-Ok-show_line-clause-stationed g c =
     let count = c.len.ensures.count ∙ ap number_came c.turnout.ensures in
     let line = c.as_bytes.ensures.bytes ∙ c.text.ensures ∙ opening_line t s c.phase.result c.len.result c.phase.ensures.phase count in
     let shown = subst (λ (bytes : List ℕ). HasShown (bytes ∷ []) b end) line c.in-Ok-show_line.ensures in
-    subst (λ (x : Standing). IsStationed t r end (record { standing = x; store = c.in-Ok.found.0 })) (sym c.of.ensures)
-    (stationed t r c.in-Ok.found.0 s a b end c.in-Ok.ensures.loaded c.in-Ok.ensures.kept c.in-Ok.ensures.ran c.in-Ok.ensures.exact c.in-Ok.ensures.fine shown)
+    subst (λ (x : Standing). IsStationed t r end (record { standing = x; digits = c.of.result.digits; store = c.in-Ok.found.0 })) (sym c.of.ensures)
+    (stationed t r c.in-Ok.found.0 s a b end c.in-Ok.ensures.loaded c.in-Ok.ensures.kept c.in-Ok.ensures.ran c.in-Ok.ensures.exact c.in-Ok.ensures.fine shown c.of.result.digits)
 
 pub returns-in-Ok-show_line-clause-started : goal.returns-in-Ok-show_line-clause-started
 returns-in-Ok-show_line-clause-started g c =
