@@ -7,7 +7,7 @@ use election_tables::Tables;
 use image_codec::State;
 use std::alloc::Global;
 use twin_image::Twin;
-use urna_base::Memory;
+use urna_base::{Memory, zeros};
 
 /// The bytes of a body.
 pub(crate) const BODY_SIZE: usize = 65_536;
@@ -30,19 +30,7 @@ impl Room {
         Ok(Room {
             twin: Twin::new(alloc)?,
             state: State::ready(alloc, tables, voters)?,
-            next: buffer(alloc)?,
+            next: zeros(alloc, BODY_SIZE)?,
         })
     }
-}
-
-// Where a next body is written: zeros, and memory for just them.
-fn buffer(alloc: Global) -> Result<Vec<u8>, Memory>
-    ensures { IfOk result (λ next. IsBuffer next.items (vec_capacity next)) }
-{
-    // one by one, since only these pushes tell that they take no memory more
-    let mut next = Vec::with_capacity(alloc, BODY_SIZE)?;
-    for _ in 0..BODY_SIZE {
-        next.push_reserved(0);
-    }
-    Ok(next)
 }

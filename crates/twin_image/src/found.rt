@@ -1,5 +1,5 @@
 // The body that both flashes hold, and the slots brought to it.
-ghost use Rattle.std.specs.Prelude.{◌≡◌, length};
+ghost use Rattle.std.specs.Prelude.{◌≡◌, length, vec_capacity};
 
 use crate::Level;
 use crate::mend::mend_twin;
@@ -12,6 +12,8 @@ pub struct Found<const SIZE: usize> {
     buffer: Vec<u8>,
     ghost whole: { length body.items ≡ SIZE },
     ghost buffered: { length buffer.items ≡ SIZE },
+    ghost body_room: { vec_capacity body ≡ SIZE },
+    ghost buffer_room: { vec_capacity buffer ≡ SIZE },
 }
 
 impl<const SIZE: usize> Found<SIZE> {
@@ -31,6 +33,8 @@ impl<const SIZE: usize> Found<SIZE> {
     pub(crate) fn of(body: Vec<u8>, buffer: Vec<u8>) -> Found<SIZE>
         requires body { length body.items ≡ SIZE }
         requires buffer { length buffer.items ≡ SIZE }
+        requires body_room { vec_capacity body ≡ SIZE }
+        requires buffer_room { vec_capacity buffer ≡ SIZE }
         ensures { found_body result ≡ body.items }
     {
         Found { body, buffer }

@@ -1,5 +1,5 @@
 // The same body in all four slots of two devices.
-ghost use Rattle.std.specs.Prelude.{◌≡◌, ◌≢◌, ◌≤◌, length, IfOk, IfErr, OnOk};
+ghost use Rattle.std.specs.Prelude.{◌≡◌, ◌≢◌, ◌≤◌, length, vec_capacity, IfOk, IfErr, OnOk};
 ghost use Rattle.std.specs.Option.{ForSome};
 ghost use Rattle.urna_outside.specs.Flash.{IsClean};
 ghost use Rattle.urna_outside.specs.Faults.{FailsAt};
@@ -17,12 +17,13 @@ use gate_slot::Live;
 use urna_outside::{Dev, Machine};
 
 /// All four slots are live with one body, whatever a power cut leaves: slots 0 and 1 of the internal flash, and those
-/// of the external one.
+/// of the external one. It has memory for just this body.
 #[derive(Drop)]
 pub struct Level<const SIZE: usize> {
     internal: (Live<SIZE>, Live<SIZE>),
     external: (Live<SIZE>, Live<SIZE>),
     body: Vec<u8>,
+    ghost room: { vec_capacity body ≡ SIZE },
 }
 
 // Renews the two slots of a device.
@@ -67,6 +68,7 @@ impl<const SIZE: usize> Level<SIZE> {
         external: (Live<SIZE>, Live<SIZE>),
         body: Vec<u8>,
     ) -> Level<SIZE>
+        requires room { vec_capacity body ≡ SIZE }
         ensures internal { result.internal ≡ internal.entry }
         ensures external { result.external ≡ external.entry }
         ensures body { body_of result ≡ body.items }

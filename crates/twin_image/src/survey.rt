@@ -1,5 +1,5 @@
 // The four slots are read, and the body that they hold is kept.
-ghost use Rattle.std.specs.Prelude.{◌≡◌, length, nat_lt, true};
+ghost use Rattle.std.specs.Prelude.{◌≡◌, length, nat_lt, true, vec_capacity};
 ghost use Rattle.std.specs.Option.{option_map_or};
 
 use crate::Ranked;
@@ -23,6 +23,8 @@ pub(crate) struct Best<const SIZE: usize> {
     pub(crate) buffer: Vec<u8>,
     ghost whole: { length body.items ≡ SIZE },
     ghost buffered: { length buffer.items ≡ SIZE },
+    ghost body_room: { vec_capacity body ≡ SIZE },
+    ghost buffer_room: { vec_capacity buffer ≡ SIZE },
 }
 
 // Whether a rank is greater than that of the best body.

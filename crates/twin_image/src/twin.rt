@@ -1,20 +1,22 @@
 // The four slots before anything is known of them.
-ghost use Rattle.std.specs.Prelude.{◌≡◌, length};
+ghost use Rattle.std.specs.Prelude.{◌≡◌, length, vec_capacity};
 
 use crate::lay::lay_on;
 use crate::survey::Best;
 use crate::{Found, Level, Ranked, SurveyError};
 use std::alloc::Global;
-use urna_base::Memory;
+use urna_base::{Memory, zeros};
 use urna_outside::{Dev, Machine};
 
-/// The buffers of a survey and of all that follows it.
+/// The buffers of a survey and of all that follows it: two bodies, with memory for just them.
 #[derive(Drop)]
 pub struct Twin<const SIZE: usize> {
     body: Vec<u8>,
     buffer: Vec<u8>,
     ghost whole: { length body.items ≡ SIZE },
     ghost buffered: { length buffer.items ≡ SIZE },
+    ghost body_room: { vec_capacity body ≡ SIZE },
+    ghost buffer_room: { vec_capacity buffer ≡ SIZE },
 }
 
 impl<const SIZE: usize> Twin<SIZE> {
@@ -30,12 +32,12 @@ impl<const SIZE: usize> Twin<SIZE> {
     ghost use Rattle.twin_image.specs.Slots.{HaveRoom, AreClean};
     ghost use Rattle.twin_image.specs.Survey.{SurveyEnds};
 
-    /// Makes the buffers: two bodies of SIZE bytes. No later call takes memory. `Memory` comes only where an
-    /// allocation failed.
+    /// Makes the buffers: two bodies of SIZE bytes. What is made of them later keeps them as they are, with memory for no more.
+    /// `Memory` comes only where an allocation failed.
     pub fn new(alloc: Global) -> Result<Twin<SIZE>, Memory> {
         Ok(Twin {
-            body: vec![in alloc; 0; SIZE]?,
-            buffer: vec![in alloc; 0; SIZE]?,
+            body: zeros(alloc, SIZE)?,
+            buffer: zeros(alloc, SIZE)?,
         })
     }
 

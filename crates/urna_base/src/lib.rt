@@ -1,11 +1,12 @@
 //! Numbers as digits, dates and moments, big-endian numbers, lines, and the bytes of a shown line: the layer under
 //! every format. A crate above takes a text apart by `split_line`, reads by `digits` and `decimal`, prints by
-//! `put_digits`, `put_decimal` and `LineBuffer`, and cites `specs/Digits.antt` (what digits mean), `specs/Moment.antt`
-//! (dates and moments) and `specs/Lines.antt` (the lines of a text). That printing and reading undo each other is in
-//! `laws`.
+//! `put_digits`, `put_decimal` and `LineBuffer`, takes the memory of a buffer by `zeros`, and cites `specs/Digits.antt`
+//! (what digits mean), `specs/Moment.antt` (dates and moments) and `specs/Lines.antt` (the lines of a text). That
+//! printing and reading undo each other is in `laws`.
 #![tactic(auto)]
 
 mod be;
+mod buffer;
 pub mod laws;
 mod line;
 mod lines;
@@ -17,6 +18,7 @@ mod read;
 mod tests;
 
 pub use be::{be32, be64, put_be32, put_be64};
+pub use buffer::zeros;
 pub use line::LineBuffer;
 pub use lines::split_line;
 pub use memory::Memory;

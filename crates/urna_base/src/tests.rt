@@ -3,6 +3,7 @@ ghost use Rattle.std.specs.Fmt.{decimal};
 ghost use Rattle.urna_base.specs.Digits.{padded};
 
 use super::*;
+use std::test::Fail;
 
 // A line of five pushes, as the layers above write them.
 #[tactic(auto, using(crate::proofs::DecimalLaws::line_lengths))]
@@ -92,4 +93,10 @@ fn lines_are_split_at_line_feeds(rt: HostRuntime) {
         }
     }
     assert!(rt; split_line(rest).is_none());
+}
+
+#[test]
+fn a_buffer_is_zeros(rt: HostRuntime) -> Result<(), Fail> {
+    assert_eq!(rt; zeros(rt.alloc(), 3)?.as_slice(), [0, 0, 0].as_slice());
+    Ok(())
 }
