@@ -2,6 +2,7 @@ ghost use Rattle.std.specs.Prelude.{◌≡◌, ◌<◌, ◌^◌};
 ghost use Rattle.urna_outside.specs.Told.{silent_told};
 
 use crate::counters::Counters;
+use crate::file_lock::FileLock;
 use crate::flash_files::FlashFiles;
 use crate::{Dev, Failed, Machine, Port};
 use std::io;
@@ -12,8 +13,9 @@ use std::rt::Files;
 /// folder, and standard output as the display. It tells nothing but its sizes and its counts of faults. What files and
 /// terminal do is trusted.
 ///
-/// A file is made of zeros at the first read, write or sync of its device, where it is missing. A file that can't be
-/// opened or made, or that has another length than the device, is a fault of the device at each call.
+/// A file is opened and locked at the first read, write or sync of its device, and made of zeros where nothing has its
+/// name. A file that can't be opened, locked or made, or that has another length than the device, is a fault of the
+/// device at each call.
 #[derive(Drop)]
 pub struct FileMachine<'a, R: Files> {
     rt: &'a R,
@@ -23,7 +25,10 @@ pub struct FileMachine<'a, R: Files> {
     ghost bounded: { size < 2 ^ 32 },
 }
 
-impl<'a, R: Files + Print> FileMachine<'a, R> {
+impl<'a, R: Files + Print> FileMachine<'a, R>
+where
+    R::File: FileLock,
+{
     ghost use Rattle.urna_outside.specs.Counters.{no_faults};
     ghost use Rattle.urna_outside.specs.FileMachine.{file_told};
 
@@ -48,7 +53,10 @@ fn write_out<R: Print>(rt: &R, bytes: &[u8]) -> io::Result<()> {
     out.flush()
 }
 
-impl<'a, R: Files + Print> Machine for FileMachine<'a, R> {
+impl<'a, R: Files + Print> Machine for FileMachine<'a, R>
+where
+    R::File: FileLock,
+{
     ghost use Rattle.urna_outside.specs.FileMachine.{file_told};
     ghost use Rattle.urna_outside.specs.MachineLaws.{none_sized, file_bounded};
 

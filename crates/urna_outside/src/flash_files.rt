@@ -1,5 +1,7 @@
-// Two flash devices as files of the working folder. Each is opened at the first call on it, and made where it is missing.
+// Two flash devices as files of the working folder. Each is opened and locked at the first call on it, and made where it
+// is missing.
 use crate::Dev;
+use crate::file_lock::FileLock;
 use crate::flash_file::FlashFile;
 use std::fs::OpenFile;
 use std::io;
@@ -12,7 +14,7 @@ pub(crate) struct FlashFiles<F> {
     external: Option<FlashFile<F>>,
 }
 
-impl<F: Read + Write + Seek + OpenFile + Drop> FlashFiles<F> {
+impl<F: Read + Write + Seek + OpenFile + FileLock + Drop> FlashFiles<F> {
     pub(crate) fn new() -> FlashFiles<F> {
         FlashFiles {
             internal: None,

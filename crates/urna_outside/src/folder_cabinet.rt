@@ -1,5 +1,6 @@
 ghost use Rattle.std.specs.Prelude.{◌≡◌, ◌≢◌, ◌↔◌, ◌≤◌, IfOk, None, IsErrOf, vec_len};
 
+use crate::file_lock::above_streams;
 use crate::take_counts::TakeCounts;
 use crate::{Cabinet, CabinetError};
 use std::alloc::Global;
@@ -66,9 +67,13 @@ fn read_file<R: Files>(
 ) -> Result<Vec<u8>, CabinetError>
     ensures { IfOk result (λ bytes. vec_len bytes ≤ limit) }
 {
-    let file = match fs::open(rt, name) {
-        Ok(file) => file,
+    let opened = match fs::open(rt, name) {
+        Ok(opened) => opened,
         Err(error) => return Err(error_of_open(error.kind())),
+    };
+    let file = match above_streams(opened) {
+        Ok(file) => file,
+        Err(error) => return Err(error_of_read(error.kind())),
     };
     let mut bytes = Vec::new(alloc);
     if let Err(error) = file.take(u64::from(limit) + 1).read_to_end(&mut bytes) {

@@ -15,7 +15,10 @@ mod chip;
 mod chips;
 mod counters;
 mod device;
+mod file_lock;
 mod file_machine;
+#[cfg(test)]
+mod file_tests;
 mod flash_file;
 mod flash_files;
 mod folder_cabinet;
@@ -31,9 +34,12 @@ mod tape;
 mod tear;
 #[cfg(test)]
 mod tests;
+#[cfg(test)]
+mod watched;
 
 pub use cabinet::{Cabinet, CabinetError};
 pub use device::{Dev, Failed, Port};
+pub use file_lock::FileLock;
 pub use file_machine::FileMachine;
 pub use folder_cabinet::FolderCabinet;
 pub use machine::Machine;

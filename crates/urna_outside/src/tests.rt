@@ -379,22 +379,29 @@ fn a_file_machine_makes_no_file_before_an_operation_on_it(rt: HostRuntime) -> Re
     Ok(())
 }
 
-#[test]
-fn another_machine_reads_what_was_written_to_the_files(rt: HostRuntime) -> Result<(), Fail> {
-    let mut first = FileMachine::new(&rt, 16);
+// A first machine writes, and ends.
+fn write_both(rt: &HostRuntime) -> Result<(), Failed> {
+    let mut first = FileMachine::new(rt, 16);
     first.write(Dev::Internal, 3, &[1, 2, 3])?;
     first.write(Dev::External, 12, &[4, 5, 6, 7])?;
     first.write(Dev::Internal, 4, &[8])?;
     first.sync(Dev::Internal)?;
     first.sync(Dev::External)?;
-    first.sync(Dev::Internal)?;
-    let mut second = FileMachine::new(&rt, 16);
+    first.sync(Dev::Internal)
+}
+
+#[test]
+fn another_machine_reads_what_was_written_to_the_files(rt: HostRuntime) -> Result<(), Fail> {
+    write_both(&rt)?;
     let mut internal = [9; 6];
     let mut external = [9; 4];
-    let reads = [
-        second.read(Dev::Internal, 2, &mut internal),
-        second.read(Dev::External, 12, &mut external),
-    ];
+    let reads = {
+        let mut second = FileMachine::new(&rt, 16);
+        [
+            second.read(Dev::Internal, 2, &mut internal),
+            second.read(Dev::External, 12, &mut external),
+        ]
+    };
     let mut longer = FileMachine::new(&rt, 17);
     let calls = [
         longer.read(Dev::Internal, 0, &mut [0]),
