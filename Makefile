@@ -9,8 +9,8 @@ list:
 	@echo "make demo         urna proved and built, and the example day on real files in out/demo: 20 minutes from nothing, then seconds"
 	@echo "make test         the gate, each proof from nothing, each edit that must be refused, each test and program: 35 minutes"
 	@echo "make check-house  names, sessions and lines of the documents and the sources: seconds"
-	@echo "make bench        how long sessions, commits and the reading of tables take, as ratios: 2 minutes behind a demo"
-	@echo "make crash-trial  sessions that are killed and go on, as many as TRIALS says: 2 minutes behind a demo"
+	@echo "make bench        how long sessions, commits and the reading of tables take, as ratios: a few minutes behind a demo"
+	@echo "make crash-trial  sessions that are killed and go on, as many as TRIALS says: a few minutes behind a demo"
 
 try:
 	@examples/try
@@ -32,4 +32,4 @@ crash-trial: urna
 
 # The program, proved and built where something has changed.
 urna:
-	@tests/build urna_app
+	@tests/build
