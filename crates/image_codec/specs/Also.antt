@@ -14,8 +14,8 @@ abbrev pub votes_in : ℕ → Choice → List BallotLine → List Ballot → ℕ
 votes_in panel c lines [] = 0
 votes_in panel c lines (b ∷ ballots) = votes_for panel c lines b.choices + votes_in panel c lines ballots
 
--- The poll in u is that in s, and these ballots: their voters, who had not come in s, have come in u; who had come in s has come
--- in u, and nobody else; and the bag of each panel has, of each choice, as many votes more as the ballots have.
+-- The poll in u is that in s, and these ballots: as many more voters came as there are ballots, so no two are of one voter; their
+-- voters, who had not come in s, have come in u; who had come in s has come in u, and nobody else; and the bag of each panel has, of each choice, as many votes more as the ballots have.
 pub record HasAlso (lines : List BallotLine) (s : State) (ballots : List Ballot) (u : State) : Type 0 where
   pub number : number_came u.came ≡ number_came s.came + length ballots
   pub stay : (place : ℕ) → has_come s.came place ≡ true → has_come u.came place ≡ true

@@ -5,9 +5,8 @@ use Rattle.urna_outside.specs.declared.device.Dev.{Dev}
 use Rattle.urna_outside.specs.declared.device.Dev.TheVariants.{Internal, External}
 use Rattle.gate_slot.specs.Slot.{shut_ops, fill_ops, publish_ops}
 
--- The new body takes the place of the old one in a slot that is shut: one write of the whole of it, and a sync. Bodies that are
--- written by pages change this definition alone: a write of each page in which the two differ, in rising order, and a sync. A load
--- and a heal write the whole body then too, since what a shut slot holds is not known to them.
+-- The new body takes the place of the old one in a slot that is shut: one write of the whole of it, and a sync. How a commit writes
+-- a body is said here alone.
 abbrev pub IsPutOver : ℕ → Dev → ℕ → List ℕ → List ℕ → List Op → Type 0
 IsPutOver size d index old new ops = ops ≡ fill_ops size d index new
 

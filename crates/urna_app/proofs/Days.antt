@@ -18,9 +18,10 @@ use Rattle.image_codec.proofs.Growing.{also_also}
 use Rattle.state_store.specs.Calls.{AreFound}
 use Rattle.state_store.specs.Held.{AreLoaded, HeldByBoth}
 use Rattle.state_store.specs.Laws.{AreWhole, IsPollOf}
-use Rattle.state_store.proofs.Going.{found_once, poll_left}
+use Rattle.state_store.proofs.Going.{found_once, poll_left, syncs_leave_no_more}
+use Rattle.state_store.proofs.Resting.{clean_image}
 use Rattle.station.specs.Cast.{ballots_of}
-use Rattle.urna_app.specs.Headline.{DayKeepsVotes, IsSitting, KeepsVotes, Sitting, one, session_lines, then}
+use Rattle.urna_app.specs.Headline.{DayKeepsVotes, IsSitting, KeepsVotes, Sitting, not_begun, one, session_lines, then}
 use Rattle.urna_app.proofs.Headline.{votes_are_kept}
 
 -- One sitting: what it leaves is a poll of the section again, with its ballots.
@@ -87,6 +88,10 @@ found_next t r section u a b next i e found =
           (subst (λ (y : List ℕ). HeldByBoth t (length r.titles) a y u) (sym e) found.held);
     }
 
+whole_contents : (flashes : Flashes) → AreWhole flashes → AreWhole (clean_flashes flashes.internal.content flashes.external.content)
+whole_contents flashes whole dev.Internal = whole dev.Internal
+whole_contents flashes whole dev.External = whole dev.External
+
 pub day_keeps_votes : DayKeepsVotes
 day_keeps_votes t r section s start _ left whole found (one {x} is) =
     let h = leads t r section s start x left whole found is in (
@@ -106,3 +111,10 @@ day_keeps_votes t r section s start _ last whole found (then {next} {x} {more} {
       ((h.number, h.shown, h.cast, refl), rest.3),
       also_also (ballot_lines t) s h.state rest.0 (take h.number x.ballots) (flat_map (λ (l : List Ballot). l) rest.1) h.has rest.4,
     )
+day_keeps_votes t r section s start _ last whole found (not_begun {next} {more} {left} done clean stop is internal external day) =
+    let leaves = syncs_leave_no_more start done left stop is in
+    let i = internal ∙ clean_image start.internal left.internal (clean dev.Internal) leaves.internal in
+    let e = external ∙ clean_image start.external left.external (clean dev.External) leaves.external in
+    day_keeps_votes t r section s next more last
+    (whole_next start.internal.content start.external.content next i e (whole_contents start whole))
+    (found_next t r section s start.internal.content start.external.content next i e (record { loaded = found.loaded; held = found.held })) day

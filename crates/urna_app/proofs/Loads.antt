@@ -44,7 +44,7 @@ error_not_done (load.Busy d) is = absurd (cc)
 module _ (files : Files) (names : Carga) (c d : CabinetTold) (told : c.files ≡ Some files) (t : TablesData) (r : RollData) (given : IsGivenLoad (Some files) names t r) (m b : Told)
     (start : Flashes) (flashes : b.flashes ≡ Some start) where
   abbrev Begins : Type 0
-  Begins = (section : Section) × AreWhole start × AreFound t r section (ready_state t (length r.titles)) start
+  Begins = (section : Section) × IsAsked names t r section × AreWhole start × AreFound t r section (ready_state t (length r.titles)) start
 
   begins : (section : Section) (between : Told) → IsAsked names t r section → HasLoaded t r section m between → between.flashes ≡ Some start → Begins
   begins section between asked done there =
@@ -52,6 +52,7 @@ module _ (files : Files) (names : Carga) (c d : CabinetTold) (told : c.files ≡
       let roll : IsRoll r = roll_is given.roll.bytes r given.roll.read in
       let of = of_tables-ready_state t (length r.titles) in (
         section,
+        asked,
         rest_whole t r section (ready_state t (length r.titles)) start given.tables.valid roll asked.fits of rest,
         rest_found t r section (ready_state t (length r.titles)) start given.tables.valid roll asked.fits of rest,
       )

@@ -3,10 +3,11 @@ use Rattle.std.specs.Prelude.{◌≡◌, ◌⊎◌, ◌<◌, ◌≤◌, ◌+◌,
 use Rattle.std.specs.List.{concat}
 use Rattle.std.specs.Option.{ForSome}
 use Rattle.urna_outside.specs.Cabinet.{CabinetTold, Files}
-use Rattle.urna_outside.specs.Flash.{Flashes, Op, after, shown_by}
+use Rattle.urna_outside.specs.Flash.{Flashes, IsClean, Op, after, flash_of, shown_by}
 use Rattle.urna_outside.specs.Stop.{AtEachStop, IsLeft, IsStop, Left}
 use Rattle.urna_outside.specs.Told.{Told}
 use Rattle.urna_outside.specs.Traced.{IsTraced}
+use Rattle.urna_outside.specs.declared.device.Dev.{Dev}
 use Rattle.election_tables.specs.Roll.{RollData}
 use Rattle.election_tables.specs.TablesData.{TablesData}
 use Rattle.election_tables.specs.declared.tables.sections.Section.{Section}
@@ -29,7 +30,7 @@ use Rattle.station.specs.Setting.{setting_of}
 use Rattle.station.specs.Start.{opening_line}
 use Rattle.station.specs.Text.{session_steps}
 use Rattle.urna_app.specs.Command.{Carga, ToLoad, ToVote, Vota, command_of}
-use Rattle.urna_app.specs.Ending.{Ends, IsGiven, IsGivenLoad}
+use Rattle.urna_app.specs.Ending.{Ends, IsAsked, IsGiven, IsGivenLoad}
 use Rattle.urna_app.specs.declared.status.Status.{Status}
 use Rattle.urna_app.specs.declared.status.Status.TheVariants as status
 
@@ -106,7 +107,7 @@ pub record Sitting : Type 0 where
   pub ballots : List Ballot
   pub fims : ℕ
 
--- A call of vota over these flashes was stopped behind its two opening syncs, or ended, and left that.
+-- A call of vota over these flashes was stopped or ended behind its two opening syncs, and left that.
 pub record IsSitting (t : TablesData) (r : RollData) (start : Flashes) (x : Sitting) (left : Left) : Type 0 where
   pub words : List (List ℕ)
   pub cabinet : CabinetTold
@@ -129,12 +130,17 @@ pub record IsSitting (t : TablesData) (r : RollData) (start : Flashes) (x : Sitt
   pub ballots : x.ballots ≡ ballots_of run
   pub fims : x.fims ≡ fims_reached (session_lines t first out) (length left.shown)
 
--- one sitting, or one and then more, over flashes with the content that it left
+-- One sitting, or one and then more, over flashes with the content that it left. Before a sitting a call may have been stopped or have
+-- ended before its second sync, over flashes on which nothing was dirty.
 pub data IsDay (t : TablesData) (r : RollData) : Flashes → List Sitting → Left → Type 0 where
   one : {start : Flashes} {x : Sitting} {left : Left} → IsSitting t r start x left → IsDay t r start (x ∷ []) left
   then : {start next : Flashes} {x : Sitting} {more : List Sitting} {left last : Left} → IsSitting t r start x left
       → next.internal.content ≡ left.internal → next.external.content ≡ left.external → IsDay t r next more last
       → IsDay t r start (x ∷ more) last
+  not_begun : {start next : Flashes} {more : List Sitting} {left last : Left} (done : List Op) → ((d : Dev) → IsClean (flash_of d start))
+      → IsStop both_synced done → IsLeft (after done start) (shown_by done) left
+      → next.internal.content ≡ left.internal → next.external.content ≡ left.external → IsDay t r next more last
+      → IsDay t r start more last
 
 -- of each sitting its first ballots: as many as FIM lines were begun, or one more
 abbrev pub AreOfSittings : List Sitting → List (List Ballot) → Type 0
@@ -153,10 +159,10 @@ DayKeepsVotes =
     → (u : State) × (cast : List (List Ballot)) × HeldByBoth t (length r.titles) left.internal left.external u
     × AreOfSittings sittings cast × HasAlso (ballot_lines t) s (flat_map (λ ballots. ballots) cast) u
 
--- A load with which carga answered Done begins a day: the flashes hold the poll in which nobody came.
+-- A load with which carga answered Done begins a day: the flashes hold the poll of the section that was asked for, in which nobody came.
 abbrev pub LoadBeginsDay : Type 0
 LoadBeginsDay =
     (words : List (List ℕ)) (c d : CabinetTold) (m n : Told) → Ends words c d m n status.Done
     → (names : Carga) (files : Files) (t : TablesData) (r : RollData) → command_of words ≡ Some (ToLoad names) → c.files ≡ Some files → IsGivenLoad (Some files) names t r
     → (start : Flashes) → n.flashes ≡ Some start
-    → (section : Section) × AreWhole start × AreFound t r section (ready_state t (length r.titles)) start
+    → (section : Section) × IsAsked names t r section × AreWhole start × AreFound t r section (ready_state t (length r.titles)) start

@@ -8,9 +8,10 @@ pub fn one_ending()
     ensures either { RefusedOrGiven }
 {}
 
-/// The headline. Wherever the power stops a call of `vota`, both flashes, and from the first shown byte on each alone, hold the poll
-/// that was found with the ballots whose FIM was shown, and with at most one more; over a day of calls, which a load begins, with at
-/// most one more of each call. Where a call ends with Done they hold all ballots of its run. Each list of keys has a run.
+/// The headline. Wherever the power stops a call of `vota` behind its two opening syncs, both flashes, and from the first shown byte on
+/// each alone, hold the poll that was found with the ballots whose FIM was shown, and with at most one more; over a day of calls, which
+/// a load begins, with at most one more of each call. Where a call ends with Done they hold all ballots of its run. Each list of keys
+/// has a run.
 pub fn votes_are_kept()
     ensures kept { VotesAreKept }
     ensures day { DayKeepsVotes }
