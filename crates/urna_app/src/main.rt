@@ -22,17 +22,17 @@ mod stops;
 #[cfg(test)]
 mod tests;
 mod vota;
+mod words;
 
 use carga::carga;
 use command::{carga_words, vota_words};
 use fault::tell_fault;
 use status::Status;
 use std::alloc::Global;
-use std::env::Env;
 use std::process::ExitCode;
-use std::{env, io};
 use urna_outside::{Cabinet, FileMachine, FolderCabinet, Machine};
 use vota::vota;
+use words::words;
 
 /// The bytes of each flash: a header of 512, and two slots of a gate with its padding, 512, and a body of 65,536.
 const DEVICE_SIZE: u32 = 132_608;
@@ -81,26 +81,18 @@ fn run_command<M: Machine, C: Cabinet>(
     Err(Status::Usage)
 }
 
-/// The words after the program's name. A word that isn't UTF-8 is in no command; there are none then.
-fn words(rt: &HostRuntime) -> io::Result<Vec<String>> {
-    let mut words = Vec::new(rt.alloc());
-    let args = match env::args(rt) {
-        Ok(args) => args,
-        Err(error) if error.kind() == io::ErrorKind::InvalidData => return Ok(words),
-        Err(error) => return Err(error),
-    };
-    for word in args.skip(1) {
-        words.push(word)?;
-    }
-    Ok(words)
-}
-
-fn main(rt: HostRuntime) -> ExitCode {
-    let words = match words(&rt) {
+/// The command of the program's words, over the files of the working folder and standard output.
+fn run_program(rt: &HostRuntime) -> ExitCode {
+    let words = match words(rt.alloc(), rt) {
         Ok(words) => words,
         Err(_) => return ExitCode::from(NO_WORDS),
     };
-    let mut machine = FileMachine::new(&rt, DEVICE_SIZE);
-    let mut cabinet = FolderCabinet::new(&rt);
+    let mut machine = FileMachine::new(rt, DEVICE_SIZE);
+    let mut cabinet = FolderCabinet::new(rt);
     ExitCode::from(urna(rt.alloc(), &words, &mut machine, &mut cabinet).code())
+}
+
+// A test can't call it.
+fn main(rt: HostRuntime) -> ExitCode {
+    run_program(&rt)
 }

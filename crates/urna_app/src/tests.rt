@@ -4,8 +4,8 @@ ghost use Rattle.urna_outside.specs.Recorder.{recorder_told};
 ghost use Rattle.state_store.specs.Store.{AreDevices};
 
 use crate::status::{Doc, Status};
-use crate::urna;
-use std::process::Abort;
+use crate::{run_program, urna};
+use std::process::{Abort, ExitCode};
 use std::str;
 use std::test::Fail;
 use urna_base::Memory;
@@ -556,5 +556,15 @@ fn a_body_holds_the_marks_and_the_bags(rt: HostRuntime) -> Result<(), Fail> {
         assert!(rt; content.get(67_072..67_095) == Some(OPENED));
         assert!(rt; content.get(67_169..67_179) == Some(BAG));
     }
+    Ok(())
+}
+
+/// The words of a test's program are no command.
+#[test]
+fn the_program_ends_with_the_status_of_its_command(rt: HostRuntime) -> Result<(), Fail> {
+    let ended = format!(in rt.alloc(); "{:?}", run_program(&rt))?;
+    let usage = format!(in rt.alloc(); "{:?}", ExitCode::from(Status::Usage.code()))?;
+    assert_eq!(rt; ended, usage);
+    assert!(rt; Status::Usage.code() != 0);
     Ok(())
 }
