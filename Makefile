@@ -10,7 +10,7 @@ list:
 	@echo "make test         the gate, each proof from nothing, each edit that must be refused, each test and program: 35 minutes"
 	@echo "make check-house  names, sessions and lines of the documents and the sources: seconds"
 	@echo "make bench        how long sessions, commits and the reading of tables take, as ratios: a few minutes behind a demo"
-	@echo "make crash-trial  sessions that are killed and go on, as many as TRIALS says: a few minutes behind a demo"
+	@echo "make crash-trial  the program on real files, and as many killed sessions as TRIALS says: a few minutes behind a demo"
 
 try:
 	@examples/try

@@ -4,7 +4,7 @@ use Rattle.urna_outside.specs.Flash.{Op, Put, Sync, Show}
 use Rattle.urna_outside.specs.Told.{Told, Does, Runs, IsTornPut}
 use Rattle.urna_outside.specs.declared.device.Dev.{Dev}
 use Rattle.urna_outside.proofs.Doing.{does-append}
-use Rattle.gate_slot.specs.Front.{IsTornOf, IsFrontOf, IsCutOff}
+use Rattle.gate_slot.specs.Front.{IsTornOf, IsFrontOf, IsFrontOfSome}
 
 none_of : (op : Op) → IsTornOf op []
 none_of (Put d at bytes) = inl refl
@@ -81,7 +81,7 @@ none_yet [] op ops = none_done op ops
 none_yet (x ∷ xs) op ops = none_done x (xs ++ op ∷ ops)
 
 -- The first of two runs in a row was cut off, where there are operations that were to follow.
-pub cut_first : (P Q R : List Op → Type 0) (a b : Told) (ys : List Op) → ((xs ys : List Op) → P xs → Q ys → R (xs ++ ys)) → Q ys → Runs (IsCutOff P) a b → Runs (IsCutOff R) a b
+pub cut_first : (P Q R : List Op → Type 0) (a b : Told) (ys : List Op) → ((xs ys : List Op) → P xs → Q ys → R (xs ++ ys)) → Q ys → Runs (IsFrontOfSome P) a b → Runs (IsFrontOfSome R) a b
 cut_first P Q R a b ys joined later run = (
   run.0,
   run.1,
@@ -89,7 +89,7 @@ cut_first P Q R a b ys joined later run = (
 )
 
 -- the second one was
-pub cut_later : (P Q R : List Op → Type 0) (a b c : Told) → ((xs ys : List Op) → P xs → Q ys → R (xs ++ ys)) → Runs P a b → Runs (IsCutOff Q) b c → Runs (IsCutOff R) a c
+pub cut_later : (P Q R : List Op → Type 0) (a b c : Told) → ((xs ys : List Op) → P xs → Q ys → R (xs ++ ys)) → Runs P a b → Runs (IsFrontOfSome Q) b c → Runs (IsFrontOfSome R) a c
 cut_later P Q R a b c joined first run = (
   first.0 ++ run.0,
   does-append first.0 run.0 a b c first.1 run.1,

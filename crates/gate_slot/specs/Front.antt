@@ -20,10 +20,10 @@ pub record IsFrontOf (whole ops : List Op) : Type 0 where
   pub in_row : ops ≡ before ++ torn
 
 -- a front of operations that have P
-abbrev pub IsCutOff : (List Op → Type 0) → List Op → Type 0
-IsCutOff P ops = (whole : List Op) × P whole × IsFrontOf whole ops
+abbrev pub IsFrontOfSome : (List Op → Type 0) → List Op → Type 0
+IsFrontOfSome P ops = (whole : List Op) × P whole × IsFrontOf whole ops
 
 -- Ok, operations that have P were done; an error tells that a front of such operations was.
 abbrev pub RunsUpTo : {T E : Type 0} → Result T E → (List Op → Type 0) → Told → Told → Type 0
 RunsUpTo (Ok x) P old new = Runs P old new
-RunsUpTo (Err e) P old new = Runs (IsCutOff P) old new
+RunsUpTo (Err e) P old new = Runs (IsFrontOfSome P) old new

@@ -15,7 +15,7 @@ use Rattle.image_codec.specs.CodecLaws.{Ballot}
 use Rattle.image_codec.specs.State.{State, MayVote, with_ballot}
 use Rattle.image_codec.proofs.Ballots.{length-with_votes}
 use Rattle.image_codec.proofs.Counting.{counts_each_line}
-use Rattle.image_codec.specs.Also.{HasAlso, votes_in}
+use Rattle.image_codec.specs.Also.{HasAlso, votes_in_ballots}
 
 -- the poll in another phase
 abbrev pub in_phase : State → Phase → State
@@ -90,9 +90,9 @@ module _ (lines : List BallotLine) (s u : State) (place : ℕ) (choices : List C
 
 -- Ballots, and then more
 
-votes_in-append : (panel : ℕ) (c : Choice) (lines : List BallotLine) (xs ys : List Ballot) → votes_in panel c lines (xs ++ ys) ≡ votes_in panel c lines xs + votes_in panel c lines ys
-votes_in-append panel c lines [] ys = omega arith
-votes_in-append panel c lines (x ∷ xs) ys = omega (arith, votes_in-append panel c lines xs ys)
+votes_in_ballots-append : (panel : ℕ) (c : Choice) (lines : List BallotLine) (xs ys : List Ballot) → votes_in_ballots panel c lines (xs ++ ys) ≡ votes_in_ballots panel c lines xs + votes_in_ballots panel c lines ys
+votes_in_ballots-append panel c lines [] ys = omega arith
+votes_in_ballots-append panel c lines (x ∷ xs) ys = omega (arith, votes_in_ballots-append panel c lines xs ys)
 
 module _ (lines : List BallotLine) (s u w : State) (xs ys : List Ballot) (first : HasAlso lines s xs u) (second : HasAlso lines u ys w) where
   away : (p : ℕ) → has_come u.came p ≡ false → has_come s.came p ≡ false
@@ -131,5 +131,5 @@ module _ (lines : List BallotLine) (s u w : State) (xs ys : List Ballot) (first 
         votes = λ panel c lt.
             let one = first.votes panel c lt in
             let two = second.votes panel c (omega (arith, first.panels)) in
-            omega (arith, one, two, votes_in-append panel c lines xs ys);
+            omega (arith, one, two, votes_in_ballots-append panel c lines xs ys);
       }

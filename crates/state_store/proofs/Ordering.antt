@@ -5,7 +5,7 @@ use Rattle.urna_outside.specs.Flash.{Op, Sync, Flashes, after}
 use Rattle.urna_outside.specs.Told.{Told, Does, Runs}
 use Rattle.urna_outside.specs.declared.device.Dev.TheVariants.{Internal, External}
 use Rattle.urna_outside.proofs.Doing.{does-append, told_after}
-use Rattle.gate_slot.specs.Front.{IsCutOff, IsFrontOf}
+use Rattle.gate_slot.specs.Front.{IsFrontOfSome, IsFrontOf}
 use Rattle.gate_slot.proofs.Fronts.{front_later, none_yet}
 use Rattle.twin_image.specs.Lay.{load_ops}
 use Rattle.twin_image.proofs.Loading.{load_none}
@@ -24,12 +24,12 @@ behind load s start =
 
 module _ (load : Load) (s : State) (a b : Told) where
   -- nothing was done
-  pub load_not_begun : Does [] a b → ForSome a.flashes (λ start. Runs (IsCutOff (IsLoad load s start)) a b)
+  pub load_not_begun : Does [] a b → ForSome a.flashes (λ start. Runs (IsFrontOfSome (IsLoad load s start)) a b)
   load_not_begun does start told =
       ([], does, (both_synced ++ behind load s start, refl, none_yet [] (Sync Internal) (Sync External ∷ behind load s start)))
 
   -- a sync failed
-  pub load_syncing : Runs IsWithinSyncs a b → ForSome a.flashes (λ start. Runs (IsCutOff (IsLoad load s start)) a b)
+  pub load_syncing : Runs IsWithinSyncs a b → ForSome a.flashes (λ start. Runs (IsFrontOfSome (IsLoad load s start)) a b)
   load_syncing run start told =
       (run.0, run.1, (both_synced ++ behind load s start, refl, front run.0 run.2))
     where
@@ -44,7 +44,7 @@ module _ (load : Load) (s : State) (a b c : Told) (synced : Does both_synced a b
   syncs_done = does-append both_synced [] a b c synced done
 
   -- both were synced, and no more
-  pub load_not_tested : ForSome a.flashes (λ start. Runs (IsCutOff (IsLoad load s start)) a c)
+  pub load_not_tested : ForSome a.flashes (λ start. Runs (IsFrontOfSome (IsLoad load s start)) a c)
   load_not_tested start told =
       let none = load_none body_size (header load Internal) (header load External) (encode s) start in
       (both_synced, syncs_done, (both_synced ++ behind load s start, refl, front_later both_synced (behind load s start) [] none))
@@ -67,7 +67,7 @@ module _ (load : Load) (s : State) (a b c : Told) (synced : Does both_synced a b
         (both_synced ++ ops, does-append both_synced ops a c d syncs_done (does mid (told_then start told)), same_load start)
 
     -- or up to a fault
-    pub load_cut : ForSome c.flashes (λ start. Runs (IsFrontOf (load_ops body_size internal external body start)) c d) → ForSome a.flashes (λ start. Runs (IsCutOff (IsLoad load s start)) a d)
+    pub load_cut : ForSome c.flashes (λ start. Runs (IsFrontOf (load_ops body_size internal external body start)) c d) → ForSome a.flashes (λ start. Runs (IsFrontOfSome (IsLoad load s start)) a d)
     load_cut cut start told =
         let mid = after both_synced start in
         let ops = load_ops body_size internal external body mid in

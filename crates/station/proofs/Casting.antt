@@ -1,5 +1,5 @@
 -- The ballots of a run, by what it puts out
-use Rattle.std.proofs.Common.{◌≡◌, ℕ, suc, ◌+◌, ◌-◌, Bool, true, false, cond, ◌&&◌, List, [], ◌∷◌, ◌++◌, length, map, take, refl, sym, ap, subst, ◌∙◌, arith, append_assoc}
+use Rattle.std.proofs.Common.{◌≡◌, ℕ, suc, ◌+◌, ◌-◌, ◌<◌, Bool, true, false, cond, ◌&&◌, List, [], ◌∷◌, ◌++◌, length, map, take, refl, sym, ap, subst, ◌∙◌, arith, append_assoc}
 use Rattle.std.specs.Prelude.{nat_eq, codes}
 use Rattle.std.specs.Fmt.{decimal}
 use Rattle.std.specs.List.{AllByRecursion, concat}
@@ -47,7 +47,7 @@ use Rattle.station.proofs.RunLaws.{roll_kept}
 use Rattle.image_codec.specs.Also.{HasAlso}
 use Rattle.image_codec.proofs.Growing.{also_in_phase, also_more, also_none, in_phase}
 use Rattle.station.specs.Cast.{ballot_of, ballots_of, fim, suspended_ballot}
-use Rattle.station.proofs.Fims.{AreShownIn, IsOther, shown_nothing, shown_quiet, shown_telling}
+use Rattle.station.proofs.Fims.{AreShownIn, IsOther, all_fims, fims_quiet, fims_telling, shown_nothing, shown_quiet, shown_telling}
 
 -- ---- what a run puts out, as ballots
 
@@ -329,3 +329,45 @@ steps_commit t (Commits s l ∷ out) = ap (λ (states : List State). s ∷ state
 steps_commit t (Reports title s ∷ out) =
     let lines = title_text title ∷ count_lines t s.bags in
     commits_in-append (quiet lines) (session_steps t out) ∙ ap (λ (states : List State). states ++ commits_in (session_steps t out)) (commits_in-quiet lines) ∙ steps_commit t out
+
+-- ---- the FIM lines of a session
+
+-- a line that tells a phase has a byte
+some_byte : (t : TablesData) (l : Line) → EndsNone l → 0 < length (line_text t l)
+some_byte t (line.Poll phase.Ready came) none = omega arith
+some_byte t (line.Poll (phase.Polling opened) came) none = omega arith
+some_byte t (line.Poll (phase.Sealed opened closed) came) none = omega arith
+some_byte t (line.Refused n) none = omega arith
+some_byte t (line.Voter number) none = omega arith
+some_byte t line.Released none = omega arith
+some_byte t line.Canceled none = omega arith
+some_byte t line.Suspended none = omega arith
+some_byte t (line.Ballot number code) none = omega arith
+some_byte t (line.Screen panel f) none = omega arith
+some_byte t (line.Opened m) none = omega arith
+some_byte t line.Ended none = absurd none
+some_byte t (line.Sealed m came) none = omega arith
+
+fims_output : (t : TablesData) (o : Output) (out : List Output) → IsQuiet o → all_fims (output_steps t o ++ session_steps t out) ≡ all_fims (session_steps t out)
+fims_output t (Says l) out quiet = fims_quiet (line_text t l ∷ []) (session_steps t out) (line_other t l quiet, tt)
+fims_output t (Commits u l) out quiet = absurd quiet
+fims_output t (Reports title u) out quiet = fims_quiet (title_text title ∷ count_lines t u.bags) (session_steps t out) (title_other title, counts_other t u.bags)
+
+casts_fims : {v : Setting} {s u : State} {out : List Output} {ballots : List Ballot} (t : TablesData) → Casts v s out ballots u
+    → all_fims (session_steps t out) ≡ length ballots
+casts_fims t nothing = refl
+casts_fims t (shows {out} o quiet h) = fims_output t o out quiet ∙ casts_fims t h
+casts_fims {s} t (turns {out} p l none h) =
+    let counted : cond {A = ℕ} (bytes_eq fim (line_text t l)) 1 0 ≡ 0 = ap (λ (b : Bool). cond {A = ℕ} b 1 0) (line_other t l none) in
+    let one = fims_telling (in_phase s p) (line_text t l) (session_steps t out) (some_byte t l none) in
+    let rest = casts_fims t h in
+    omega (arith, counted, one, rest)
+casts_fims {v} {s} t (casts {out} place choices may h) =
+    let one = fims_telling (with_ballot v.lines s place choices) (line_text t line.Ended) (session_steps t out) (omega arith) in
+    let rest = casts_fims t h in
+    omega (arith, one, rest)
+
+-- there are as many as ballots
+pub run_fims : {s u : State} {es : List Event} {out : List Output} (t : TablesData) (titles : List ℕ) → length s.came ≡ length titles
+    → (run : IsRun (setting_of t titles) s es u out) → all_fims (session_steps t out) ≡ length (ballots_of run)
+run_fims t titles r run = casts_fims t (run_casts r run)

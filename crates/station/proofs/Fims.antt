@@ -8,8 +8,8 @@ use Rattle.std.proofs.lemmas.List.Sums.{sum_by-cons}
 use Rattle.vote_kinds.specs.Ballot.{BallotLine}
 use Rattle.image_codec.specs.CodecLaws.{Ballot}
 use Rattle.image_codec.specs.State.{State}
-use Rattle.state_store.specs.Steps.{Step, commits_in, commits_reached, lines_in, quiet, telling}
-use Rattle.state_store.proofs.Counting.{commits_in-append, commits_in-quiet, lines_in-append, lines_in-quiet, reached_none}
+use Rattle.state_store.specs.Steps.{Step, commits_in, commits_reached, lines_in, quiet, telling, text_in}
+use Rattle.state_store.proofs.Counting.{commits_in-append, commits_in-quiet, lines_in-append, lines_in-quiet, reached_none, text_in-append, text_in-quiet}
 use Rattle.image_codec.specs.Also.{HasAlso}
 use Rattle.image_codec.proofs.Growing.{also_none}
 use Rattle.station.specs.Cast.{fim, fims_reached, lines_reached}
@@ -27,7 +27,7 @@ lines_none (line ∷ lines) = refl
 pub fims_none : (lines : List (List ℕ)) → fims_reached lines 0 ≡ 0
 fims_none lines = ap (count_by (bytes_eq fim)) (lines_none lines)
 
-fims_more : (line : List ℕ) (lines : List (List ℕ)) (n : ℕ) → 0 < n → fims_reached (line ∷ lines) n ≡ cond (bytes_eq fim line) 1 0 + fims_reached lines (n - length line)
+pub fims_more : (line : List ℕ) (lines : List (List ℕ)) (n : ℕ) → 0 < n → fims_reached (line ∷ lines) n ≡ cond (bytes_eq fim line) 1 0 + fims_reached lines (n - length line)
 fims_more line lines n some =
     ap (λ (b : Bool). count_by (bytes_eq fim) (cond b [] (line ∷ lines_reached lines (n - length line)))) (ne_eqb n 0 (λ same. omega arith))
     ∙ sum_by-cons (λ (l : List ℕ). cond {A = ℕ} (bytes_eq fim l) 1 0) line (lines_reached lines (n - length line))
@@ -68,6 +68,28 @@ fims_past (l ∷ ls) lines n all = elim (cases_lt 0 n) [
       let left_over : 0 ≡ n - length (l ++ concat ls) = omega arith in
       ap (λ (k : ℕ). fims_reached (l ∷ (ls ++ lines)) k) none ∙ sym (fims_none lines) ∙ ap (λ (k : ℕ). fims_reached lines k) left_over
 ]
+
+-- how many FIM the whole text of steps has
+abbrev pub all_fims : List Step → ℕ
+all_fims xs = fims_reached (lines_in xs) (length (text_in xs))
+
+pub fims_quiet : (ls : List (List ℕ)) (xs : List Step) → AllByRecursion IsOther ls → all_fims (quiet ls ++ xs) ≡ all_fims xs
+fims_quiet ls xs all =
+    let all_lines : lines_in (quiet ls ++ xs) ≡ ls ++ lines_in xs =
+    lines_in-append (quiet ls) xs ∙ ap (λ (l : List (List ℕ)). l ++ lines_in xs) (lines_in-quiet ls) in
+    let n : ℕ = length (text_in (quiet ls ++ xs)) in
+    let long : n ≡ length (concat ls) + length (text_in xs) =
+    ap length (text_in-append (quiet ls) xs ∙ ap (λ (l : List ℕ). l ++ text_in xs) (text_in-quiet ls)) ∙ length-append (concat ls) (text_in xs) in
+    let rest : n - length (concat ls) ≡ length (text_in xs) = omega (arith, long) in
+    ap (λ (l : List (List ℕ)). fims_reached l n) all_lines ∙ fims_past ls (lines_in xs) n all ∙ ap (λ (k : ℕ). fims_reached (lines_in xs) k) rest
+
+-- a line that tells a state is FIM, or another
+pub fims_telling : (w : State) (l : List ℕ) (xs : List Step) → 0 < length l → all_fims (telling w l ++ xs) ≡ cond (bytes_eq fim l) 1 0 + all_fims xs
+fims_telling w l xs some =
+    let n : ℕ = length (l ++ text_in xs) in
+    let long : n ≡ length l + length (text_in xs) = length-append l (text_in xs) in
+    let rest : n - length l ≡ length (text_in xs) = omega (arith, long) in
+    fims_more l (lines_in xs) n (omega (arith, long, some)) ∙ ap (λ (k : ℕ). cond (bytes_eq fim l) 1 0 + fims_reached (lines_in xs) k) rest
 
 -- What the states of steps have beside the first
 

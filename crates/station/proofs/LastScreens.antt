@@ -25,13 +25,13 @@ use Rattle.image_codec.specs.State.{State, filled_up}
 use Rattle.station.specs.Cast.{ballot_of, suspended_ballot}
 use Rattle.station.specs.Output.{Output, call_of, earlier_for, echo, line_at, refusal, screen}
 use Rattle.station.specs.Run.{IsOpen, Visit, Votes, line_outputs, open_at, start, suspended, suspension, voted, whole}
-use Rattle.station.specs.Screens.{AreOfLastScreens, IsOfLastScreen, confirmed_in, is_call, is_screen, lines_in, screens_by_call, screens_of, screens_until_call}
+use Rattle.station.specs.Screens.{AreOfLastScreens, IsOfLastScreen, confirmed_in, is_call, is_screen, lines_told, screens_by_call, screens_of, screens_until_call}
 use Rattle.station.specs.Setting.{IsSetting, Setting, reply_at}
 use Rattle.station.specs.declared.line.Line.{Line}
 use Rattle.station.specs.declared.line.Line.TheVariants as line
 
 abbrev shown_lines : List Output → List Line
-shown_lines out = flat_map lines_in out
+shown_lines out = flat_map lines_told out
 
 -- Lists of lines
 
@@ -105,7 +105,7 @@ ShowsFields panel out fields = NoCalls (shown_lines out) × (filter is_screen (s
 
 shows-append : (panel : ℕ) (a b : List Output) (f g : List Field) → ShowsFields panel a f → ShowsFields panel b g → ShowsFields panel (a ++ b) (f ++ g)
 shows-append panel a b f g h k =
-    let parts : shown_lines (a ++ b) ≡ shown_lines a ++ shown_lines b = flat_map-append lines_in a b in (
+    let parts : shown_lines (a ++ b) ≡ shown_lines a ++ shown_lines b = flat_map-append lines_told a b in (
       subst NoCalls (sym parts) (no_calls-append (shown_lines a) (shown_lines b) h.0 k.0),
       ap (filter is_screen) parts ∙ filter-append is_screen (shown_lines a) (shown_lines b)
           ∙ (ap (λ (x : List Line). x ++ filter is_screen (shown_lines b)) h.1 ∙ ap (λ (x : List Line). map (line.Screen panel) f ++ x) k.1
@@ -155,7 +155,7 @@ line_screens : (v : Setting) (s : State) (place : ℕ) (choices : List Choice) (
 line_screens v s place choices text l es =
     let on = line_outputs v s place l [] es in
     let quiet = (shows_line l None v s place [] es).0 in
-    ap screens_by_call (flat_map-append lines_in text (call_of choices l ∷ on))
+    ap screens_by_call (flat_map-append lines_told text (call_of choices l ∷ on))
     ∙ (by_called (shown_lines text) (shown_lines on) (line.Ballot (length choices + 1) l.code) refl
     ∙ (ap (λ (x : List Line). screens_of text ++ x ∷ screens_by_call (shown_lines on)) (until_all (shown_lines on) quiet)
     ∙ ap (λ (x : List (List Line)). screens_of text ++ filter is_screen (shown_lines on) ∷ x) (by_none (shown_lines on) quiet)))
@@ -247,11 +247,11 @@ open_told {v} {s} {place} valid (open_at {choices} {text} l on votes at visit un
     (line_screens v s place choices text l on) (votes_told valid votes).1
 
 -- one line more that is no call and no screen
-ended : (v : Setting) (choices : List Choice) (text : List Output) (o : Output) (l : Line) → lines_in o ≡ l ∷ [] → is_call l ≡ false → is_screen l ≡ false
+ended : (v : Setting) (choices : List Choice) (text : List Output) (o : Output) (l : Line) → lines_told o ≡ l ∷ [] → is_call l ≡ false → is_screen l ≡ false
     → AreOfLastScreens v choices text → AreOfLastScreens v choices (text ++ o ∷ [])
 ended v choices text o l e h g =
     screens_stay v choices text (text ++ o ∷ []) []
-    (ap screens_by_call (flat_map-append lines_in text (o ∷ []) ∙ ap (λ (x : List Line). shown_lines text ++ x) (append-nil (lines_in o) ∙ e))
+    (ap screens_by_call (flat_map-append lines_told text (o ∷ []) ∙ ap (λ (x : List Line). shown_lines text ++ x) (append-nil (lines_told o) ∙ e))
     ∙ (by_more (shown_lines text) l h g ∙ sym (append-nil (screens_of text))))
 
 suspended_told : (v : Setting) (s : State) (place : ℕ) (choices : List Choice) (text : List Output) → AreOfLastScreens v choices text → AreOfLastScreens v choices (text ++ suspension v s place choices ∷ [])

@@ -13,7 +13,7 @@ use Rattle.turnout.specs.declared.phase.Phase.TheVariants as phase
 use Rattle.image_codec.specs.State.{State}
 use Rattle.station.specs.Setting.{Setting}
 use Rattle.station.specs.Press.{idle_at, outputs, after}
-use Rattle.station.specs.Screens.{lines_in, screens_of}
+use Rattle.station.specs.Screens.{lines_told, screens_of}
 use Rattle.station.specs.declared.line.Line.{Line}
 use Rattle.station.specs.declared.line.Line.TheVariants as line
 
@@ -30,7 +30,7 @@ abbrev polling : State
 polling = record { phase = phase.Polling 20261004080000; came = false ∷ false ∷ false ∷ []; places = 1 ∷ 1 ∷ []; bags = [] ∷ [] ∷ [] }
 
 abbrev told : State → List Event → List Line
-told s es = flat_map lines_in (outputs setting (idle_at s) es)
+told s es = flat_map lines_told (outputs setting (idle_at s) es)
 
 abbrev admitted : List Event
 admitted = Clerk (clerk.Titulo 10000000001) ∷ Clerk clerk.Libera ∷ []
@@ -118,7 +118,7 @@ two_senators = record { lines = senator ∷ senator ∷ []; places = 2 ∷ []; r
 abbrev same_twice : List Event
 same_twice = admitted ++ keys (Digit 1 ∷ Digit 0 ∷ Digit 1 ∷ Confirm ∷ Digit 1 ∷ Digit 0 ∷ Digit 1 ∷ Confirm ∷ [])
 
-same_candidate_twice : flat_map lines_in (outputs two_senators (idle_at polling) same_twice)
+same_candidate_twice : flat_map lines_told (outputs two_senators (idle_at polling) same_twice)
     ≡ line.Voter 10000000001 ∷ line.Released ∷ line.Ballot 1 5 ∷ line.Screen 0 (field.Digits 1 1) ∷ line.Screen 0 (field.Digits 2 10)
     ∷ line.Screen 0 (field.Digits 3 101) ∷ line.Ballot 2 5 ∷ line.Screen 0 (field.Digits 1 1)
     ∷ line.Screen 0 (field.Digits 2 10) ∷ line.Screen 0 (field.Digits 3 101) ∷ line.Ended ∷ []

@@ -12,10 +12,10 @@ use Rattle.station.specs.declared.line.Line.{Line}
 use Rattle.station.specs.declared.line.Line.TheVariants.{Ballot, Screen}
 
 -- the line of an output, without those of a report of counts
-abbrev pub lines_in : Output → List Line
-lines_in (Says l) = l ∷ []
-lines_in (Commits s l) = l ∷ []
-lines_in (Reports t s) = []
+abbrev pub lines_told : Output → List Line
+lines_told (Says l) = l ∷ []
+lines_told (Commits s l) = l ∷ []
+lines_told (Reports t s) = []
 
 -- the line that calls a line of the ballot
 abbrev pub is_call : Line → Bool
@@ -38,7 +38,7 @@ screens_by_call (l ∷ lines) = if is_call l then screens_until_call lines ∷ s
 
 -- the screens that outputs show on each line of the ballot that they call, in order
 abbrev pub screens_of : List Output → List (List Line)
-screens_of out = screens_by_call (flat_map lines_in out)
+screens_of out = screens_by_call (flat_map lines_told out)
 
 -- The choice with this number, from 0, is that of the last screen which the outputs show on the line of the ballot with this
 -- number: CONFIRMA is taken at the field of this screen, and the choice is the one that the field stands for.

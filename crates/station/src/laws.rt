@@ -8,11 +8,11 @@ ghost use Rattle.key_script.specs.declared.keys.Event.{Event};
 ghost use Rattle.image_codec.specs.CodecLaws.{Ballot};
 ghost use Rattle.image_codec.specs.Encoding.{IsStateOf};
 ghost use Rattle.image_codec.specs.State.{State, filled_up};
-ghost use Rattle.state_store.specs.Steps.{commits_in, state_after};
+ghost use Rattle.state_store.specs.Steps.{commits_in, lines_in, state_after, text_in};
 ghost use Rattle.station.specs.Setting.{Setting, setting_of};
 ghost use Rattle.station.specs.Output.{Output, commits_of};
 ghost use Rattle.station.specs.Run.{IsRun, Visit};
-ghost use Rattle.station.specs.Cast.{ballot_of};
+ghost use Rattle.station.specs.Cast.{ballot_of, ballots_of, fims_reached};
 ghost use Rattle.station.specs.Screens.{AreOfLastScreens, confirmed_in};
 ghost use Rattle.station.specs.Press.{Standing};
 ghost use Rattle.station.specs.Stands.{StandsFor};
@@ -45,6 +45,13 @@ pub fn run_commits()
     ensures valid { (t : TablesData) (titles : List ℕ) (s last : State) (es : List Event) (out : List Output)
         → IsStateOf t (length titles) s → AllByRecursion IsEvent es → IsRun (setting_of t titles) s es last out
         → AllByRecursion (IsStateOf t (length titles)) (commits_of out) × IsStateOf t (length titles) last }
+{}
+
+/// A session shows `FIM` once for each ballot.
+pub fn fims_and_ballots()
+    ensures { (t : TablesData) (titles : List ℕ) (s last : State) (es : List Event) (out : List Output) → length s.came ≡ length titles
+        → (run : IsRun (setting_of t titles) s es last out)
+        → fims_reached (lines_in (session_steps t out)) (length (text_in (session_steps t out))) ≡ length (ballots_of run) }
 {}
 
 /// One event more commits at most one state more, so the committed states are those after the prefixes of the events.

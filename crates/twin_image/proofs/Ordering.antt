@@ -7,7 +7,7 @@ use Rattle.urna_outside.specs.declared.device.Dev.{Dev}
 use Rattle.urna_outside.specs.declared.device.Dev.TheVariants.{Internal, External}
 use Rattle.urna_outside.proofs.Doing.{runs-append, told_after}
 use Rattle.gate_slot.specs.Device.{OnFlash}
-use Rattle.gate_slot.specs.Front.{IsFrontOf, IsCutOff}
+use Rattle.gate_slot.specs.Front.{IsFrontOf, IsFrontOfSome}
 use Rattle.gate_slot.specs.Slot.{shut_ops, fill_ops, publish_ops}
 use Rattle.gate_slot.proofs.Fronts.{cut_first, cut_later}
 use Rattle.twin_image.specs.Order.{IsTurn, IsRenewal, AreRenewals}
@@ -25,7 +25,7 @@ in_row P Q R a b c joins first second start told =
     let two = second (after one.0 start) (told_after one.0 a b start one.1 told) in
     runs-append P Q R a b c joins one two
 
-cut_in_row : (P Q R : List Op → Type 0) (a b c : Told) → Joins P Q R → ForSome a.flashes (λ start. Runs P a b) → ForSome b.flashes (λ mid. Runs (IsCutOff Q) b c) → ForSome a.flashes (λ start. Runs (IsCutOff R) a c)
+cut_in_row : (P Q R : List Op → Type 0) (a b c : Told) → Joins P Q R → ForSome a.flashes (λ start. Runs P a b) → ForSome b.flashes (λ mid. Runs (IsFrontOfSome Q) b c) → ForSome a.flashes (λ start. Runs (IsFrontOfSome R) a c)
 cut_in_row P Q R a b c joins first second start told =
     let one = first start told in
     let two = second (after one.0 start) (told_after one.0 a b start one.1 told) in
@@ -54,7 +54,7 @@ module _ (d : Dev) (size index : ℕ) (old new : List ℕ) (a b : Told) (live : 
       (turn_ops size d index new, whole, turn_is size d index old new)
 
   -- or was cut off in it
-  turn_cut : OnFlash d (λ f. Runs (IsFrontOf (turning_ops size d index new f.content)) a b) a → ForSome a.flashes (λ start. Runs (IsCutOff (IsTurn size d index old new)) a b)
+  turn_cut : OnFlash d (λ f. Runs (IsFrontOf (turning_ops size d index new f.content)) a b) a → ForSome a.flashes (λ start. Runs (IsFrontOfSome (IsTurn size d index old new)) a b)
   turn_cut cut start told =
       let content = (flash_of d start).content in
       let gate = live_gate size index old (flash_of d start) (live start told) in
@@ -63,13 +63,13 @@ module _ (d : Dev) (size index : ℕ) (old new : List ℕ) (a b : Told) (live : 
 
 module _ (d : Dev) (size : ℕ) (old new : List ℕ) (a b : Told) (live : OnFlash d (IsLive size 0 old) a) where
   -- the renewal was cut off while slot 0 had its turn
-  pub first_cut : OnFlash d (λ f. Runs (IsFrontOf (turning_ops size d 0 new f.content)) a b) a → ForSome a.flashes (λ start. Runs (IsCutOff (IsRenewal size d old new)) a b)
+  pub first_cut : OnFlash d (λ f. Runs (IsFrontOf (turning_ops size d 0 new f.content)) a b) a → ForSome a.flashes (λ start. Runs (IsFrontOfSome (IsRenewal size d old new)) a b)
   first_cut cut start told =
       cut_first (IsTurn size d 0 old new) (IsTurn size d 1 old new) (IsRenewal size d old new) a b (turn_ops size d 1 new) (turns_join size d old new) (turn_is size d 1 old new) (turn_cut d size 0 old new a b live cut start told)
 
   module _ (c : Told) (other : OnFlash d (IsLive size 1 old) b) (first : OnFlash d (λ f. Does (turning_ops size d 0 new f.content) a b) a) where
     -- or slot 1
-    pub second_cut : OnFlash d (λ f. Runs (IsFrontOf (turning_ops size d 1 new f.content)) b c) b → ForSome a.flashes (λ start. Runs (IsCutOff (IsRenewal size d old new)) a c)
+    pub second_cut : OnFlash d (λ f. Runs (IsFrontOf (turning_ops size d 1 new f.content)) b c) b → ForSome a.flashes (λ start. Runs (IsFrontOfSome (IsRenewal size d old new)) a c)
     second_cut cut =
         cut_in_row (IsTurn size d 0 old new) (IsTurn size d 1 old new) (IsRenewal size d old new) a b c (turns_join size d old new) (turn_done d size 0 old new a b live first) (turn_cut d size 1 old new b c other cut)
 
@@ -79,13 +79,13 @@ module _ (d : Dev) (size : ℕ) (old new : List ℕ) (a b : Told) (live : OnFlas
         in_row (IsTurn size d 0 old new) (IsTurn size d 1 old new) (IsRenewal size d old new) a b c (turns_join size d old new) (turn_done d size 0 old new a b live first) (turn_done d size 1 old new b c other second)
 
 -- while the internal flash is renewed, the external one is to follow
-pub internal_cut : (size : ℕ) (old new : List ℕ) (a b : Told) → ForSome a.flashes (λ start. Runs (IsCutOff (IsRenewal size Internal old new)) a b) → ForSome a.flashes (λ start. Runs (IsCutOff (AreRenewals size old new)) a b)
+pub internal_cut : (size : ℕ) (old new : List ℕ) (a b : Told) → ForSome a.flashes (λ start. Runs (IsFrontOfSome (IsRenewal size Internal old new)) a b) → ForSome a.flashes (λ start. Runs (IsFrontOfSome (AreRenewals size old new)) a b)
 internal_cut size old new a b cut start told =
     let external = turns_join size External old new (turn_ops size External 0 new) (turn_ops size External 1 new) (turn_is size External 0 old new) (turn_is size External 1 old new) in
     cut_first (IsRenewal size Internal old new) (IsRenewal size External old new) (AreRenewals size old new) a b (turn_ops size External 0 new ++ turn_ops size External 1 new) (renewals_join size old new) external (cut start told)
 
-pub external_cut : (size : ℕ) (old new : List ℕ) (a b c : Told) → ForSome a.flashes (λ start. Runs (IsRenewal size Internal old new) a b) → ForSome b.flashes (λ mid. Runs (IsCutOff (IsRenewal size External old new)) b c)
-    → ForSome a.flashes (λ start. Runs (IsCutOff (AreRenewals size old new)) a c)
+pub external_cut : (size : ℕ) (old new : List ℕ) (a b c : Told) → ForSome a.flashes (λ start. Runs (IsRenewal size Internal old new) a b) → ForSome b.flashes (λ mid. Runs (IsFrontOfSome (IsRenewal size External old new)) b c)
+    → ForSome a.flashes (λ start. Runs (IsFrontOfSome (AreRenewals size old new)) a c)
 external_cut size old new a b c first cut =
     cut_in_row (IsRenewal size Internal old new) (IsRenewal size External old new) (AreRenewals size old new) a b c (renewals_join size old new) first cut
 

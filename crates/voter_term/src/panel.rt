@@ -37,12 +37,6 @@ impl<const CAP: u8> Model for Panel<CAP> {
     ghost invariant = { λ p. IsField CAP p.field };
 }
 
-impl<const CAP: u8> Default for Panel<CAP> {
-    fn default() -> Panel<CAP> {
-        Panel::new()
-    }
-}
-
 impl<const CAP: u8> Panel<CAP> {
     /// The panel with an empty field.
     pub fn new() -> Panel<CAP>

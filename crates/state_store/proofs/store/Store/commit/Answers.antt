@@ -1,7 +1,7 @@
 use Rattle.std.proofs.Common.{◌≡◌, ℕ, List, length, drop, refl, sym, ap, subst, ◌∙◌, arith, rules}
 use Rattle.std.specs.Option.{ForSome}
 use Rattle.urna_outside.specs.Told.{Runs}
-use Rattle.gate_slot.specs.Front.{IsCutOff}
+use Rattle.gate_slot.specs.Front.{IsFrontOfSome}
 use Rattle.twin_image.specs.Order.{AreRenewals}
 use Rattle.image_codec.specs.Encoding.{encode}
 use Rattle.twin_image.specs.Level.{IsLevel, body_of}
@@ -100,7 +100,7 @@ returns-in_err-level-clause-order g c s kept =
     let is = followed_by t tables _ c.args.self count s u old new c.of-ranks.ensures.whole c.of-ranks.result.few c.of-ranks.ensures.tables (c.of-ranks.ensures.voters ∙ c.voters.ensures.count ∙ ap length c.turnout.ensures) c.requires.state written kept (ap (λ (d : StoreData). d.body) c.self.view_is) in
     let a = g.M.Machine.told c.args.m.now in
     let b = g.M.Machine.told c.commit.new.m in
-    let cut = followed_as t tables c.args.self.load.section.voters count s u old new is (λ old new. ForSome a.flashes (λ start. Runs (IsCutOff (AreRenewals body_size old new)) a b)) c.in_err-level.ensures.order in
+    let cut = followed_as t tables c.args.self.load.section.voters count s u old new is (λ old new. ForSome a.flashes (λ start. Runs (IsFrontOfSome (AreRenewals body_size old new)) a b)) c.in_err-level.ensures.order in
     search rules
 
 pub returns-clause-order : goal.returns-clause-order
