@@ -133,9 +133,11 @@ impl Session {
         requires key { IsKey key }
         requires stands { IsStanding (setting_of tables.now roll.now.titles) self.old.standing }
         requires panel { FitsLine (setting_of tables.now roll.now.titles) self.old.standing self.old.digits }
-        ensures standing { self.new.standing ≡ (typed (setting_of tables.now roll.now.titles) self.old.standing.state self.old.standing.mode self.old.standing.choices self.old.standing.field key).standing }
+        ensures standing { self.new.standing
+            ≡ (typed (setting_of tables.now roll.now.titles) self.old.standing.state self.old.standing.mode self.old.standing.choices self.old.standing.field key).standing }
         ensures panel { FitsLine (setting_of tables.now roll.now.titles) self.new.standing self.new.digits }
-        ensures acts { result.items ≡ map act_of (typed (setting_of tables.now roll.now.titles) self.old.standing.state self.old.standing.mode self.old.standing.choices self.old.standing.field key).out }
+        ensures acts { result.items
+            ≡ map act_of (typed (setting_of tables.now roll.now.titles) self.old.standing.state self.old.standing.mode self.old.standing.choices self.old.standing.field key).out }
     {
         let Mode::Voting(place) = self.mode else {
             return Acts::new();

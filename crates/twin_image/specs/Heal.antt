@@ -24,7 +24,8 @@ Mends told d size index body =
 -- All that mending a slot does over this content: nothing where it is open with the body, else a turn.
 abbrev pub IsMend : ℕ → Dev → ℕ → List ℕ → List ℕ → List Op → Type 0
 IsMend size d index body content ops =
-    ((gate_in size index content ≡ 0xA5) × (body_in size index content ≡ body) × (ops ≡ [])) ⊎ ((gate_in size index content ≡ 0xA5 → body_in size index content ≢ body) × (ops ≡ turning_ops size d index body content))
+    ((gate_in size index content ≡ 0xA5) × (body_in size index content ≡ body) × (ops ≡ []))
+    ⊎ ((gate_in size index content ≡ 0xA5 → body_in size index content ≢ body) × (ops ≡ turning_ops size d index body content))
 
 -- slot 0 is mended, and then slot 1
 pub record AreMends (size : ℕ) (d : Dev) (body content : List ℕ) (ops : List Op) : Type 0 where
