@@ -1,5 +1,6 @@
 //! What bags and records are. Each function here does nothing: its contract is the law.
-ghost use Rattle.vote_record.specs.Laws.{SameIsOne, KnownByCounts, StaysInOrder, CountsOneMore, HasOneMore, ComeInEitherOrder, VotesComeInEitherOrder, ChangesItsBag, KeepsOtherBags, StartsWithVotes, KeepsToVotes, CountsNoOther};
+ghost use Rattle.vote_record.specs.Laws.{SameIsOne, KnownByCounts, StaysInOrder, CountsOneMore, HasOneMore, ComeInEitherOrder, VotesComeInEitherOrder, ChangesItsBag, KeepsOtherBags};
+ghost use Rattle.vote_record.specs.Laws.{StartsWithVotes, KeepsToVotes, CountsNoOther};
 
 /// Lists in the order of choices are bags, and votes may come in any order.
 pub fn bags()

@@ -1,4 +1,4 @@
-use Rattle.std.proofs.Common.{◌≡◌, ℕ, List, length, ap, arith, rules}
+use Rattle.std.proofs.Common.{List, length, ap, arith, rules}
 use Rattle.vote_kinds.specs.declared.choice.Choice.{Choice}
 use Rattle.image_codec.specs.Encoding.{IsStateOf}
 use Rattle.image_codec.proofs.OfTables.{panels_of}
