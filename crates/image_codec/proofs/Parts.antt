@@ -1,7 +1,6 @@
 -- A state is known by its phase, by who came, and by the counts of its bags.
 use Rattle.std.proofs.Common.{◌≡◌, ℕ, suc, ◌<◌, Bool, List, [], ◌∷◌, length, refl, sym, ap, ◌∙◌, arith}
 use Rattle.std.specs.List.{AllByRecursion}
-use Rattle.election_tables.specs.TablesData.{TablesData}
 use Rattle.vote_kinds.specs.declared.choice.Choice.{Choice}
 use Rattle.vote_record.specs.Bag.{IsInOrder, bag_at, count_of}
 use Rattle.vote_record.proofs.Bags.{same_bag}

@@ -1,9 +1,9 @@
 -- Steps after steps: their lines, their states, and how many of them a front of the text reaches into.
-use Rattle.std.proofs.Common.{◌≡◌, ◌⊎◌, inl, inr, ℕ, zero, suc, ◌+◌, ◌-◌, ◌<◌, ◌≤◌, Bool, cond, Option, Some, None, IsSome, Contains, List, [], ◌∷◌, ◌++◌, length, slice_get, unwrap_or, option_to_list, refl, sym, ap, subst, ◌∙◌, arith, append_assoc, append-nil, length-append}
+use Rattle.std.proofs.Common.{◌≡◌, ◌⊎◌, inl, inr, ℕ, zero, suc, ◌+◌, ◌-◌, ◌<◌, ◌≤◌, Bool, cond, Option, Some, None, Contains, List, [], ◌∷◌, ◌++◌, length, slice_get, unwrap_or, option_to_list, refl, sym, ap, subst, ◌∙◌, arith, append_assoc, length-append}
 use Rattle.std.proofs.lemmas.Bool.{cases_lt, ne_eqb}
 use Rattle.std.proofs.lemmas.List.{map-append}
 use Rattle.std.proofs.lemmas.List.Elements.{Contains-append_left, Contains-append_right}
-use Rattle.std.specs.List.{AllByRecursion, concat}
+use Rattle.std.specs.List.{concat}
 use Rattle.image_codec.specs.State.{State}
 use Rattle.state_store.specs.Played.{IsStateOrNext}
 use Rattle.state_store.specs.Steps.{Step, quiet, telling, lines_in, text_in, commits_in, state_after, commits_reached, AreFull}

@@ -1,5 +1,5 @@
 -- Flashes on which no slot stands.
-use Rattle.std.proofs.Common.{◌≡◌, ℕ, ◌≤◌, None, List, ◌++◌, ap, ◌∙◌}
+use Rattle.std.proofs.Common.{ℕ, ◌≤◌, List, ◌++◌, ap, ◌∙◌}
 use Rattle.urna_outside.specs.Flash.{Flashes}
 use Rattle.urna_outside.specs.declared.device.Dev.TheVariants.{Internal, External}
 use Rattle.twin_image.specs.Held.{NoneStands, bodies_on, held_body}

@@ -1,5 +1,5 @@
 -- Flashes at rest are a poll.
-use Rattle.std.proofs.Common.{◌≡◌, inl, inr, ℕ, [], length, refl, sym, ap, subst, ◌∙◌, arith}
+use Rattle.std.proofs.Common.{inl, inr, ℕ, [], length, refl, sym, ap, subst, ◌∙◌, arith}
 use Rattle.urna_outside.specs.Flash.{Flashes, flash_of}
 use Rattle.urna_outside.specs.Stop.{Left}
 use Rattle.urna_outside.specs.declared.device.Dev.{Dev}

@@ -1,5 +1,5 @@
 -- Steps that are put out over a store, some after others.
-use Rattle.std.proofs.Common.{◌≡◌, inl, inr, ℕ, ◌+◌, ◌<◌, ◌≤◌, Option, Some, None, IsSome, Result, Ok, Err, IsErr, List, [], ◌∷◌, ◌++◌, length, slice_get, is_some, refl, sym, ap, subst, ◌∙◌, arith, append_assoc, length-append}
+use Rattle.std.proofs.Common.{◌≡◌, inl, inr, ℕ, ◌+◌, ◌<◌, ◌≤◌, Option, Some, None, IsSome, List, [], ◌∷◌, ◌++◌, length, slice_get, refl, sym, ap, subst, ◌∙◌, arith, append_assoc, length-append}
 use Rattle.std.proofs.lemmas.Bool.{cases_lt}
 use Rattle.std.proofs.lemmas.List.{append-nil, map-append}
 use Rattle.std.specs.List.{concat}
@@ -27,7 +27,7 @@ use Rattle.election_tables.specs.TablesData.{TablesData}
 use Rattle.image_codec.specs.State.{State}
 use Rattle.state_store.specs.Calls.{Commits, HoldEither, IsEither, KeepFrames, Recovers, both_synced}
 use Rattle.state_store.specs.Held.{HeldAlone, HeldByBoth}
-use Rattle.state_store.specs.Played.{AreInOrder, AreInOrderTo, IsCommitOf, Follows, HasPut, HasStopped, IsCutAt, IsSafe, IsStateOrNext, Plays, Puts, Survives, shows_in}
+use Rattle.state_store.specs.Played.{AreInOrder, AreInOrderTo, IsCommitOf, Follows, HasPut, HasStopped, IsCutAt, IsSafe, IsStateOrNext, Plays, Survives, shows_in}
 use Rattle.state_store.specs.Rest.{AreAtRest, body_size}
 use Rattle.state_store.specs.Steps.{AreFull, Step, commits_in, commits_reached, lines_in, quiet, state_after, telling, text_in}
 use Rattle.state_store.specs.declared.load.Load.{Load}

@@ -1,30 +1,22 @@
 -- Flashes at rest: what their images hold, and what a session leaves alone.
-use Rattle.std.proofs.Common.{◌≡◌, inl, inr, ℕ, ◌≤◌, Option, Some, List, [], ◌∷◌, ◌++◌, length, option_map, refl, sym, ap, subst, ◌∙◌, arith, length-append, ext_get_or}
-use Rattle.std.specs.List.{AllByRecursion}
-use Rattle.urna_outside.specs.Confined.{KeepsBut}
-use Rattle.urna_outside.specs.Flash.{Op, Put, Sync, Show, Flash, Flashes, flash_of, after_one, after, shown_by, IsImage, IsClean, part}
-use Rattle.urna_outside.specs.Stop.{IsPartOf, IsStop, Left, AtEachStop}
-use Rattle.urna_outside.specs.Told.{Told, Sizes, Does, AreSized}
+use Rattle.std.proofs.Common.{◌≡◌, inl, ℕ, ◌≤◌, Some, List, [], ◌∷◌, length, option_map, refl, sym, ap, subst, ◌∙◌, ext_get_or}
+use Rattle.urna_outside.specs.Flash.{Op, Flash, Flashes, flash_of, after, shown_by, IsImage, IsClean}
+use Rattle.urna_outside.specs.Stop.{IsStop, Left, AtEachStop}
 use Rattle.urna_outside.specs.declared.device.Dev.{Dev}
 use Rattle.urna_outside.specs.declared.device.Dev.TheVariants.{Internal, External}
-use Rattle.urna_outside.proofs.Frames.{course_keeps}
-use Rattle.urna_outside.proofs.Keeping.{HasPlaces, keeps_refl, keeps_trans, places_kept}
-use Rattle.urna_outside.proofs.Stages.{left_image}
 use Rattle.twin_image.specs.Frame.{device_image}
 use Rattle.twin_image.specs.Slots.{AreClean, KeepsFrame}
-use Rattle.twin_image.specs.Twin.{IsOfTwin, HoldsEither}
+use Rattle.twin_image.specs.Twin.{HoldsEither}
 use Rattle.twin_image.proofs.Holding.{leaves_either}
 use Rattle.twin_image.proofs.Laid.{device_bodies, device_gates}
-use Rattle.twin_image.proofs.Renewing.{content_image, twin_bounded}
+use Rattle.twin_image.proofs.Renewing.{content_image}
 use Rattle.election_tables.specs.TablesData.{IsTables, TablesData}
 use Rattle.image_codec.specs.Decoded.{rank_in}
 use Rattle.image_codec.specs.Encoding.{encode}
 use Rattle.image_codec.specs.State.{State, rank_of}
 use Rattle.state_store.specs.Calls.{HoldEither, KeepFrames}
 use Rattle.state_store.specs.Load.{header}
-use Rattle.state_store.specs.Played.{IsOfSession}
 use Rattle.state_store.specs.Rest.{AreAtRest, body_size}
-use Rattle.state_store.specs.Store.{AreDevices}
 use Rattle.state_store.specs.declared.load.Load.{Load}
 use Rattle.state_store.proofs.Holding.{IsKnown, hold_either}
 

@@ -34,7 +34,7 @@ use Rattle.station.specs.Output.{Output, Says, Commits, Reports, commits_of, ref
 use Rattle.station.specs.Press.{idle_at}
 use Rattle.station.specs.Run.{wait_outputs, line_outputs, Votes, start, voted, IsOpen, open_at, IsRun, ends, ignores, refuses, opens, seals, waits, cancels, visits, cut_off, Visit, whole, suspended, after_suspension, suspension}
 use Rattle.station.specs.Setting.{Setting, reply_at, setting_of}
-use Rattle.station.specs.Start.{opening, opening_line}
+use Rattle.station.specs.Start.{opening}
 use Rattle.station.specs.Text.{line_text, output_steps, session_steps, title_text}
 use Rattle.station.specs.Valid.{IsAnswer}
 use Rattle.station.specs.declared.line.Line.{Line}

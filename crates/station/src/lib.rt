@@ -18,5 +18,7 @@ mod session;
 mod station;
 mod visit;
 
-pub use laws::{event_commits, fims_and_ballots, last_screens, one_run, run_commits, run_goes_on, stands_for};
+pub use laws::{
+    event_commits, fims_and_ballots, last_screens, one_run, run_commits, run_goes_on, stands_for,
+};
 pub use station::{StartError, Station};

@@ -1,9 +1,6 @@
 -- However a call of vota ends, what a power cut leaves keeps its votes
-use Rattle.std.proofs.Common.{◌≡◌, ◌⊎◌, inl, inr, ℕ, ◌&&◌, Bool, true, false, List, [], ◌∷◌, ◌++◌, Option, Some, None, length, refl, sym, ap, subst, ◌∙◌, arith}
-use Rattle.std.specs.Prelude.{codes, if◌then◌else◌, nat_eq}
+use Rattle.std.proofs.Common.{◌≡◌, ◌⊎◌, inl, inr, ℕ, List, [], ◌++◌, Option, Some, None, length, refl, sym, ap, subst, ◌∙◌}
 use Rattle.std.specs.Option.{ForSome}
-use Rattle.std.specs.Str.{bytes_eq}
-use Rattle.std.proofs.lemmas.Bool.{eqb-true}
 use Rattle.urna_outside.specs.Cabinet.{CabinetTold, Files}
 use Rattle.urna_outside.specs.Flash.{Flashes, IsClean, Op, after, flash_of}
 use Rattle.urna_outside.specs.Stop.{AtEachStop, Left}
@@ -112,8 +109,7 @@ module _ (t : TablesData) (r : RollData) (s last : State) (es : List Event) (out
       let again : IsRun (setting_of t r.titles) s es voted.last voted.out = subst (λ (x : State). IsRun (setting_of t r.titles) x es voted.last voted.out) here.0 voted.run in
       let same : voted.out ≡ out = (run_unique (setting_of t r.titles) s voted.last last es voted.out out (tables_setting t r.titles tables) again run).1 in
       let end : state_after voted.first (session_steps t voted.out) ≡ last =
-      ap (λ (x : State). state_after x (session_steps t voted.out)) here.0 ∙ ap (λ (o : List Output). state_after s (session_steps t o)) same ∙ run_last t r.titles roll run in
-      (
+      ap (λ (x : State). state_after x (session_steps t voted.out)) here.0 ∙ ap (λ (o : List Output). state_after s (session_steps t o)) same ∙ run_last t r.titles roll run in (
         run_counts t r.titles roll run,
         λ x is. subst (λ (load : Load). AreAtRest load last x) (load_here voted.load voted.first voted.opens.between voted.opens.recovered)
             (subst (λ (y : State). AreAtRest voted.load y x) end (voted.put.rest x is)),

@@ -1,8 +1,7 @@
 -- What a power cut leaves of a call of vota keeps its votes
-use Rattle.std.proofs.Common.{◌≡◌, ◌⊎◌, inl, inr, ℕ, ◌+◌, ◌-◌, ◌<◌, ◌≤◌, List, [], ◌∷◌, ◌++◌, Option, Some, None, length, refl, sym, ap, subst, ◌∙◌, arith, append_assoc, length-append}
+use Rattle.std.proofs.Common.{◌≡◌, ◌⊎◌, inl, inr, ℕ, ◌+◌, ◌<◌, List, [], ◌∷◌, ◌++◌, length, refl, sym, ap, subst, ◌∙◌, arith}
 use Rattle.std.specs.List.{concat}
-use Rattle.std.specs.Option.{option_map}
-use Rattle.std.proofs.lemmas.List.{append-nil, append_cancel_left}
+use Rattle.std.proofs.lemmas.List.{append_cancel_left}
 use Rattle.urna_outside.specs.Flash.{Flashes, Op, Sync, after}
 use Rattle.urna_outside.specs.Stop.{AtEachStop, Left}
 use Rattle.urna_outside.specs.Told.{Told, Does}
@@ -20,18 +19,17 @@ use Rattle.image_codec.proofs.Growing.{also_none}
 use Rattle.state_store.specs.Calls.{AreFound, KeepFrames, both_synced}
 use Rattle.state_store.specs.Held.{HeldAlone, HeldByBoth, bodies_of_both}
 use Rattle.state_store.specs.Played.{Follows, IsSafe, IsStateOrNext, Survives}
-use Rattle.state_store.specs.Steps.{Step, commits_in, commits_reached, lines_in}
+use Rattle.state_store.specs.Steps.{Step, commits_in, commits_reached}
 use Rattle.state_store.specs.declared.load.Load.{Load}
-use Rattle.state_store.proofs.Counting.{only_state}
 use Rattle.state_store.proofs.Holding.{hold_encoding}
 use Rattle.station.specs.Cast.{ballots_of, fims_reached}
 use Rattle.station.specs.Output.{Output}
 use Rattle.station.specs.Run.{IsRun}
 use Rattle.station.specs.Setting.{setting_of}
-use Rattle.station.specs.Start.{opening, opening_line}
+use Rattle.station.specs.Start.{opening}
 use Rattle.station.specs.Text.{session_steps}
 use Rattle.station.proofs.Casting.{run_shown}
-use Rattle.station.proofs.Fims.{AreShown, fims_none, fims_past}
+use Rattle.station.proofs.Fims.{AreShown, fims_none}
 use Rattle.urna_app.specs.Headline.{HoldsShown, KeepsVotes, session_lines}
 
 -- ---- what is held

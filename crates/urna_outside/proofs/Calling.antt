@@ -1,5 +1,5 @@
 -- Calls in a row: without a fault, or up to the one that failed.
-use Rattle.std.proofs.Common.{◌≡◌, Option, Some, None, Result, Ok, Err, Bool, true, false, is_ok, OnOk, OnErr, refl, ap, ◌∙◌}
+use Rattle.std.proofs.Common.{◌≡◌, Option, Some, None, Result, Bool, true, false, is_ok, refl, ap, ◌∙◌}
 use Rattle.std.specs.Option.{option_map}
 use Rattle.urna_outside.specs.Told.{Told, Calls, calls_after, failures_of, IsCalled, WithoutFault, StopsAtFault}
 

@@ -1,10 +1,9 @@
 -- What was done, one run of operations after another.
-use Rattle.std.proofs.Common.{◌≡◌, ℕ, Option, Some, None, Result, List, [], ◌∷◌, ◌++◌, refl, sym, ap, subst, ◌∙◌, append_assoc}
+use Rattle.std.proofs.Common.{◌≡◌, ℕ, Option, Some, None, List, [], ◌∷◌, ◌++◌, refl, sym, ap, subst, ◌∙◌, append_assoc}
 use Rattle.std.proofs.lemmas.List.{append-nil}
 use Rattle.std.specs.Option.{option_map, ForSome}
 use Rattle.urna_outside.specs.Flash.{Op, Put, Sync, Show, Flashes, after_one, after, shown_by}
-use Rattle.urna_outside.specs.Told.{Told, Does, Runs, Counts, Faults}
-use Rattle.urna_outside.specs.declared.device.Port.{Port}
+use Rattle.urna_outside.specs.Told.{Told, Does, Runs}
 
 pub after-append : (xs ys : List Op) (fs : Flashes) → after (xs ++ ys) fs ≡ after ys (after xs fs)
 after-append [] ys fs = refl

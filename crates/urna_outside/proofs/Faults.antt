@@ -1,9 +1,9 @@
 -- Calls that end well or at a fault, one after another.
 use Rattle.std.proofs.Common.{Result, Ok, Err, refl, subst, ◌∙◌}
-use Rattle.urna_outside.specs.Told.{Told, Faults, Counts, IsCalled}
+use Rattle.urna_outside.specs.Told.{Told, Faults}
 use Rattle.urna_outside.specs.Faults.{FaultsAt, IsFaultless, EndsAt, FailsAt}
 use Rattle.urna_outside.specs.declared.device.Port.{Port}
-use Rattle.urna_outside.proofs.Calling.{without_fault_none, without_fault_one, without_fault_trans, stops_one, stops_later}
+use Rattle.urna_outside.proofs.Calling.{without_fault_none, without_fault_trans, stops_later}
 
 -- no call
 pub faultless_none : (a : Told) → IsFaultless a a

@@ -3,7 +3,7 @@ use Rattle.std.proofs.Common.{◌≡◌, ℕ, ◌+◌, ◌<◌, List, [], ◌∷
 use Rattle.std.specs.Option.{ForSome}
 use Rattle.urna_outside.specs.Flash.{Op, Put, Sync, Show, Flashes, flash_of, after}
 use Rattle.urna_outside.specs.Told.{Told, Does, AreSized, size_of}
-use Rattle.urna_outside.specs.Confined.{AreWithin, KeepsOthers, count_puts, count_syncs}
+use Rattle.urna_outside.specs.Confined.{AreWithin, KeepsOthers, count_syncs}
 use Rattle.urna_outside.specs.declared.device.Dev.{Dev}
 use Rattle.urna_outside.proofs.Keeping.{HasPlaces, within_keeps}
 use Rattle.urna_outside.proofs.Doing.{then_told}

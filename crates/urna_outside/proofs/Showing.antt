@@ -4,8 +4,8 @@ use Rattle.std.proofs.lemmas.List.{append-nil}
 use Rattle.std.specs.Option.{option_map}
 use Rattle.urna_outside.specs.Flash.{Op, Put, Sync, Show, Flashes, after, shown_by}
 use Rattle.urna_outside.specs.Shows.{AreShows, ShowsText, ShowsFront}
-use Rattle.urna_outside.specs.Told.{Told, Does, Runs, IsTornShow}
-use Rattle.urna_outside.proofs.Doing.{shown_by-append, runs-append}
+use Rattle.urna_outside.specs.Told.{Told, Does, IsTornShow}
+use Rattle.urna_outside.proofs.Doing.{shown_by-append}
 
 pub are_shows-append : (xs ys : List Op) → AreShows xs → AreShows ys → AreShows (xs ++ ys)
 are_shows-append [] ys first second = second

@@ -1,5 +1,5 @@
 -- Stops of operations in a row.
-use Rattle.std.proofs.Common.{◌≡◌, ℕ, ◌⊎◌, inl, inr, List, [], ◌∷◌, ◌++◌, length, refl, sym, ap, subst, ◌∙◌, arith, append-nil, length-append}
+use Rattle.std.proofs.Common.{◌≡◌, ℕ, ◌⊎◌, inl, inr, List, [], ◌∷◌, ◌++◌, length, refl, sym, ap, subst, ◌∙◌, arith, length-append}
 use Rattle.urna_outside.specs.Flash.{Op, Put, Sync, Show, Flashes, flash_of, after, shown_by, IsImage}
 use Rattle.urna_outside.specs.Confined.{IsWithin, AreWithin, KeepsOthers}
 use Rattle.urna_outside.specs.Stop.{IsPartOf, IsStop, Left, IsLeft, AtEachStop}

@@ -1,4 +1,4 @@
-use Rattle.std.proofs.Common.{◌≡◌, ◌∷◌, [], List, ℕ, take, slice_get, Some, option_map, ap, sym, ◌∙◌, subst, arith}
+use Rattle.std.proofs.Common.{◌≡◌, ◌∷◌, [], ℕ, take, slice_get, Some, ap, sym, ◌∙◌, subst, arith}
 use Rattle.std.proofs.lemmas.List.{take_all}
 use Rattle.urna_outside.specs.ShownLines.{HasShown}
 use Rattle.urna_outside.proofs.ShowingLines.{shown_nothing, shown_to, cut_within, shows_err}
