@@ -130,8 +130,9 @@ pub record IsSitting (t : TablesData) (r : RollData) (start : Flashes) (x : Sitt
   pub ballots : x.ballots ≡ ballots_of run
   pub fims : x.fims ≡ fims_reached (session_lines t first out) (length left.shown)
 
--- One sitting, or one and then more, over flashes with the content that it left. Before a sitting a call may have been stopped or have
--- ended before its second sync, over flashes on which nothing was dirty.
+-- One sitting, or one and then more, over flashes with the content that it left. Before a sitting some front of the two syncs may have
+-- been done, over flashes on which nothing was dirty: so it is where a call was stopped or ended before its second sync, and where one
+-- only syncs.
 pub data IsDay (t : TablesData) (r : RollData) : Flashes → List Sitting → Left → Type 0 where
   one : {start : Flashes} {x : Sitting} {left : Left} → IsSitting t r start x left → IsDay t r start (x ∷ []) left
   then : {start next : Flashes} {x : Sitting} {more : List Sitting} {left last : Left} → IsSitting t r start x left

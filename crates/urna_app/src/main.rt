@@ -1,6 +1,6 @@
 //! The program `urna`: its words name a command and its files, and its status says how the command ended.
 //!
-//! `urna` is the one call that `main` makes. What it says of the files, of the text that is shown and of each status stands in
+//! `urna` is the call by which the program does its command. What it says of the files, of the text that is shown and of each status stands in
 //! `specs/Ending.antt` (docs/RULES.md, "The run"; docs/FORMATS.md, "Statuses").
 #![tactic(auto)]
 
