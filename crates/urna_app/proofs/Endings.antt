@@ -16,10 +16,12 @@ use Rattle.state_store.specs.declared.store.LoadError.{LoadError}
 use Rattle.state_store.specs.declared.store.LoadError.TheVariants as load
 use Rattle.station.specs.declared.station.StartError.{StartError}
 use Rattle.station.specs.declared.station.StartError.TheVariants as start
+use Rattle.urna_app.specs.Carga.{CargaEnds, IsRefusedLoad, load_no_cabinet, load_no_memory, load_refused}
 use Rattle.urna_app.specs.Command.{Carga, Vota}
-use Rattle.urna_app.specs.Ending.{CargaEnds, IsGiven, IsRefused, IsRefusedLoad, VotaEnds, cut, load_no_cabinet, load_no_memory, load_refused, load_status, no_cabinet, no_memory, not_started, port_status, refused, start_status}
+use Rattle.urna_app.specs.Errors.{load_status, port_status, start_status}
 use Rattle.urna_app.specs.Holding.{FailsToHold, hold_status}
 use Rattle.urna_app.specs.Taking.{CountsFor, HasTaken, status_in}
+use Rattle.urna_app.specs.Vota.{IsGiven, IsRefused, VotaEnds, cut, no_cabinet, no_memory, not_started, refused}
 use Rattle.urna_app.specs.declared.status.Status.{Status}
 use Rattle.urna_app.specs.declared.status.Status.TheVariants as status
 use Rattle.urna_app.specs.declared.vota.HoldError.{HoldError}

@@ -46,9 +46,11 @@ use Rattle.station.proofs.Performing.{tables_setting}
 use Rattle.station.proofs.Casting.{run_counts, run_last}
 use Rattle.station.proofs.RunLaws.{run_exists, run_unique}
 use Rattle.urna_app.specs.Command.{ToVote, Vota, command_of}
-use Rattle.urna_app.specs.Ending.{CommandEnds, HasVoted, IsCutShort, IsGiven, VotaEnds, carga, cut, done, no_cabinet, no_command, no_memory, not_started, port_status, refused, start_status, vota, IsRefused}
+use Rattle.urna_app.specs.Ending.{CommandEnds, carga, no_command, vota}
+use Rattle.urna_app.specs.Errors.{port_status, start_status}
 use Rattle.urna_app.specs.FaultLines.{Tells, fault_text}
 use Rattle.urna_app.specs.Headline.{AllAreCounted, KeepsVotes, KeysHaveRun, VotesAreKept, session_lines}
+use Rattle.urna_app.specs.Vota.{HasVoted, HasVotedTo, IsGiven, VotaEnds, cut, done, no_cabinet, no_memory, not_started, refused, IsRefused}
 use Rattle.urna_app.specs.declared.status.Doc.TheVariants as doc
 use Rattle.urna_app.specs.declared.status.Status.{Status}
 use Rattle.urna_app.specs.declared.status.Status.TheVariants as status
@@ -97,7 +99,7 @@ module _ (t : TablesData) (r : RollData) (s last : State) (es : List Event) (out
       session_stops voted.load voted.first voted.last voted.opens.between voted.out voted.opens.recovered voted.run
       (safe_stops m n start rest traced t voted.load voted.first (opening t voted.first ++ session_steps t voted.out) voted.survives)
 
-  pub cut_kept : (p : Port) → IsCutShort t r es p m n → AreKept
+  pub cut_kept : (p : Port) → HasVotedTo t r es p m n → AreKept
   cut_kept p h =
       session_stops h.load h.first h.last h.opens.between h.out h.opens.recovered h.run
       (safe_stops m n start rest traced t h.load h.first (opening t h.first ++ session_steps t h.out) h.survives)
@@ -244,7 +246,7 @@ module _ (names : Vota) (files : Files) (c d : CabinetTold) (told : c.files ≡ 
       not_begun e (of_given u q fs (λ x y z. FailsToStart x y m b e) also h) tells
   vota_kept _ (cut {t = u} {r = q} {es = fs} p also taken h) tells =
       cut_kept t r s last es out run tables section m n start rest found traced p
-      (at_end (λ x. IsCutShort t r es p m x) (port_silent p b n tells) (of_given u q fs (λ x y z. IsCutShort x y z p m b) also h))
+      (at_end (λ x. HasVotedTo t r es p m x) (port_silent p b n tells) (of_given u q fs (λ x y z. HasVotedTo x y z p m b) also h))
   vota_kept _ (done {t = u} {r = q} {es = fs} also taken h) tells =
       voted_kept t r s last es out run tables section m n start rest found traced
       (at_end (λ x. HasVoted t r es m x) tells (of_given u q fs (λ x y z. HasVoted x y z m b) also h))

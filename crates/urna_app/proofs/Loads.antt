@@ -19,8 +19,10 @@ use Rattle.state_store.specs.Laws.{AreWhole}
 use Rattle.state_store.specs.declared.store.LoadError.{LoadError}
 use Rattle.state_store.specs.declared.store.LoadError.TheVariants as load
 use Rattle.state_store.proofs.Loaded.{rest_found, rest_whole}
+use Rattle.urna_app.specs.Carga.{CargaEnds, HasLoaded, IsAsked, IsGivenLoad, IsRefusedLoad, load_no_cabinet, load_no_memory, load_refused, loaded, loaded_line, no_section, not_loaded, not_told}
 use Rattle.urna_app.specs.Command.{Carga, ToLoad, command_of}
-use Rattle.urna_app.specs.Ending.{CargaEnds, CommandEnds, HasLoaded, IsAsked, IsGivenLoad, IsRefusedLoad, carga, load_no_cabinet, load_no_memory, load_refused, load_status, loaded, loaded_line, no_section, not_loaded, not_told, vota}
+use Rattle.urna_app.specs.Ending.{CommandEnds, carga, vota}
+use Rattle.urna_app.specs.Errors.{load_status}
 use Rattle.urna_app.specs.Headline.{LoadBeginsDay}
 use Rattle.urna_app.specs.declared.status.Doc.TheVariants as doc
 use Rattle.urna_app.specs.declared.status.Status.{Status}

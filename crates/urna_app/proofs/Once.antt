@@ -11,9 +11,10 @@ use Rattle.election_tables.specs.TablesData.{TablesData}
 use Rattle.key_script.specs.Script.{events_of, first_bad}
 use Rattle.key_script.proofs.ScriptLaws.{events_or_bad}
 use Rattle.key_script.specs.declared.keys.Event.{Event}
+use Rattle.urna_app.specs.Carga.{IsGivenLoad, IsRefusedLoad, load_tables, load_roll}
 use Rattle.urna_app.specs.Command.{Carga, Vota}
 use Rattle.urna_app.specs.Documents.{IsTaken, IsBad, IsFault, HasTables, HasRoll, HasKeys, limit_of, lacks, longer, bad, no_document, rule, count, roll_line, line}
-use Rattle.urna_app.specs.Ending.{IsGiven, IsGivenLoad, IsRefused, IsRefusedLoad, tables, roll, keys, load_tables, load_roll}
+use Rattle.urna_app.specs.Vota.{IsGiven, IsRefused, tables, roll, keys}
 use Rattle.urna_app.specs.declared.status.Doc.{Doc}
 use Rattle.urna_app.specs.declared.status.Doc.TheVariants as doc
 use Rattle.urna_app.specs.declared.status.Status.{Status}

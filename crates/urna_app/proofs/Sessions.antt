@@ -18,7 +18,7 @@ use Rattle.station.specs.Start.{IsStarted, opening, opening_line}
 use Rattle.station.specs.Station.{StationData}
 use Rattle.station.specs.Text.{session_steps}
 use Rattle.station.proofs.Steps.{full_opening}
-use Rattle.urna_app.specs.Ending.{HasVoted, IsCutShort}
+use Rattle.urna_app.specs.Vota.{HasVoted, HasVotedTo}
 
 module _ (t : TablesData) (r : RollData) (es : List Event) (a c e : Told) (station : StationData) (is : IsStarted t r station a c) where
   at_state : station.standing.state ≡ is.state
@@ -55,7 +55,7 @@ module _ (t : TablesData) (r : RollData) (es : List Event) (a c e : Told) (stati
       }
 
   pub cut_short : (p : Port) (last : State) (out : List Output) → IsRun (setting_of t r.titles) station.standing.state es last out
-      → HasStopped t station.store.load station.standing.state (session_steps t out) p c e → IsCutShort t r es p a e
+      → HasStopped t station.store.load station.standing.state (session_steps t out) p c e → HasVotedTo t r es p a e
   cut_short p last out run stopped =
       let steps = session_steps t out in
       let now : HasStopped t station.store.load is.state steps p c e = subst (λ (s : State). HasStopped t station.store.load s steps p c e) at_state stopped in

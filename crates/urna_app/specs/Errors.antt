@@ -1,10 +1,17 @@
--- The statuses of the errors of taking and reading
+-- The statuses of errors
+use Rattle.urna_outside.specs.Told.{port_of}
 use Rattle.urna_outside.specs.declared.cabinet.CabinetError.{CabinetError}
 use Rattle.urna_outside.specs.declared.cabinet.CabinetError.TheVariants as take
+use Rattle.urna_outside.specs.declared.device.Port.{Port}
+use Rattle.urna_outside.specs.declared.device.Port.TheVariants.{Internal, External, Display}
 use Rattle.election_tables.specs.declared.tables.TablesError.{TablesError}
 use Rattle.election_tables.specs.declared.tables.TablesError.TheVariants as tables
 use Rattle.election_tables.specs.declared.roll.RollError.{RollError}
 use Rattle.election_tables.specs.declared.roll.RollError.TheVariants as roll
+use Rattle.state_store.specs.declared.store.LoadError.{LoadError}
+use Rattle.state_store.specs.declared.store.LoadError.TheVariants as load
+use Rattle.station.specs.declared.station.StartError.{StartError}
+use Rattle.station.specs.declared.station.StartError.TheVariants as start
 use Rattle.urna_app.specs.declared.status.Doc.{Doc}
 use Rattle.urna_app.specs.declared.status.Status.{Status}
 use Rattle.urna_app.specs.declared.status.Status.TheVariants as status
@@ -24,3 +31,21 @@ abbrev pub roll_status : RollError → Status
 roll_status roll.Memory = status.Memory
 roll_status roll.Count = status.RollCount
 roll_status (roll.Line k) = status.RollLine k
+
+abbrev pub port_status : Port → Status
+port_status Internal = status.InternalFlash
+port_status External = status.ExternalFlash
+port_status Display = status.Display
+
+-- a station that didn't start, as a status
+abbrev pub start_status : StartError → Status
+start_status start.Memory = status.Memory
+start_status (start.Port p) = port_status p
+start_status (start.Foreign d) = status.Foreign d
+start_status start.NoImage = status.NoImage
+
+-- flashes that were not loaded, as a status
+abbrev pub load_status : LoadError → Status
+load_status load.Memory = status.Memory
+load_status (load.Flash d) = port_status (port_of d)
+load_status (load.Busy d) = status.Busy d

@@ -29,8 +29,10 @@ use Rattle.station.specs.Run.{IsRun}
 use Rattle.station.specs.Setting.{setting_of}
 use Rattle.station.specs.Start.{opening_line}
 use Rattle.station.specs.Text.{session_steps}
+use Rattle.urna_app.specs.Carga.{IsAsked, IsGivenLoad}
 use Rattle.urna_app.specs.Command.{Carga, ToLoad, ToVote, Vota, command_of}
-use Rattle.urna_app.specs.Ending.{Ends, IsAsked, IsGiven, IsGivenLoad}
+use Rattle.urna_app.specs.Ending.{Ends}
+use Rattle.urna_app.specs.Vota.{IsGiven}
 use Rattle.urna_app.specs.declared.status.Status.{Status}
 use Rattle.urna_app.specs.declared.status.Status.TheVariants as status
 

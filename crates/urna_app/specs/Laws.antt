@@ -4,8 +4,9 @@ use Rattle.urna_outside.specs.Cabinet.{Files}
 use Rattle.election_tables.specs.Roll.{RollData}
 use Rattle.election_tables.specs.TablesData.{TablesData}
 use Rattle.key_script.specs.declared.keys.Event.{Event}
+use Rattle.urna_app.specs.Carga.{IsGivenLoad, IsRefusedLoad}
 use Rattle.urna_app.specs.Command.{Carga, Vota}
-use Rattle.urna_app.specs.Ending.{IsGiven, IsGivenLoad, IsRefused, IsRefusedLoad}
+use Rattle.urna_app.specs.Vota.{IsGiven, IsRefused}
 use Rattle.urna_app.specs.declared.status.Status.{Status}
 
 -- files are refused with one status

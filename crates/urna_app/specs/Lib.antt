@@ -1,3 +1,4 @@
+pub mod Carga
 pub mod Codes
 pub mod Command
 pub mod Documents
@@ -5,6 +6,7 @@ pub mod Ending
 pub mod Errors
 pub mod FaultLines
 pub mod Headline
+pub mod Holding
 pub mod Laws
 pub mod Taking
-pub mod Holding
+pub mod Vota

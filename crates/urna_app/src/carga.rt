@@ -3,7 +3,8 @@ ghost use Rattle.std.specs.Prelude.{◌≡◌, IfNone, IfSome};
 ghost use Rattle.election_tables.specs.declared.tables.sections.Section.{Section};
 ghost use Rattle.state_store.specs.Load.{IsSectionOf};
 ghost use Rattle.state_store.specs.Store.{AreDevices};
-ghost use Rattle.urna_app.specs.Ending.{CargaEnds, load_status, loaded_line};
+ghost use Rattle.urna_app.specs.Carga.{CargaEnds, loaded_line};
+ghost use Rattle.urna_app.specs.Errors.{load_status};
 ghost use Rattle.urna_app.specs.Taking.{status_in};
 
 use crate::command::CargaNames;

@@ -1,4 +1,4 @@
-//! Laws of endings (`specs/Ending.antt`), and the headline (`specs/Headline.antt`).
+//! Laws of endings (`specs/Laws.antt`), and the headline (`specs/Headline.antt`).
 ghost use Rattle.urna_app.specs.Headline.{AllAreCounted, DayKeepsVotes, KeysHaveRun, LoadBeginsDay, VotesAreKept};
 ghost use Rattle.urna_app.specs.Laws.{RefusedOnce, RefusedOrGiven};
 

@@ -1,7 +1,7 @@
 //! The program `urna`: its words name a command and its files, and its status says how the command ended.
 //!
 //! `urna` is the call by which the program does its command. What it says of the files, of the text that is shown and of each status stands in
-//! `specs/Ending.antt` (docs/RULES.md, "The run"; docs/FORMATS.md, "Statuses").
+//! `specs/Ending.antt`, and by command in `specs/Vota.antt` and `specs/Carga.antt` (docs/RULES.md, "The run"; docs/FORMATS.md, "Statuses").
 #![tactic(auto)]
 
 ghost use Rattle.std.specs.Prelude.{map, string_bytes};

@@ -1,9 +1,10 @@
 //! The command `vota TABLES ROLL KEYS OUT`: the session of a section's poll.
 ghost use Rattle.std.specs.Prelude.{◌≡◌, ℕ, List, IfErr, OnOk};
 ghost use Rattle.state_store.specs.Store.{AreDevices};
-ghost use Rattle.urna_app.specs.Ending.{HasVoted, VotaEnds, port_status};
+ghost use Rattle.urna_app.specs.Errors.{port_status};
 ghost use Rattle.urna_app.specs.Holding.{FailsToHold, hold_status};
 ghost use Rattle.urna_app.specs.Taking.{status_in};
+ghost use Rattle.urna_app.specs.Vota.{HasVoted, VotaEnds};
 
 use crate::command::VotaNames;
 use crate::documents::{take_keys, take_roll, take_tables};

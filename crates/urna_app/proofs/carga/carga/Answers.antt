@@ -5,9 +5,10 @@ use Rattle.urna_outside.specs.ShownLines.{HasShown, IsCutOff}
 use Rattle.image_codec.specs.Valid.{ready_state}
 use Rattle.state_store.specs.Rest.{AreAtRest}
 use Rattle.state_store.specs.declared.load.Load.{Load}
+use Rattle.urna_app.specs.Carga.{CargaEnds, HasLoaded, IsAsked, IsGivenLoad, load_roll, load_tables, loaded, no_section, not_loaded, not_told}
 use Rattle.urna_app.specs.Command.{Carga}
 use Rattle.urna_app.specs.Documents.{HasRoll, IsFault}
-use Rattle.urna_app.specs.Ending.{CargaEnds, HasLoaded, IsAsked, IsGivenLoad, load_roll, load_status, load_tables, loaded, no_section, not_loaded, not_told}
+use Rattle.urna_app.specs.Errors.{load_status}
 use Rattle.urna_app.specs.Taking.{HasTaken}
 use Rattle.urna_app.specs.declared.status.Doc.TheVariants as doc
 use Rattle.urna_app.specs.declared.status.Status.TheVariants as status

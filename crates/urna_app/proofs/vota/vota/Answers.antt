@@ -2,8 +2,8 @@ use Rattle.std.proofs.Common.{Option, sym, subst, ◌∙◌, arith}
 use Rattle.urna_outside.specs.Cabinet.{Files}
 use Rattle.urna_app.specs.Documents.{HasRoll, HasKeys, IsFault}
 use Rattle.urna_app.specs.Command.{Vota}
-use Rattle.urna_app.specs.Ending.{IsGiven, VotaEnds, done, tables, roll, keys}
 use Rattle.urna_app.specs.Taking.{HasTaken}
+use Rattle.urna_app.specs.Vota.{IsGiven, VotaEnds, done, tables, roll, keys}
 use Rattle.urna_app.specs.declared.status.Doc.TheVariants as doc
 use Rattle.urna_app.specs.declared.status.Status.TheVariants as status
 use Rattle.urna_app.proofs.Calls.{taken_more, taken_within}
