@@ -40,6 +40,10 @@ taken_more a b s x y z first second =
 pub taken_within : (a b : ℕ) (s : Status) (x y : CabinetTold) → a ≤ b → HasTaken a s x y → HasTaken b s x y
 taken_within a b s x y le h = record { files = h.files; counts = h.counts; made = h.made; few = omega (arith, h.few, le); calls = h.calls }
 
+-- so many calls without a fault, whatever came after
+pub taken_as : (n : ℕ) (s : Status) (c d : CabinetTold) → (d.tally ≡ c.tally → CountsFor s c.tally d.tally) → HasTaken n status.Done c d → HasTaken n s c d
+taken_as n s c d counts h = record { files = h.files; counts = counts h.counts; made = h.made; few = h.few; calls = h.calls }
+
 -- no call
 pub taken_none : (s : Status) (x : CabinetTold) → CountsFor s x.tally x.tally → HasTaken 0 s x x
 taken_none s x counts = record { files = refl; counts = counts; made = 0; few = omega arith; calls = refl }

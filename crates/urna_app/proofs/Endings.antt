@@ -1,7 +1,7 @@
 -- How a command ends, by the answer of its steps
-use Rattle.std.proofs.Common.{◌≡◌, ◌≢◌, ◌⊎◌, inl, inr, ℕ, List, Result, Ok, Err, refl, sym, subst}
+use Rattle.std.proofs.Common.{◌≡◌, ◌≢◌, ◌⊎◌, inl, inr, List, Option, Result, Ok, Err, refl, sym, subst}
 use Rattle.std.specs.Result.{IsErrAnd}
-use Rattle.urna_outside.specs.Cabinet.{CabinetTold, Tally}
+use Rattle.urna_outside.specs.Cabinet.{CabinetTold, Files, Tally}
 use Rattle.urna_outside.specs.Told.{Told}
 use Rattle.urna_outside.specs.declared.device.Dev.TheVariants as dev
 use Rattle.urna_outside.specs.declared.device.Port.{Port}
@@ -16,16 +16,18 @@ use Rattle.state_store.specs.declared.store.LoadError.{LoadError}
 use Rattle.state_store.specs.declared.store.LoadError.TheVariants as load
 use Rattle.station.specs.declared.station.StartError.{StartError}
 use Rattle.station.specs.declared.station.StartError.TheVariants as start
-use Rattle.urna_app.specs.Carga.{CargaEnds, IsRefusedLoad, load_no_cabinet, load_no_memory, load_refused}
+use Rattle.urna_app.specs.Carga.{CargaEnds, IsRefusedLoad, load_no_cabinet, load_no_memory, load_refused, load_roll, load_tables}
 use Rattle.urna_app.specs.Command.{Carga, Vota}
+use Rattle.urna_app.specs.Documents.{HasKeys, HasRoll, HasTables, IsFirstFault, of_roll, of_tables}
 use Rattle.urna_app.specs.Errors.{load_status, port_status, start_status}
 use Rattle.urna_app.specs.Holding.{FailsToHold, hold_status}
 use Rattle.urna_app.specs.Taking.{CountsFor, HasTaken, status_in}
-use Rattle.urna_app.specs.Vota.{IsGiven, IsRefused, VotaEnds, cut, no_cabinet, no_memory, not_started, refused}
+use Rattle.urna_app.specs.Vota.{IsGiven, IsRefused, VotaEnds, cut, no_cabinet, no_memory, not_started, refused, roll, tables}
 use Rattle.urna_app.specs.declared.status.Status.{Status}
 use Rattle.urna_app.specs.declared.status.Status.TheVariants as status
 use Rattle.urna_app.specs.declared.vota.HoldError.{HoldError}
 use Rattle.urna_app.specs.declared.vota.HoldError.TheVariants as hold
+use Rattle.urna_app.proofs.Calls.{taken_as}
 
 -- the status of an error that was passed on
 pub passed_on : {T : Type 0} {P : Status → Type 0} (r : Result T Status) (s : Status) → IsErrAnd r P → ((e : Status) → P e → e ≡ s) → status_in r ≡ s
@@ -57,6 +59,21 @@ which status.NoImage = inr (inr (λ e. absurd (cc), λ e. absurd (cc)))
 which (status.Busy d) = inr (inr (λ e. absurd (cc), λ e. absurd (cc)))
 which status.NoSection = inr (inr (λ e. absurd (cc), λ e. absurd (cc)))
 
+-- the tables or the roll are at fault
+pub first_refused : (files : Option Files) (names : Vota) (s : Status) → IsFirstFault files names.tables names.roll s → IsRefused files names s
+first_refused files names s (of_tables h) = tables h
+first_refused files names s (of_roll has h) = roll has h
+
+pub first_refused_load : (files : Option Files) (names : Carga) (s : Status) → IsFirstFault files names.tables names.roll s → IsRefusedLoad files names s
+first_refused_load files names s (of_tables h) = load_tables h
+first_refused_load files names s (of_roll has h) = load_roll has h
+
+-- the keys are taken behind the tables and the roll
+pub given_keys : (names : Vota) (c d : CabinetTold) (t : TablesData) (r : RollData) (es : List Event) → HasTables c.files names.tables t
+    → HasRoll c.files names.roll r → HasTaken 2 status.Done c d → HasKeys d.files names.keys es → IsGiven c.files names t r es
+given_keys names c d t r es has read taken pressed =
+    record { tables = has; roll = read; keys = subst (λ (fs : Option Files). HasKeys fs names.keys es) taken.files pressed }
+
 -- a step that took no document ends the command
 pub fault_ends : (names : Vota) (c d : CabinetTold) (m : Told) (s : Status) → (s ≢ status.Memory → s ≢ status.Cabinet → IsRefused c.files names s)
     → HasTaken 3 s c d → VotaEnds names c d m m s
@@ -81,10 +98,6 @@ load_fault_ends names c d m s found taken = ends s (which s) found taken
     ends u (inr (inl failed)) found taken =
         subst (CargaEnds names c d m m) (sym failed) (load_no_cabinet (subst (λ (v : Status). HasTaken 2 v c d) failed taken) (untouched m))
     ends u (inr (inr (memory, failed))) found taken = load_refused (found memory failed) taken (untouched m)
-
--- so many calls without a fault, whatever came after
-pub taken_as : (n : ℕ) (s : Status) (c d : CabinetTold) → (d.tally ≡ c.tally → CountsFor s c.tally d.tally) → HasTaken n status.Done c d → HasTaken n s c d
-taken_as n s c d counts h = record { files = h.files; counts = counts h.counts; made = h.made; few = h.few; calls = h.calls }
 
 counts_port : (p : Port) (old new : Tally) → new ≡ old → CountsFor (port_status p) old new
 counts_port port.Internal old new same = same

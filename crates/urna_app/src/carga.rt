@@ -8,7 +8,7 @@ ghost use Rattle.urna_app.specs.Errors.{load_status};
 ghost use Rattle.urna_app.specs.Taking.{status_in};
 
 use crate::command::CargaNames;
-use crate::documents::{take_roll, take_tables};
+use crate::documents::take_documents;
 use crate::status::Status;
 use election_tables::{Roll, Section, Tables};
 use state_store::{LoadError, Store};
@@ -69,8 +69,7 @@ pub(crate) fn carga<M: Machine, C: Cabinet>(
     ensures { CargaEnds (record { tables = names.entry.tables.now; roll = names.entry.roll.now; zone = names.entry.zone; number = names.entry.number })
         (C.told cabinet.old) (C.told cabinet.new) (M.told machine.old) (M.told machine.new) (status_in result) }
 {
-    let tables = take_tables(alloc, cabinet, names.tables)?;
-    let roll = take_roll(alloc, cabinet, names.roll)?;
+    let (tables, roll) = take_documents(alloc, cabinet, names.tables, names.roll)?;
     let Some(section) = asked_section(&tables, &roll, names.zone, names.number) else {
         return Err(Status::NoSection);
     };

@@ -1,7 +1,7 @@
 //! Taking and reading the files of a command.
 ghost use Rattle.std.specs.Prelude.{◌≡◌, ◌≢◌, IfOk, IfErr};
 ghost use Rattle.election_tables.specs.TablesData.{IsTables};
-ghost use Rattle.urna_app.specs.Documents.{HasTables, HasRoll, HasKeys, IsFault};
+ghost use Rattle.urna_app.specs.Documents.{HasTables, HasRoll, HasKeys, IsFault, IsFirstFault, IsTaken, limit_of};
 ghost use Rattle.urna_app.specs.Errors.{take_status, tables_status, roll_status};
 ghost use Rattle.urna_app.specs.Taking.{HasTaken, status_in};
 
@@ -16,6 +16,17 @@ const TABLES_LIMIT: u32 = 4_194_304;
 const ROLL_LIMIT: u32 = 16_384;
 
 const KEYS_LIMIT: u32 = 16_777_216;
+
+/// The most bytes that a document may have.
+fn limit(doc: Doc) -> u32
+    ensures { result ≡ limit_of doc }
+{
+    match doc {
+        Doc::Tables => TABLES_LIMIT,
+        Doc::Roll => ROLL_LIMIT,
+        Doc::Keys => KEYS_LIMIT,
+    }
+}
 
 fn not_taken(error: CabinetError, doc: Doc) -> Status
     ensures { result ≡ take_status doc error }
@@ -48,43 +59,58 @@ fn no_roll(error: RollError) -> Status
     }
 }
 
-pub(crate) fn take_tables<C: Cabinet>(
-    alloc: Global,
-    cabinet: &mut C,
-    name: &str,
-) -> Result<Tables, Status>
+/// The bytes of a document.
+fn take<C: Cabinet>(alloc: Global, cabinet: &mut C, name: &str, doc: Doc) -> Result<Vec<u8>, Status>
+    ensures bytes { IfOk result (λ bytes. IsTaken (C.told cabinet.old).files doc name.now bytes.items) }
+    ensures fault { IfErr result (λ s. s ≢ Status.Memory → s ≢ Status.Cabinet → IsFault (C.told cabinet.old).files name.now doc s) }
+    ensures taken { HasTaken 1 (status_in result) (C.told cabinet.old) (C.told cabinet.new) }
+{
+    match cabinet.take(alloc, name, limit(doc)) {
+        Ok(bytes) => Ok(bytes),
+        Err(error) => Err(not_taken(error, doc)),
+    }
+}
+
+fn take_tables<C: Cabinet>(alloc: Global, cabinet: &mut C, name: &str) -> Result<Tables, Status>
     ensures tables { IfOk result (HasTables (C.told cabinet.old).files name.now) }
     ensures valid { IfOk result IsTables }
     ensures fault { IfErr result (λ s. s ≢ Status.Memory → s ≢ Status.Cabinet → IsFault (C.told cabinet.old).files name.now Doc.Tables s) }
     ensures taken { HasTaken 1 (status_in result) (C.told cabinet.old) (C.told cabinet.new) }
 {
-    let bytes = match cabinet.take(alloc, name, TABLES_LIMIT) {
-        Ok(bytes) => bytes,
-        Err(error) => return Err(not_taken(error, Doc::Tables)),
-    };
+    let bytes = take(alloc, cabinet, name, Doc::Tables)?;
     match Tables::read(alloc, &bytes) {
         Ok(tables) => Ok(tables),
         Err(error) => Err(not_tables(error)),
     }
 }
 
-pub(crate) fn take_roll<C: Cabinet>(
-    alloc: Global,
-    cabinet: &mut C,
-    name: &str,
-) -> Result<Roll, Status>
+fn take_roll<C: Cabinet>(alloc: Global, cabinet: &mut C, name: &str) -> Result<Roll, Status>
     ensures roll { IfOk result (HasRoll (C.told cabinet.old).files name.now) }
     ensures fault { IfErr result (λ s. s ≢ Status.Memory → s ≢ Status.Cabinet → IsFault (C.told cabinet.old).files name.now Doc.Roll s) }
     ensures taken { HasTaken 1 (status_in result) (C.told cabinet.old) (C.told cabinet.new) }
 {
-    let bytes = match cabinet.take(alloc, name, ROLL_LIMIT) {
-        Ok(bytes) => bytes,
-        Err(error) => return Err(not_taken(error, Doc::Roll)),
-    };
+    let bytes = take(alloc, cabinet, name, Doc::Roll)?;
     match Roll::read(alloc, &bytes) {
         Ok(roll) => Ok(roll),
         Err(error) => Err(no_roll(error)),
     }
+}
+
+/// The tables and the roll of a command, in the order of its words.
+pub(crate) fn take_documents<C: Cabinet>(
+    alloc: Global,
+    cabinet: &mut C,
+    tables: &str,
+    roll: &str,
+) -> Result<(Tables, Roll), Status>
+    ensures tables { IfOk result (λ both. HasTables (C.told cabinet.old).files tables.now both.0) }
+    ensures roll { IfOk result (λ both. HasRoll (C.told cabinet.old).files roll.now both.1) }
+    ensures fault { IfErr result (λ s. s ≢ Status.Memory → s ≢ Status.Cabinet → IsFirstFault (C.told cabinet.old).files tables.now roll.now s) }
+    ensures taken { HasTaken 2 (status_in result) (C.told cabinet.old) (C.told cabinet.new) }
+{
+    let tables = take_tables(alloc, cabinet, tables)?;
+    let roll = take_roll(alloc, cabinet, roll)?;
+    Ok((tables, roll))
 }
 
 pub(crate) fn take_keys<C: Cabinet>(
@@ -96,10 +122,7 @@ pub(crate) fn take_keys<C: Cabinet>(
     ensures fault { IfErr result (λ s. s ≢ Status.Memory → s ≢ Status.Cabinet → IsFault (C.told cabinet.old).files name.now Doc.Keys s) }
     ensures taken { HasTaken 1 (status_in result) (C.told cabinet.old) (C.told cabinet.new) }
 {
-    let bytes = match cabinet.take(alloc, name, KEYS_LIMIT) {
-        Ok(bytes) => bytes,
-        Err(error) => return Err(not_taken(error, Doc::Keys)),
-    };
+    let bytes = take(alloc, cabinet, name, Doc::Keys)?;
     match Script::read(bytes) {
         Ok(script) => Ok(script),
         Err(error) => Err(Status::Line(error.line)),

@@ -7,7 +7,7 @@ ghost use Rattle.urna_app.specs.Taking.{status_in};
 ghost use Rattle.urna_app.specs.Vota.{HasVoted, VotaEnds};
 
 use crate::command::VotaNames;
-use crate::documents::{take_keys, take_roll, take_tables};
+use crate::documents::{take_documents, take_keys};
 use crate::status::Status;
 use election_tables::{Roll, Tables};
 use key_script::Script;
@@ -80,8 +80,7 @@ pub(crate) fn vota<M: Machine, C: Cabinet>(
     ensures { (out : List ℕ) → VotaEnds (record { tables = names.entry.tables.now; roll = names.entry.roll.now; keys = names.entry.keys.now; out = out })
         (C.told cabinet.old) (C.told cabinet.new) (M.told machine.old) (M.told machine.new) (status_in result) }
 {
-    let tables = take_tables(alloc, cabinet, names.tables)?;
-    let roll = take_roll(alloc, cabinet, names.roll)?;
+    let (tables, roll) = take_documents(alloc, cabinet, names.tables, names.roll)?;
     let script = take_keys(alloc, cabinet, names.keys)?;
     match hold(alloc, &tables, &roll, &script, machine) {
         Ok(()) => Ok(()),

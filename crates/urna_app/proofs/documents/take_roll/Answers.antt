@@ -1,42 +1,27 @@
-use Rattle.std.proofs.Common.{◌≢◌, ◌≤◌, ℕ, Err, sym, ap, subst}
-use Rattle.urna_app.specs.Documents.{IsFault, IsTaken, limit_of}
-use Rattle.urna_app.specs.Taking.{CountsFor}
+use Rattle.std.proofs.Common.{◌≢◌, Err, sym, ap, subst}
+use Rattle.urna_app.specs.Documents.{IsFault, IsTaken}
+use Rattle.urna_app.specs.Errors.{roll_status}
+use Rattle.urna_app.specs.Taking.{HasTaken}
 use Rattle.urna_app.specs.declared.status.Doc.TheVariants as doc
 use Rattle.urna_app.specs.declared.status.Status.{Status}
 use Rattle.urna_app.specs.declared.status.Status.TheVariants as status
-use Rattle.urna_app.proofs.Calls.{counts_not_taken, counts_roll, one_call}
-use Rattle.urna_app.proofs.Faults.{not_taken, no_roll}
+use Rattle.urna_app.proofs.Calls.{counts_roll, taken_as}
+use Rattle.urna_app.proofs.Faults.{no_roll}
 use Rattle.urna_app.proofs.documents.take_roll.Goals as goal
-
-pub returns-in-Err-clause-fault : goal.returns-in-Err-clause-fault
-returns-in-Err-clause-fault g c =
-    let told = g.C.Cabinet.told c.args.cabinet.now in
-    subst (λ (s : Status). s ≢ status.Memory → s ≢ status.Cabinet → IsFault told.files c.args.name.now doc.Roll s) (sym c.not_taken.ensures)
-    (not_taken told.files c.args.name.now doc.Roll c.in-Err.error (λ e. c.in-Err.ensures.lacking (ap Err e)) (λ e. c.in-Err.ensures.longer (ap Err e)))
-
-pub returns-in-Err-clause-taken : goal.returns-in-Err-clause-taken
-returns-in-Err-clause-taken g c =
-    let old = g.C.Cabinet.told c.args.cabinet.now in
-    let new = g.C.Cabinet.told c.take.new.self in
-    one_call c.not_taken.result old new c.take.ensures.files
-    (subst (λ (s : Status). CountsFor s old.tally new.tally) (sym c.not_taken.ensures)
-    (counts_not_taken doc.Roll c.in-Err.error old.tally new.tally (λ e. c.in-Err.ensures.memory (ap Err e)) (λ e. c.in-Err.ensures.failed (ap Err e))
-    (λ e. c.in-Err.ensures.missing (ap Err e)) (λ e. c.in-Err.ensures.too_long (ap Err e))))
-    c.take.ensures.calls
 
 pub returns-clause-fault : goal.returns-clause-fault
 returns-clause-fault g c =
     let told = g.C.Cabinet.told c.args.cabinet.now in
     let name = c.args.name.now in
-    let taken : IsTaken told.files doc.Roll name c.deref.result.now =
-    subst (IsTaken told.files doc.Roll name) (sym c.deref.ensures.value) (record { held = c.in-Ok.ensures.bytes; short = subst (λ (n : ℕ). n ≤ limit_of doc.Roll) c.in-Ok.bytes.ok.0 c.in-Ok.ensures.limit }) in
+    let taken = subst (IsTaken told.files doc.Roll name) (sym c.deref.ensures.value) c.in_ok-bytes.ensures.bytes in
     subst (λ (s : Status). s ≢ status.Memory → s ≢ status.Cabinet → IsFault told.files name doc.Roll s) (sym c.no_roll.ensures)
-    (λ memory failed. no_roll told.files name c.deref.result.now c.in-Err-read.error taken (λ e. c.in-Err-read.ensures.count (ap Err e))
-    (λ k e. c.in-Err-read.ensures.line k (ap Err e)) memory)
+    (λ memory failed. no_roll told.files name c.deref.result.now c.in-Err.error taken (λ e. c.in-Err.ensures.count (ap Err e))
+    (λ k e. c.in-Err.ensures.line k (ap Err e)) memory)
 
 pub returns-clause-taken : goal.returns-clause-taken
 returns-clause-taken g c =
     let old = g.C.Cabinet.told c.args.cabinet.now in
-    let new = g.C.Cabinet.told c.take.new.self in
-    one_call c.no_roll.result old new c.take.ensures.files
-    (subst (λ (s : Status). CountsFor s old.tally new.tally) (sym c.no_roll.ensures) (counts_roll c.in-Err-read.error old.tally new.tally c.in-Ok.ensures.ok)) c.take.ensures.calls
+    let new = g.C.Cabinet.told c.take.new.cabinet in
+    let e = c.in-Err.error in
+    subst (λ (s : Status). HasTaken 1 s old new) (sym c.no_roll.ensures)
+    (taken_as 1 (roll_status e) old new (counts_roll e old.tally new.tally) c.in_ok-bytes.ensures.taken)
