@@ -4,17 +4,16 @@ ghost use Rattle.election_tables.specs.declared.tables.sections.Section.{Section
 ghost use Rattle.state_store.specs.Load.{IsSectionOf};
 ghost use Rattle.state_store.specs.Store.{AreDevices};
 ghost use Rattle.urna_app.specs.Carga.{CargaEnds, loaded_line};
-ghost use Rattle.urna_app.specs.Errors.{load_status};
 ghost use Rattle.urna_app.specs.Taking.{status_in};
 
 use crate::command::CargaNames;
 use crate::documents::take_documents;
 use crate::status::Status;
 use election_tables::{Roll, Section, Tables};
-use state_store::{LoadError, Store};
+use state_store::Store;
 use std::alloc::Global;
 use urna_base::LineBuffer;
-use urna_outside::{Cabinet, Dev, Machine, show_line};
+use urna_outside::{Cabinet, Machine, show_line};
 
 /// The section of a zone and number, where it has as many voters as the roll.
 fn asked_section(tables: &Tables, roll: &Roll, zone: u32, number: u32) -> Option<Section>
@@ -27,17 +26,6 @@ fn asked_section(tables: &Tables, roll: &Roll, zone: u32, number: u32) -> Option
         Some(section)
     } else {
         None
-    }
-}
-
-fn load_status(error: LoadError) -> Status
-    ensures { result ≡ load_status error }
-{
-    match error {
-        LoadError::Memory => Status::Memory,
-        LoadError::Flash(Dev::Internal) => Status::InternalFlash,
-        LoadError::Flash(Dev::External) => Status::ExternalFlash,
-        LoadError::Busy(dev) => Status::Busy(dev),
     }
 }
 
@@ -73,10 +61,7 @@ pub(crate) fn carga<M: Machine, C: Cabinet>(
     let Some(section) = asked_section(&tables, &roll, names.zone, names.number) else {
         return Err(Status::NoSection);
     };
-    let _store = match Store::format(alloc, &tables, &roll, section, machine) {
-        Ok(store) => store,
-        Err(error) => return Err(load_status(error)),
-    };
+    let _store = Store::format(alloc, &tables, &roll, section, machine)?;
     match show_line(machine, loaded_line(section).as_bytes()) {
         Ok(()) => Ok(()),
         Err(_) => Err(Status::Display),

@@ -2,14 +2,14 @@
 ghost use Rattle.std.specs.Prelude.{◌≡◌, ◌≢◌, IfOk, IfErr};
 ghost use Rattle.election_tables.specs.TablesData.{IsTables};
 ghost use Rattle.urna_app.specs.Documents.{HasTables, HasRoll, HasKeys, IsFault, IsFirstFault, IsTaken, limit_of};
-ghost use Rattle.urna_app.specs.Errors.{take_status, tables_status, roll_status};
 ghost use Rattle.urna_app.specs.Taking.{HasTaken, status_in};
 
+use crate::errors::not_taken;
 use crate::status::{Doc, Status};
-use election_tables::{Roll, RollError, Tables, TablesError};
+use election_tables::{Roll, Tables};
 use key_script::Script;
 use std::alloc::Global;
-use urna_outside::{Cabinet, CabinetError};
+use urna_outside::Cabinet;
 
 const TABLES_LIMIT: u32 = 4_194_304;
 
@@ -25,37 +25,6 @@ fn limit(doc: Doc) -> u32
         Doc::Tables => TABLES_LIMIT,
         Doc::Roll => ROLL_LIMIT,
         Doc::Keys => KEYS_LIMIT,
-    }
-}
-
-fn not_taken(error: CabinetError, doc: Doc) -> Status
-    ensures { result ≡ take_status doc error }
-{
-    match error {
-        CabinetError::Memory => Status::Memory,
-        CabinetError::Failed => Status::Cabinet,
-        CabinetError::Missing => Status::Missing(doc),
-        CabinetError::TooLong => Status::TooLong(doc),
-    }
-}
-
-fn not_tables(error: TablesError) -> Status
-    ensures { result ≡ tables_status error }
-{
-    match error {
-        TablesError::Memory => Status::Memory,
-        TablesError::NotToml => Status::TablesNotToml,
-        TablesError::Rule(rule) => Status::TablesRule(rule),
-    }
-}
-
-fn no_roll(error: RollError) -> Status
-    ensures { result ≡ roll_status error }
-{
-    match error {
-        RollError::Memory => Status::Memory,
-        RollError::Count => Status::RollCount,
-        RollError::Line(line) => Status::RollLine(line),
     }
 }
 
@@ -78,10 +47,8 @@ fn take_tables<C: Cabinet>(alloc: Global, cabinet: &mut C, name: &str) -> Result
     ensures taken { HasTaken 1 (status_in result) (C.told cabinet.old) (C.told cabinet.new) }
 {
     let bytes = take(alloc, cabinet, name, Doc::Tables)?;
-    match Tables::read(alloc, &bytes) {
-        Ok(tables) => Ok(tables),
-        Err(error) => Err(not_tables(error)),
-    }
+    let tables = Tables::read(alloc, &bytes)?;
+    Ok(tables)
 }
 
 fn take_roll<C: Cabinet>(alloc: Global, cabinet: &mut C, name: &str) -> Result<Roll, Status>
@@ -90,10 +57,8 @@ fn take_roll<C: Cabinet>(alloc: Global, cabinet: &mut C, name: &str) -> Result<R
     ensures taken { HasTaken 1 (status_in result) (C.told cabinet.old) (C.told cabinet.new) }
 {
     let bytes = take(alloc, cabinet, name, Doc::Roll)?;
-    match Roll::read(alloc, &bytes) {
-        Ok(roll) => Ok(roll),
-        Err(error) => Err(no_roll(error)),
-    }
+    let roll = Roll::read(alloc, &bytes)?;
+    Ok(roll)
 }
 
 /// The tables and the roll of a command, in the order of its words.

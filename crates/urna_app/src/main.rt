@@ -12,6 +12,7 @@ ghost use Rattle.urna_app.specs.Taking.{status_in};
 mod carga;
 mod command;
 mod documents;
+mod errors;
 mod fault;
 mod laws;
 #[cfg(test)]

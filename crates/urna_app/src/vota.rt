@@ -1,8 +1,7 @@
 //! The command `vota TABLES ROLL KEYS OUT`: the session of a section's poll.
-ghost use Rattle.std.specs.Prelude.{◌≡◌, ℕ, List, IfErr, OnOk};
+ghost use Rattle.std.specs.Prelude.{ℕ, List, IfErr, OnOk};
 ghost use Rattle.state_store.specs.Store.{AreDevices};
-ghost use Rattle.urna_app.specs.Errors.{port_status};
-ghost use Rattle.urna_app.specs.Holding.{FailsToHold, hold_status};
+ghost use Rattle.urna_app.specs.Holding.{FailsToHold};
 ghost use Rattle.urna_app.specs.Taking.{status_in};
 ghost use Rattle.urna_app.specs.Vota.{HasVoted, VotaEnds};
 
@@ -46,29 +45,6 @@ fn hold<M: Machine>(
     }
 }
 
-fn status_of(error: HoldError) -> Status
-    ensures { result ≡ hold_status error }
-{
-    match error {
-        HoldError::Start(StartError::Memory) => Status::Memory,
-        HoldError::Start(StartError::Port(port)) => port_status(port),
-        HoldError::Start(StartError::Foreign(dev)) => Status::Foreign(dev),
-        HoldError::Start(StartError::NoImage) => Status::NoImage,
-        HoldError::Port(port) => port_status(port),
-    }
-}
-
-/// The status of a port that failed.
-pub(crate) fn port_status(port: Port) -> Status
-    ensures { result ≡ port_status port }
-{
-    match port {
-        Port::Internal => Status::InternalFlash,
-        Port::External => Status::ExternalFlash,
-        Port::Display => Status::Display,
-    }
-}
-
 /// The session of the files of these names: each is taken and read, and then the keys are pressed.
 pub(crate) fn vota<M: Machine, C: Cabinet>(
     alloc: Global,
@@ -82,8 +58,6 @@ pub(crate) fn vota<M: Machine, C: Cabinet>(
 {
     let (tables, roll) = take_documents(alloc, cabinet, names.tables, names.roll)?;
     let script = take_keys(alloc, cabinet, names.keys)?;
-    match hold(alloc, &tables, &roll, &script, machine) {
-        Ok(()) => Ok(()),
-        Err(error) => Err(status_of(error)),
-    }
+    hold(alloc, &tables, &roll, &script, machine)?;
+    Ok(())
 }

@@ -35,23 +35,23 @@ returns-in_default g c =
     no_section given (λ section is. c.in_default.ensures.none section is.fits is.zone is.number)
     (taken_as 2 status.NoSection x y (λ same. same) taken) (untouched m)
 
-pub returns-in-Err : goal.returns-in-Err
-returns-in-Err g c =
+pub returns-in_err-_store : goal.returns-in_err-_store
+returns-in_err-_store g c =
     let names : Carga = record { tables = c.args.names.tables.now; roll = c.args.names.roll.now; zone = c.args.names.zone; number = c.args.names.number } in
     let x = g.C.Cabinet.told c.args.cabinet.now in
     let y = g.C.Cabinet.told c.take_documents.new.cabinet in
     let m = g.M.Machine.told c.args.machine.now in
     let n = g.M.Machine.told c.format.new.m in
     let taken : HasTaken 2 status.Done x y = c.in_ok-tables.ensures.taken in
-    let e = c.in-Err.error in
+    let e = c.in_err-_store.field-0.0 in
     let given : IsGivenLoad x.files names c.in_ok-tables.tables c.in_ok-tables.roll = record { tables = c.in_ok-tables.ensures.tables; roll = c.in_ok-tables.ensures.roll } in
     let asked : IsAsked names c.in_ok-tables.tables c.in_ok-tables.roll c.in-Some.section =
     record { fits = c.in-Some.ensures.some; zone = c.in-Some.ensures.asked.0; number = c.in-Some.ensures.asked.1 } in
-    subst (CargaEnds names x y m n) (sym c.load_status.ensures)
-    (not_loaded e given asked (taken_as 2 (load_status e) x y (counts_load e x.tally y.tally) taken) c.in-Err.ensures.fails)
+    subst (CargaEnds names x y m n) (sym (passed_on c.from_residual-in_err-_store.result (load_status e) c.from_residual-in_err-_store.ensures.1 (λ s h. h)))
+    (not_loaded e given asked (taken_as 2 (load_status e) x y (counts_load e x.tally y.tally) taken) c.in_err-_store.ensures.fails)
 
-pub returns-in-Ok-show_line : goal.returns-in-Ok-show_line
-returns-in-Ok-show_line g c =
+pub returns-in-Ok : goal.returns-in-Ok
+returns-in-Ok g c =
     let names : Carga = record { tables = c.args.names.tables.now; roll = c.args.names.roll.now; zone = c.args.names.zone; number = c.args.names.number } in
     let x = g.C.Cabinet.told c.args.cabinet.now in
     let y = g.C.Cabinet.told c.take_documents.new.cabinet in
@@ -66,12 +66,12 @@ returns-in-Ok-show_line g c =
     record { fits = c.in-Some.ensures.some; zone = c.in-Some.ensures.asked.0; number = c.in-Some.ensures.asked.1 } in
     let has : HasLoaded t r c.in-Some.section m b =
     record {
-      ran = c.in-Ok.ensures.ran;
-      rest = subst (λ (l : Load). ForSome b.flashes (AreAtRest l (ready_state t (length r.titles)))) c.in-Ok.ensures.store c.in-Ok.ensures.kept.rest;
-      fine = c.in-Ok.ensures.fine;
+      ran = c.in_ok-_store.ensures.ran;
+      rest = subst (λ (l : Load). ForSome b.flashes (AreAtRest l (ready_state t (length r.titles)))) c.in_ok-_store.ensures.store c.in_ok-_store.ensures.kept.rest;
+      fine = c.in_ok-_store.ensures.fine;
     } in
     loaded b given asked taken has
-    (subst (λ (bytes : List ℕ). HasShown (bytes ∷ []) b n) (c.as_bytes.ensures.bytes ∙ c.loaded_line.ensures) c.in-Ok-show_line.ensures)
+    (subst (λ (bytes : List ℕ). HasShown (bytes ∷ []) b n) (c.as_bytes.ensures.bytes ∙ c.loaded_line.ensures) c.in-Ok.ensures)
 
 pub returns : goal.returns
 returns g c =
@@ -89,9 +89,9 @@ returns g c =
     record { fits = c.in-Some.ensures.some; zone = c.in-Some.ensures.asked.0; number = c.in-Some.ensures.asked.1 } in
     let has : HasLoaded t r c.in-Some.section m b =
     record {
-      ran = c.in-Ok.ensures.ran;
-      rest = subst (λ (l : Load). ForSome b.flashes (AreAtRest l (ready_state t (length r.titles)))) c.in-Ok.ensures.store c.in-Ok.ensures.kept.rest;
-      fine = c.in-Ok.ensures.fine;
+      ran = c.in_ok-_store.ensures.ran;
+      rest = subst (λ (l : Load). ForSome b.flashes (AreAtRest l (ready_state t (length r.titles)))) c.in_ok-_store.ensures.store c.in_ok-_store.ensures.kept.rest;
+      fine = c.in_ok-_store.ensures.fine;
     } in
     not_told b given asked (taken_as 2 status.Display x y (λ same. same) taken) has
-    (subst (λ (bytes : List ℕ). IsCutOff (bytes ∷ []) b n) (c.as_bytes.ensures.bytes ∙ c.loaded_line.ensures) c.in-Err-show_line.ensures)
+    (subst (λ (bytes : List ℕ). IsCutOff (bytes ∷ []) b n) (c.as_bytes.ensures.bytes ∙ c.loaded_line.ensures) c.in-Err.ensures)

@@ -2,6 +2,7 @@ use Rattle.std.proofs.Common.{Option, sym, subst, arith}
 use Rattle.urna_outside.specs.Cabinet.{Files}
 use Rattle.urna_app.specs.Command.{Vota}
 use Rattle.urna_app.specs.Documents.{IsFault}
+use Rattle.urna_app.specs.Holding.{hold_status}
 use Rattle.urna_app.specs.Taking.{HasTaken}
 use Rattle.urna_app.specs.Vota.{VotaEnds, done, keys}
 use Rattle.urna_app.specs.declared.status.Doc.TheVariants as doc
@@ -36,21 +37,8 @@ returns-in_err-script g c out =
     (subst (λ (fs : Option Files). IsFault fs names.keys doc.Keys s) taken.files (c.in_err-script.ensures.fault memory failed)))
     (taken_more 2 1 s x y z taken c.in_err-script.ensures.taken))
 
-pub returns-in-Ok : goal.returns-in-Ok
-returns-in-Ok g c out =
-    let names : Vota = record { tables = c.args.names.tables.now; roll = c.args.names.roll.now; keys = c.args.names.keys.now; out = out } in
-    let x = g.C.Cabinet.told c.args.cabinet.now in
-    let y = g.C.Cabinet.told c.take_documents.new.cabinet in
-    let z = g.C.Cabinet.told c.take_keys.new.cabinet in
-    let t = c.in_ok-tables.tables in
-    let r = c.in_ok-tables.roll in
-    let es = c.in_ok-script.script in
-    let taken : HasTaken 2 status.Done x y = c.in_ok-tables.ensures.taken in
-    let all = taken_more 2 1 status.Done x y z taken c.in_ok-script.ensures.taken in
-    done (given_keys names x y t r es c.in_ok-tables.ensures.tables c.in_ok-tables.ensures.roll taken c.in_ok-script.ensures.keys) all c.in-Ok.ensures.ok
-
-pub returns : goal.returns
-returns g c out =
+pub returns-in_err-hold : goal.returns-in_err-hold
+returns-in_err-hold g c out =
     let names : Vota = record { tables = c.args.names.tables.now; roll = c.args.names.roll.now; keys = c.args.names.keys.now; out = out } in
     let x = g.C.Cabinet.told c.args.cabinet.now in
     let y = g.C.Cabinet.told c.take_documents.new.cabinet in
@@ -63,4 +51,19 @@ returns g c out =
     let taken : HasTaken 2 status.Done x y = c.in_ok-tables.ensures.taken in
     let all = taken_more 2 1 status.Done x y z taken c.in_ok-script.ensures.taken in
     let given = given_keys names x y t r es c.in_ok-tables.ensures.tables c.in_ok-tables.ensures.roll taken c.in_ok-script.ensures.keys in
-    subst (VotaEnds names x z m n) (sym c.status_of.ensures) (not_held names x z m n t r es c.in-Err.error given all c.in-Err.ensures.err)
+    let e = c.in_err-hold.field-0.0 in
+    subst (VotaEnds names x z m n) (sym (passed_on c.from_residual-in_err-hold.result (hold_status e) c.from_residual-in_err-hold.ensures.1 (λ s h. h)))
+    (not_held names x z m n t r es e given all c.in_err-hold.ensures.err)
+
+pub returns : goal.returns
+returns g c out =
+    let names : Vota = record { tables = c.args.names.tables.now; roll = c.args.names.roll.now; keys = c.args.names.keys.now; out = out } in
+    let x = g.C.Cabinet.told c.args.cabinet.now in
+    let y = g.C.Cabinet.told c.take_documents.new.cabinet in
+    let z = g.C.Cabinet.told c.take_keys.new.cabinet in
+    let t = c.in_ok-tables.tables in
+    let r = c.in_ok-tables.roll in
+    let es = c.in_ok-script.script in
+    let taken : HasTaken 2 status.Done x y = c.in_ok-tables.ensures.taken in
+    let all = taken_more 2 1 status.Done x y z taken c.in_ok-script.ensures.taken in
+    done (given_keys names x y t r es c.in_ok-tables.ensures.tables c.in_ok-tables.ensures.roll taken c.in_ok-script.ensures.keys) all c.in_ok-hold.ensures.ok

@@ -1,0 +1,84 @@
+//! The statuses of errors (`specs/Errors.antt`): a `?` gives them, but for a file that was not taken.
+ghost use Rattle.std.specs.Prelude.{◌≡◌};
+ghost use Rattle.urna_app.specs.Errors.{load_status, port_status, roll_status, tables_status, take_status};
+ghost use Rattle.urna_app.specs.Holding.{hold_status};
+
+use crate::status::{Doc, Status};
+use crate::vota::HoldError;
+use election_tables::{RollError, TablesError};
+use state_store::LoadError;
+use station::StartError;
+use urna_outside::{CabinetError, Port};
+
+/// The status of a file that was not taken. It names the document, which the error doesn't.
+pub(crate) fn not_taken(error: CabinetError, doc: Doc) -> Status
+    ensures { result ≡ take_status doc error }
+{
+    match error {
+        CabinetError::Memory => Status::Memory,
+        CabinetError::Failed => Status::Cabinet,
+        CabinetError::Missing => Status::Missing(doc),
+        CabinetError::TooLong => Status::TooLong(doc),
+    }
+}
+
+impl From<TablesError> for Status {
+    ghost from_gives = { λ error status. status ≡ tables_status error };
+
+    fn from(error: TablesError) -> Status {
+        match error {
+            TablesError::Memory => Status::Memory,
+            TablesError::NotToml => Status::TablesNotToml,
+            TablesError::Rule(rule) => Status::TablesRule(rule),
+        }
+    }
+}
+
+impl From<RollError> for Status {
+    ghost from_gives = { λ error status. status ≡ roll_status error };
+
+    fn from(error: RollError) -> Status {
+        match error {
+            RollError::Memory => Status::Memory,
+            RollError::Count => Status::RollCount,
+            RollError::Line(line) => Status::RollLine(line),
+        }
+    }
+}
+
+/// The status of a port that failed.
+fn port_status(port: Port) -> Status
+    ensures { result ≡ port_status port }
+{
+    match port {
+        Port::Internal => Status::InternalFlash,
+        Port::External => Status::ExternalFlash,
+        Port::Display => Status::Display,
+    }
+}
+
+impl From<LoadError> for Status {
+    ghost from_gives = { λ error status. status ≡ load_status error };
+
+    fn from(error: LoadError) -> Status {
+        match error {
+            LoadError::Memory => Status::Memory,
+            LoadError::Flash(dev) => port_status(Port::from(dev)),
+            LoadError::Busy(dev) => Status::Busy(dev),
+        }
+    }
+}
+
+impl From<HoldError> for Status {
+    ghost from_gives = { λ error status. status ≡ hold_status error };
+
+    fn from(error: HoldError) -> Status {
+        match error {
+            HoldError::Start(StartError::Memory) => Status::Memory,
+            HoldError::Start(StartError::Port(port)) => port_status(port),
+            HoldError::Start(StartError::Foreign(dev)) => Status::Foreign(dev),
+            HoldError::Start(StartError::NoImage) => Status::NoImage,
+            HoldError::Port(port) => port_status(port),
+        }
+    }
+}
