@@ -1,12 +1,12 @@
 -- Steps after steps: their lines, their states, and how many of them a front of the text reaches into.
-use Rattle.std.proofs.Common.{◌≡◌, ◌⊎◌, inl, inr, ℕ, zero, suc, ◌+◌, ◌-◌, ◌<◌, ◌≤◌, Bool, cond, Option, Some, None, Contains, List, [], ◌∷◌, ◌++◌, length, slice_get, unwrap_or, option_to_list, refl, sym, ap, subst, ◌∙◌, arith, append_assoc, length-append}
+use Rattle.std.proofs.Common.{◌≡◌, ◌⊎◌, inl, inr, ℕ, zero, suc, ◌+◌, ◌-◌, ◌<◌, ◌≤◌, Bool, cond, Option, Some, None, Contains, List, [], ◌∷◌, ◌++◌, length, slice_get, take, unwrap_or, option_to_list, refl, sym, ap, subst, ◌∙◌, arith, append_assoc, length-append}
 use Rattle.std.proofs.lemmas.Bool.{cases_lt, ne_eqb}
-use Rattle.std.proofs.lemmas.List.{map-append}
+use Rattle.std.proofs.lemmas.List.{map-append, take-map}
 use Rattle.std.proofs.lemmas.List.Elements.{Contains-append_left, Contains-append_right}
 use Rattle.std.specs.List.{concat}
 use Rattle.image_codec.specs.State.{State}
 use Rattle.state_store.specs.Played.{IsStateOrNext}
-use Rattle.state_store.specs.Steps.{Step, quiet, telling, lines_in, text_in, commits_in, state_after, commits_reached, AreFull}
+use Rattle.state_store.specs.Steps.{Step, quiet, telling, lines_in, text_in, commits_in, state_after, lines_reached, commits_reached, AreFull}
 
 -- Steps after steps
 
@@ -27,44 +27,55 @@ pub state_after-append : (s : State) (xs ys : List Step) → state_after s (xs +
 state_after-append s [] ys = refl
 state_after-append s (x ∷ xs) ys = state_after-append (unwrap_or x.commit s) xs ys
 
--- How many lines that tell a state are reached
+-- The steps whose lines are reached
 
-pub reached_none : (xs : List Step) → commits_reached xs 0 ≡ 0
-reached_none [] = refl
-reached_none (x ∷ xs) = refl
+pub reached_more : (line : List ℕ) (lines : List (List ℕ)) (n : ℕ) → 0 < n → lines_reached (line ∷ lines) n ≡ suc (lines_reached lines (n - length line))
+reached_more line lines n some =
+    let past = ap (λ (b : Bool). cond b 0 (1 + lines_reached lines (n - length line))) (ne_eqb n 0 (λ same. omega arith)) in omega (arith, past)
+
+abbrev steps_reached : List Step → ℕ → List Step
+steps_reached xs n = take (lines_reached (lines_in xs) n) xs
+
+none_reached : (xs : List Step) → steps_reached xs 0 ≡ []
+none_reached [] = refl
+none_reached (x ∷ xs) = refl
 
 -- some bytes go past the first line
-reached_more : (x : Step) (xs : List Step) (n : ℕ) → 0 < n → commits_reached (x ∷ xs) n ≡ length (option_to_list x.commit) + commits_reached xs (n - length x.line)
-reached_more x xs n some =
-    ap (λ (b : Bool). cond b 0 (length (option_to_list x.commit) + commits_reached xs (n - length x.line))) (ne_eqb n 0 (λ same. omega arith))
+one_reached : (x : Step) (xs : List Step) (n : ℕ) → 0 < n → steps_reached (x ∷ xs) n ≡ x ∷ steps_reached xs (n - length x.line)
+one_reached x xs n some = ap (λ (k : ℕ). take k (x ∷ xs)) (reached_more x.line (lines_in xs) n some)
 
--- as many as in the first steps, where the bytes are a front of their text
-pub reached_before : (xs ys : List Step) (n : ℕ) → n ≤ length (text_in xs) → commits_reached (xs ++ ys) n ≡ commits_reached xs n
-reached_before [] ys n within = let none : n ≡ 0 = omega arith in
-    ap (λ (k : ℕ). commits_reached ys k) none ∙ reached_none ys
-reached_before (x ∷ xs) ys n within = elim (cases_lt 0 n) [
+-- none behind the first steps, where the bytes are a front of their text
+front_reached : (xs ys : List Step) (n : ℕ) → n ≤ length (text_in xs) → steps_reached (xs ++ ys) n ≡ steps_reached xs n
+front_reached [] ys n within = let none : n ≡ 0 = omega arith in ap (steps_reached ys) none ∙ none_reached ys
+front_reached (x ∷ xs) ys n within = elim (cases_lt 0 n) [
   | inl some ↦
       let left_over : n - length x.line ≤ length (text_in xs) = omega (arith, length-append x.line (text_in xs)) in
-      let first = reached_more x (xs ++ ys) n some in
-      let own = reached_more x xs n some in
-      let rest = reached_before xs ys (n - length x.line) left_over in
-      omega (arith, first, own, rest)
+      one_reached x (xs ++ ys) n some ∙ ap (λ (l : List Step). x ∷ l) (front_reached xs ys (n - length x.line) left_over) ∙ sym (one_reached x xs n some)
   | inr nothing ↦
       let none : n ≡ 0 = omega arith in
-      ap (λ (k : ℕ). commits_reached (x ∷ (xs ++ ys)) k) none ∙ sym (ap (λ (k : ℕ). commits_reached (x ∷ xs) k) none)
+      ap (steps_reached (x ∷ (xs ++ ys))) none ∙ sym (ap (steps_reached (x ∷ xs)) none)
 ]
 
 -- all of the first steps and what is reached of the others, where the bytes are the whole text and more
-pub reached_after : (xs ys : List Step) (more : List ℕ) → AreFull xs → commits_reached (xs ++ ys) (length (text_in xs ++ more)) ≡ length (commits_in xs) + commits_reached ys (length more)
-reached_after [] ys more full = omega arith
-reached_after (x ∷ xs) ys more full =
-    let long : length (x.line ++ text_in xs ++ more) ≡ length x.line + length (text_in xs ++ more) =
+all_reached : (xs ys : List Step) (more : List ℕ) → AreFull xs → steps_reached (xs ++ ys) (length (text_in xs ++ more)) ≡ xs ++ steps_reached ys (length more)
+all_reached [] ys more full = refl
+all_reached (x ∷ xs) ys more full =
+    let n : ℕ = length (text_in (x ∷ xs) ++ more) in
+    let long : n ≡ length x.line + length (text_in xs ++ more) =
     ap length (append_assoc x.line (text_in xs) more) ∙ length-append x.line (text_in xs ++ more) in
-    let some = full.0 in
-    let left_over : length (x.line ++ text_in xs ++ more) - length x.line ≡ length (text_in xs ++ more) = omega arith in
-    let first = reached_more x (xs ++ ys) (length (x.line ++ text_in xs ++ more)) (omega arith) in
-    let rest = ap (λ (n : ℕ). commits_reached (xs ++ ys) n) left_over ∙ reached_after xs ys more full.1 in
-    omega (arith, first, rest, length-append (option_to_list x.commit) (commits_in xs))
+    let left_over : n - length x.line ≡ length (text_in xs ++ more) = omega (arith, long) in
+    one_reached x (xs ++ ys) n (omega (arith, long, full.0))
+    ∙ ap (λ (l : List Step). x ∷ l) (ap (steps_reached (xs ++ ys)) left_over ∙ all_reached xs ys more full.1)
+
+-- How many lines that tell a state are reached
+
+pub reached_before : (xs ys : List Step) (n : ℕ) → n ≤ length (text_in xs) → commits_reached (xs ++ ys) n ≡ commits_reached xs n
+reached_before xs ys n within = ap (λ (l : List Step). length (commits_in l)) (front_reached xs ys n within)
+
+pub reached_after : (xs ys : List Step) (more : List ℕ) → AreFull xs → commits_reached (xs ++ ys) (length (text_in xs ++ more)) ≡ length (commits_in xs) + commits_reached ys (length more)
+reached_after xs ys more full =
+    let ends = steps_reached ys (length more) in
+    ap (λ (l : List Step). length (commits_in l)) (all_reached xs ys more full) ∙ ap length (commits_in-append xs ends) ∙ length-append (commits_in xs) (commits_in ends)
 
 -- The states
 
@@ -166,15 +177,11 @@ state_after-quiet s [] = refl
 state_after-quiet s (line ∷ lines) = state_after-quiet s lines
 
 pub reached-quiet : (lines : List (List ℕ)) (n : ℕ) → commits_reached (quiet lines) n ≡ 0
-reached-quiet [] n = refl
-reached-quiet (line ∷ lines) n = elim (cases_lt 0 n) [
-  | inl some ↦
-      let first = reached_more (record { line = line; commit = None }) (quiet lines) n some in
-      omega (arith, first, reached-quiet lines (n - length line))
-  | inr nothing ↦ let none : n ≡ 0 = omega arith in ap (λ (k : ℕ). commits_reached (quiet (line ∷ lines)) k) none
-]
+reached-quiet lines n =
+    let k = lines_reached (lines_in (quiet lines)) n in
+    ap (λ (l : List Step). length (commits_in l)) (take-map (λ (line : List ℕ). record { line = line; commit = None }) k lines) ∙ ap length (commits_in-quiet (take k lines))
 
 -- One line that tells a state
 
 pub reached-telling : (u : State) (line : List ℕ) (n : ℕ) → 0 < n → commits_reached (telling u line) n ≡ 1
-reached-telling u line n some = omega (arith, reached_more (record { line = line; commit = Some u }) [] n some)
+reached-telling u line n some = ap (λ (l : List Step). length (commits_in l)) (one_reached (record { line = line; commit = Some u }) [] n some)

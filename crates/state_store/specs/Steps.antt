@@ -1,5 +1,5 @@
 -- What a session puts out, line by line: a line, and the state that is committed just before it, if it tells one
-use Rattle.std.specs.Prelude.{ℕ, ◌+◌, ◌-◌, ◌<◌, ◌==◌, List, [], ◌∷◌, ◌++◌, Option, Some, None, if◌then◌else◌, length, map, unwrap_or}
+use Rattle.std.specs.Prelude.{ℕ, ◌+◌, ◌-◌, ◌<◌, ◌==◌, List, [], ◌∷◌, ◌++◌, Option, Some, None, if◌then◌else◌, length, map, take, unwrap_or}
 use Rattle.std.specs.List.{AllByRecursion, concat}
 use Rattle.std.specs.Option.{option_to_list}
 use Rattle.image_codec.specs.State.{State}
@@ -33,11 +33,14 @@ abbrev pub state_after : State → List Step → State
 state_after s [] = s
 state_after s (step ∷ steps) = state_after (unwrap_or step.commit s) steps
 
--- how many of the lines that tell a state the first n bytes of the text reach into by at least one byte
+-- how many lines the first n bytes of their text reach into by at least one byte
+abbrev pub lines_reached : List (List ℕ) → ℕ → ℕ
+lines_reached [] n = 0
+lines_reached (line ∷ lines) n = if n == 0 then 0 else 1 + lines_reached lines (n - length line)
+
+-- how many of the lines that the first n bytes of the text reach into tell a state
 abbrev pub commits_reached : List Step → ℕ → ℕ
-commits_reached [] n = 0
-commits_reached (step ∷ steps) n =
-    if n == 0 then 0 else length (option_to_list step.commit) + commits_reached steps (n - length step.line)
+commits_reached steps n = length (commits_in (take (lines_reached (lines_in steps) n) steps))
 
 -- no line is empty
 abbrev pub AreFull : List Step → Type 0

@@ -1,8 +1,8 @@
 -- The ballots of a run, by what it puts out
-use Rattle.std.proofs.Common.{◌≡◌, ℕ, suc, ◌+◌, ◌-◌, ◌<◌, Bool, true, false, cond, ◌&&◌, List, [], ◌∷◌, ◌++◌, length, map, take, refl, sym, ap, subst, ◌∙◌, arith, append_assoc}
+use Rattle.std.proofs.Common.{◌≡◌, ℕ, zero, suc, ◌+◌, Bool, true, false, cond, ◌&&◌, List, [], ◌∷◌, ◌++◌, length, map, take, refl, sym, ap, subst, ◌∙◌, arith, append_assoc}
 use Rattle.std.specs.Prelude.{nat_eq, codes}
 use Rattle.std.specs.Fmt.{decimal}
-use Rattle.std.specs.List.{AllByRecursion, concat}
+use Rattle.std.specs.List.{AllByRecursion}
 use Rattle.std.specs.Str.{bytes_eq}
 use Rattle.election_tables.specs.TablesData.{TablesData}
 use Rattle.election_tables.specs.declared.office.Kind.{Kind}
@@ -27,7 +27,7 @@ use Rattle.clerk_term.specs.declared.replies.Mode.TheVariants as mode
 use Rattle.poll_report.specs.Counts.{candidate_line, candidate_lines, count_lines, kind_lines, lines_of_panels, panel_lines, party_line, total_lines, votes_line}
 use Rattle.image_codec.specs.CodecLaws.{Ballot}
 use Rattle.image_codec.specs.State.{State, MayVote, filled_up, with_ballot}
-use Rattle.state_store.specs.Steps.{commits_in, quiet, state_after}
+use Rattle.state_store.specs.Steps.{commits_in, lines_in, quiet, state_after, text_in}
 use Rattle.state_store.proofs.Counting.{commits_in-append, commits_in-quiet}
 use Rattle.station.specs.Acts.{last_state}
 use Rattle.station.specs.Output.{Output, Says, Commits, Reports, commits_of, refusal, echo, screen}
@@ -46,8 +46,9 @@ use Rattle.station.proofs.Replies.{answer_of}
 use Rattle.station.proofs.RunLaws.{roll_kept}
 use Rattle.image_codec.specs.Also.{HasAlso}
 use Rattle.image_codec.proofs.Growing.{also_in_phase, also_more, also_none, in_phase}
-use Rattle.station.specs.Cast.{ballot_of, ballots_of, fim, suspended_ballot}
-use Rattle.station.proofs.Fims.{AreShownIn, IsOther, all_fims, fims_quiet, fims_telling, shown_nothing, shown_quiet, shown_telling}
+use Rattle.station.specs.Cast.{ballot_of, ballots_of, fim, fims_reached, suspended_ballot}
+use Rattle.station.proofs.Fims.{AreShownIn, IsOther, fims_in, fims_more, fims_other, fims_quiet, fims_whole, shown_nothing, shown_quiet, shown_telling}
+use Rattle.station.proofs.Steps.{full_steps}
 
 -- ---- what a run puts out, as ballots
 
@@ -264,37 +265,36 @@ counts_other t bags = panels_other t bags 0 t.panels
 -- ---- what the states of a session have beside the first
 
 shown_output : (v : Setting) (s : State) (ballots : List Ballot) (t : TablesData) (o : Output) (out : List Output) → IsQuiet o
-    → ((n : ℕ) → AreShownIn v.lines s ballots (session_steps t out) n) → (n : ℕ) → AreShownIn v.lines s ballots (output_steps t o ++ session_steps t out) n
-shown_output v s ballots t (Says l) out quiet h n =
-    shown_quiet v.lines s ballots (line_text t l ∷ []) (session_steps t out) n (line_other t l quiet, tt) (h (n - length (concat (line_text t l ∷ []))))
-shown_output v s ballots t (Commits u l) out quiet h n = absurd quiet
-shown_output v s ballots t (Reports title u) out quiet h n =
-    let ls : List (List ℕ) = title_text title ∷ count_lines t u.bags in
-    shown_quiet v.lines s ballots ls (session_steps t out) n (title_other title, counts_other t u.bags) (h (n - length (concat ls)))
+    → ((m : ℕ) → AreShownIn v.lines s ballots (session_steps t out) m) → (m : ℕ) → AreShownIn v.lines s ballots (output_steps t o ++ session_steps t out) m
+shown_output v s ballots t (Says l) out quiet h = shown_quiet v.lines s ballots (line_text t l ∷ []) (session_steps t out) (line_other t l quiet, tt) h
+shown_output v s ballots t (Commits u l) out quiet h = absurd quiet
+shown_output v s ballots t (Reports title u) out quiet h =
+    shown_quiet v.lines s ballots (title_text title ∷ count_lines t u.bags) (session_steps t out) (title_other title, counts_other t u.bags) h
 
 casts_shown : {v : Setting} {s u : State} {out : List Output} {ballots : List Ballot} (t : TablesData) → Casts v s out ballots u
-    → (n : ℕ) → AreShownIn v.lines s ballots (session_steps t out) n
-casts_shown {v} {s} t nothing n = shown_nothing v.lines s
-casts_shown {v} {s} {ballots} t (shows {out} o quiet h) n = shown_output v s ballots t o out quiet (casts_shown t h) n
-casts_shown {v} {s} {ballots} t (turns {out} p l none h) n =
+    → (m : ℕ) → AreShownIn v.lines s ballots (session_steps t out) m
+casts_shown {v} {s} t nothing zero = shown_nothing v.lines s
+casts_shown {v} {s} t nothing (suc m) = shown_nothing v.lines s
+casts_shown {v} {s} {ballots} t (shows {out} o quiet h) m = shown_output v s ballots t o out quiet (casts_shown t h) m
+casts_shown {v} {s} {ballots} t (turns {out} p l none h) m =
     let counted : cond {A = ℕ} (bytes_eq fim (line_text t l)) 1 0 ≡ 0 = ap (λ (b : Bool). cond {A = ℕ} b 1 0) (line_other t l none) in
-    shown_telling v.lines s (in_phase s p) ballots ballots 0 (line_text t l) (session_steps t out) n (omega arith) counted (omega arith)
+    shown_telling v.lines s (in_phase s p) ballots ballots 0 (line_text t l) (session_steps t out) (omega arith) counted (omega arith)
     (λ k u also.
     let same : k ≡ 0 + k = omega arith in
     subst (λ (j : ℕ). HasAlso v.lines s (take j ballots) u) same (also_in_phase v.lines s u p (take k ballots) also))
-    (casts_shown t h)
-casts_shown {v} {s} t (casts {out} {ballots} place choices may h) n =
+    (casts_shown t h) m
+casts_shown {v} {s} t (casts {out} {ballots} place choices may h) m =
     let all : List Ballot = record { place = place; choices = choices } ∷ ballots in
-    shown_telling v.lines s (with_ballot v.lines s place choices) ballots all 1 (line_text t line.Ended) (session_steps t out) n (omega arith) refl (omega arith)
+    shown_telling v.lines s (with_ballot v.lines s place choices) ballots all 1 (line_text t line.Ended) (session_steps t out) (omega arith) refl (omega arith)
     (λ k u also.
     let same : suc k ≡ 1 + k = omega arith in
     subst (λ (j : ℕ). HasAlso v.lines s (take j all) u) same (also_more v.lines s u place choices (take k ballots) may also))
-    (casts_shown t h)
+    (casts_shown t h) m
 
--- Of a session that opens at s, the states that a shown front leaves have the ballots whose FIM it reaches into, or one more.
+-- Of a session that opens at s, the states behind its first m lines have the ballots whose FIM is among them, or one more.
 pub run_shown : {s u : State} {es : List Event} {out : List Output} (t : TablesData) (titles : List ℕ) → length s.came ≡ length titles
-    → (run : IsRun (setting_of t titles) s es u out) (n : ℕ) → AreShownIn (ballot_lines t) s (ballots_of run) (opening t s ++ session_steps t out) n
-run_shown {s} t titles r run n = casts_shown t (shows (Says (line.Poll s.phase (number_came s.came))) tt (run_casts r run)) n
+    → (run : IsRun (setting_of t titles) s es u out) (m : ℕ) → AreShownIn (ballot_lines t) s (ballots_of run) (opening t s ++ session_steps t out) m
+run_shown {s} t titles r run = casts_shown t (shows (Says (line.Poll s.phase (number_came s.came))) tt (run_casts r run))
 
 -- ---- the state in the end
 
@@ -332,42 +332,21 @@ steps_commit t (Reports title s ∷ out) =
 
 -- ---- the FIM lines of a session
 
--- a line that tells a phase has a byte
-some_byte : (t : TablesData) (l : Line) → EndsNone l → 0 < length (line_text t l)
-some_byte t (line.Poll phase.Ready came) none = omega arith
-some_byte t (line.Poll (phase.Polling opened) came) none = omega arith
-some_byte t (line.Poll (phase.Sealed opened closed) came) none = omega arith
-some_byte t (line.Refused n) none = omega arith
-some_byte t (line.Voter number) none = omega arith
-some_byte t line.Released none = omega arith
-some_byte t line.Canceled none = omega arith
-some_byte t line.Suspended none = omega arith
-some_byte t (line.Ballot number code) none = omega arith
-some_byte t (line.Screen panel f) none = omega arith
-some_byte t (line.Opened m) none = omega arith
-some_byte t line.Ended none = absurd none
-some_byte t (line.Sealed m came) none = omega arith
-
-fims_output : (t : TablesData) (o : Output) (out : List Output) → IsQuiet o → all_fims (output_steps t o ++ session_steps t out) ≡ all_fims (session_steps t out)
-fims_output t (Says l) out quiet = fims_quiet (line_text t l ∷ []) (session_steps t out) (line_other t l quiet, tt)
-fims_output t (Commits u l) out quiet = absurd quiet
-fims_output t (Reports title u) out quiet = fims_quiet (title_text title ∷ count_lines t u.bags) (session_steps t out) (title_other title, counts_other t u.bags)
-
 casts_fims : {v : Setting} {s u : State} {out : List Output} {ballots : List Ballot} (t : TablesData) → Casts v s out ballots u
-    → all_fims (session_steps t out) ≡ length ballots
+    → fims_in (lines_in (session_steps t out)) ≡ length ballots
 casts_fims t nothing = refl
-casts_fims t (shows {out} o quiet h) = fims_output t o out quiet ∙ casts_fims t h
-casts_fims {s} t (turns {out} p l none h) =
-    let counted : cond {A = ℕ} (bytes_eq fim (line_text t l)) 1 0 ≡ 0 = ap (λ (b : Bool). cond {A = ℕ} b 1 0) (line_other t l none) in
-    let one = fims_telling (in_phase s p) (line_text t l) (session_steps t out) (some_byte t l none) in
-    let rest = casts_fims t h in
-    omega (arith, counted, one, rest)
-casts_fims {v} {s} t (casts {out} place choices may h) =
-    let one = fims_telling (with_ballot v.lines s place choices) (line_text t line.Ended) (session_steps t out) (omega arith) in
+casts_fims t (shows {out} (Says l) quiet h) = fims_other (line_text t l) (lines_in (session_steps t out)) (line_other t l quiet) ∙ casts_fims t h
+casts_fims t (shows (Commits u l) quiet h) = absurd quiet
+casts_fims t (shows {out} (Reports title u) quiet h) =
+    fims_quiet (title_text title ∷ count_lines t u.bags) (session_steps t out) (title_other title, counts_other t u.bags) ∙ casts_fims t h
+casts_fims t (turns {out} p l none h) = fims_other (line_text t l) (lines_in (session_steps t out)) (line_other t l none) ∙ casts_fims t h
+casts_fims t (casts {out} place choices may h) =
+    let one = fims_more (line_text t line.Ended) (lines_in (session_steps t out)) in
     let rest = casts_fims t h in
     omega (arith, one, rest)
 
 -- there are as many as ballots
 pub run_fims : {s u : State} {es : List Event} {out : List Output} (t : TablesData) (titles : List ℕ) → length s.came ≡ length titles
-    → (run : IsRun (setting_of t titles) s es u out) → all_fims (session_steps t out) ≡ length (ballots_of run)
-run_fims t titles r run = casts_fims t (run_casts r run)
+    → (run : IsRun (setting_of t titles) s es u out)
+    → fims_reached (lines_in (session_steps t out)) (length (text_in (session_steps t out))) ≡ length (ballots_of run)
+run_fims {out} t titles r run = fims_whole (session_steps t out) (full_steps t out) ∙ casts_fims t (run_casts r run)

@@ -1,95 +1,56 @@
--- How far a shown text reaches into the lines of a session
-use Rattle.std.proofs.Common.{◌≡◌, ◌⊎◌, inl, inr, ℕ, zero, suc, ◌+◌, ◌-◌, ◌<◌, ◌≤◌, Bool, false, cond, Some, None, List, [], ◌∷◌, ◌++◌, length, take, slice_get, option_to_list, refl, sym, ap, subst, ◌∙◌, arith, length-append}
+-- The FIM among the first lines of a session, and what the states that are committed there have beside the first
+use Rattle.std.proofs.Common.{◌≡◌, ◌⊎◌, inl, inr, ℕ, zero, suc, ◌+◌, ◌-◌, ◌<◌, ◌≤◌, Bool, false, cond, Some, List, [], ◌∷◌, ◌++◌, length, take, slice_get, refl, sym, ap, subst, ◌∙◌, arith, length-append}
 use Rattle.std.specs.Prelude.{count_by}
-use Rattle.std.specs.List.{AllByRecursion, concat}
+use Rattle.std.specs.List.{AllByRecursion}
 use Rattle.std.specs.Str.{bytes_eq}
-use Rattle.std.proofs.lemmas.Bool.{cases_lt, ne_eqb}
+use Rattle.std.proofs.lemmas.Bool.{cases_lt}
 use Rattle.std.proofs.lemmas.List.Sums.{sum_by-cons}
 use Rattle.vote_kinds.specs.Ballot.{BallotLine}
 use Rattle.image_codec.specs.CodecLaws.{Ballot}
 use Rattle.image_codec.specs.State.{State}
-use Rattle.state_store.specs.Steps.{Step, commits_in, commits_reached, lines_in, quiet, telling, text_in}
-use Rattle.state_store.proofs.Counting.{commits_in-append, commits_in-quiet, lines_in-append, lines_in-quiet, reached_none, text_in-append, text_in-quiet}
+use Rattle.state_store.specs.Steps.{AreFull, Step, commits_in, lines_in, lines_reached, quiet, telling, text_in}
+use Rattle.state_store.proofs.Counting.{reached_more}
 use Rattle.image_codec.specs.Also.{HasAlso}
 use Rattle.image_codec.proofs.Growing.{also_none}
-use Rattle.station.specs.Cast.{fim, fims_reached, lines_reached}
+use Rattle.station.specs.Cast.{fim, fims_reached}
+
+-- How many lines are FIM
 
 -- a line that isn't FIM
 abbrev pub IsOther : List ℕ → Type 0
 IsOther line = bytes_eq fim line ≡ false
 
--- Bytes of a text
+abbrev pub fims_in : List (List ℕ) → ℕ
+fims_in lines = count_by (bytes_eq fim) lines
 
-lines_none : (lines : List (List ℕ)) → lines_reached lines 0 ≡ []
-lines_none [] = refl
-lines_none (line ∷ lines) = refl
+pub fims_more : (line : List ℕ) (lines : List (List ℕ)) → fims_in (line ∷ lines) ≡ cond (bytes_eq fim line) 1 0 + fims_in lines
+fims_more line lines = sum_by-cons (λ (l : List ℕ). cond {A = ℕ} (bytes_eq fim l) 1 0) line lines
 
+pub fims_other : (line : List ℕ) (lines : List (List ℕ)) → IsOther line → fims_in (line ∷ lines) ≡ fims_in lines
+fims_other line lines other =
+    let none : cond {A = ℕ} (bytes_eq fim line) 1 0 ≡ 0 = ap (λ (b : Bool). cond {A = ℕ} b 1 0) other in omega (arith, fims_more line lines, none)
+
+pub fims_quiet : (ls : List (List ℕ)) (xs : List Step) → AllByRecursion IsOther ls → fims_in (lines_in (quiet ls ++ xs)) ≡ fims_in (lines_in xs)
+fims_quiet [] xs all = refl
+fims_quiet (l ∷ ls) xs all = fims_other l (lines_in (quiet ls ++ xs)) all.0 ∙ fims_quiet ls xs all.1
+
+-- none before the first byte
 pub fims_none : (lines : List (List ℕ)) → fims_reached lines 0 ≡ 0
-fims_none lines = ap (count_by (bytes_eq fim)) (lines_none lines)
+fims_none [] = refl
+fims_none (line ∷ lines) = refl
 
-pub fims_more : (line : List ℕ) (lines : List (List ℕ)) (n : ℕ) → 0 < n → fims_reached (line ∷ lines) n ≡ cond (bytes_eq fim line) 1 0 + fims_reached lines (n - length line)
-fims_more line lines n some =
-    ap (λ (b : Bool). count_by (bytes_eq fim) (cond b [] (line ∷ lines_reached lines (n - length line)))) (ne_eqb n 0 (λ same. omega arith))
-    ∙ sum_by-cons (λ (l : List ℕ). cond {A = ℕ} (bytes_eq fim l) 1 0) line (lines_reached lines (n - length line))
+-- the whole text reaches into all lines
+lines_whole : (xs : List Step) → AreFull xs → take (lines_reached (lines_in xs) (length (text_in xs))) (lines_in xs) ≡ lines_in xs
+lines_whole [] full = refl
+lines_whole (x ∷ xs) full =
+    let n : ℕ = length (x.line ++ text_in xs) in
+    let long : n ≡ length x.line + length (text_in xs) = length-append x.line (text_in xs) in
+    let rest : n - length x.line ≡ length (text_in xs) = omega (arith, long) in
+    ap (λ (k : ℕ). take k (lines_in (x ∷ xs))) (reached_more x.line (lines_in xs) n (omega (arith, long, full.0)))
+    ∙ ap (λ (l : List (List ℕ)). x.line ∷ l) (ap (λ (k : ℕ). take (lines_reached (lines_in xs) k) (lines_in xs)) rest ∙ lines_whole xs full.1)
 
-commits_more : (x : Step) (xs : List Step) (n : ℕ) → 0 < n → commits_reached (x ∷ xs) n ≡ length (option_to_list x.commit) + commits_reached xs (n - length x.line)
-commits_more x xs n some =
-    ap (λ (b : Bool). cond b 0 (length (option_to_list x.commit) + commits_reached xs (n - length x.line))) (ne_eqb n 0 (λ same. omega arith))
-
--- Lines that tell no state
-
-reached_past : (ls : List (List ℕ)) (xs : List Step) (n : ℕ) → commits_reached (quiet ls ++ xs) n ≡ commits_reached xs (n - length (concat ls))
-reached_past [] xs n = let same : n ≡ n - 0 = omega arith in ap (λ (k : ℕ). commits_reached xs k) same
-reached_past (l ∷ ls) xs n = elim (cases_lt 0 n) [
-  | inl some ↦
-      let first = commits_more (record { line = l; commit = None }) (quiet ls ++ xs) n some in
-      let rest = reached_past ls xs (n - length l) in
-      let past : n - length l - length (concat ls) ≡ n - length (l ++ concat ls) = omega (arith, length-append l (concat ls)) in
-      let same = ap (λ (k : ℕ). commits_reached xs k) past in
-      omega (arith, first, rest, same)
-  | inr nothing ↦
-      let none : n ≡ 0 = omega arith in
-      let left_over : 0 ≡ n - length (l ++ concat ls) = omega arith in
-      ap (λ (k : ℕ). commits_reached (quiet (l ∷ ls) ++ xs) k) none ∙ sym (reached_none xs) ∙ ap (λ (k : ℕ). commits_reached xs k) left_over
-]
-
-pub fims_past : (ls lines : List (List ℕ)) (n : ℕ) → AllByRecursion IsOther ls → fims_reached (ls ++ lines) n ≡ fims_reached lines (n - length (concat ls))
-fims_past [] lines n all = let same : n ≡ n - 0 = omega arith in ap (λ (k : ℕ). fims_reached lines k) same
-fims_past (l ∷ ls) lines n all = elim (cases_lt 0 n) [
-  | inl some ↦
-      let first = fims_more l (ls ++ lines) n some in
-      let none : cond {A = ℕ} (bytes_eq fim l) 1 0 ≡ 0 = ap (λ (b : Bool). cond {A = ℕ} b 1 0) all.0 in
-      let rest = fims_past ls lines (n - length l) all.1 in
-      let past : n - length l - length (concat ls) ≡ n - length (l ++ concat ls) = omega (arith, length-append l (concat ls)) in
-      let same = ap (λ (k : ℕ). fims_reached lines k) past in
-      omega (arith, first, none, rest, same)
-  | inr nothing ↦
-      let none : n ≡ 0 = omega arith in
-      let left_over : 0 ≡ n - length (l ++ concat ls) = omega arith in
-      ap (λ (k : ℕ). fims_reached (l ∷ (ls ++ lines)) k) none ∙ sym (fims_none lines) ∙ ap (λ (k : ℕ). fims_reached lines k) left_over
-]
-
--- how many FIM the whole text of steps has
-abbrev pub all_fims : List Step → ℕ
-all_fims xs = fims_reached (lines_in xs) (length (text_in xs))
-
-pub fims_quiet : (ls : List (List ℕ)) (xs : List Step) → AllByRecursion IsOther ls → all_fims (quiet ls ++ xs) ≡ all_fims xs
-fims_quiet ls xs all =
-    let all_lines : lines_in (quiet ls ++ xs) ≡ ls ++ lines_in xs =
-    lines_in-append (quiet ls) xs ∙ ap (λ (l : List (List ℕ)). l ++ lines_in xs) (lines_in-quiet ls) in
-    let n : ℕ = length (text_in (quiet ls ++ xs)) in
-    let long : n ≡ length (concat ls) + length (text_in xs) =
-    ap length (text_in-append (quiet ls) xs ∙ ap (λ (l : List ℕ). l ++ text_in xs) (text_in-quiet ls)) ∙ length-append (concat ls) (text_in xs) in
-    let rest : n - length (concat ls) ≡ length (text_in xs) = omega (arith, long) in
-    ap (λ (l : List (List ℕ)). fims_reached l n) all_lines ∙ fims_past ls (lines_in xs) n all ∙ ap (λ (k : ℕ). fims_reached (lines_in xs) k) rest
-
--- a line that tells a state is FIM, or another
-pub fims_telling : (w : State) (l : List ℕ) (xs : List Step) → 0 < length l → all_fims (telling w l ++ xs) ≡ cond (bytes_eq fim l) 1 0 + all_fims xs
-fims_telling w l xs some =
-    let n : ℕ = length (l ++ text_in xs) in
-    let long : n ≡ length l + length (text_in xs) = length-append l (text_in xs) in
-    let rest : n - length l ≡ length (text_in xs) = omega (arith, long) in
-    fims_more l (lines_in xs) n (omega (arith, long, some)) ∙ ap (λ (k : ℕ). cond (bytes_eq fim l) 1 0 + fims_reached (lines_in xs) k) rest
+pub fims_whole : (xs : List Step) → AreFull xs → fims_reached (lines_in xs) (length (text_in xs)) ≡ fims_in (lines_in xs)
+fims_whole xs full = ap fims_in (lines_whole xs full)
 
 -- What the states of steps have beside the first
 
@@ -98,27 +59,9 @@ abbrev pub AreShown : List BallotLine → State → List Ballot → List State �
 AreShown lines s ballots states c f = (j : ℕ) (u : State) → (j ≡ c) ⊎ (j ≡ c + 1) → slice_get (s ∷ states) j ≡ Some u
     → (k : ℕ) × ((k ≡ f) ⊎ (k ≡ f + 1)) × (k ≤ length ballots) × HasAlso lines s (take k ballots) u
 
--- the same of steps, and of a front of their text
+-- the same of steps, and of the first m of them
 abbrev pub AreShownIn : List BallotLine → State → List Ballot → List Step → ℕ → Type 0
-AreShownIn lines s ballots xs n = AreShown lines s ballots (commits_in xs) (commits_reached xs n) (fims_reached (lines_in xs) n)
-
-pub shown_moved : (lines : List BallotLine) (s : State) (ballots : List Ballot) (a b : List State) (c d f g : ℕ) → a ≡ b → c ≡ d → f ≡ g
-    → AreShown lines s ballots a c f → AreShown lines s ballots b d g
-shown_moved lines s ballots a b c d f g states reached fims h =
-    subst (λ (x : List State). AreShown lines s ballots x d g) states
-    (subst (λ (x : ℕ). AreShown lines s ballots a x g) reached (subst (λ (x : ℕ). AreShown lines s ballots a c x) fims h))
-
-pub shown_quiet : (lines : List BallotLine) (s : State) (ballots : List Ballot) (ls : List (List ℕ)) (xs : List Step) (n : ℕ) → AllByRecursion IsOther ls
-    → AreShownIn lines s ballots xs (n - length (concat ls)) → AreShownIn lines s ballots (quiet ls ++ xs) n
-shown_quiet lines s ballots ls xs n all h =
-    let m : ℕ = n - length (concat ls) in
-    let states : commits_in xs ≡ commits_in (quiet ls ++ xs) =
-    sym (commits_in-append (quiet ls) xs ∙ ap (λ (l : List State). l ++ commits_in xs) (commits_in-quiet ls)) in
-    let all_lines : lines_in (quiet ls ++ xs) ≡ ls ++ lines_in xs =
-    lines_in-append (quiet ls) xs ∙ ap (λ (l : List (List ℕ)). l ++ lines_in xs) (lines_in-quiet ls) in
-    let fims = ap (λ (l : List (List ℕ)). fims_reached l n) all_lines ∙ fims_past ls (lines_in xs) n all in
-    shown_moved lines s ballots (commits_in xs) (commits_in (quiet ls ++ xs)) (commits_reached xs m) (commits_reached (quiet ls ++ xs) n)
-    (fims_reached (lines_in xs) m) (fims_reached (lines_in (quiet ls ++ xs)) n) states (sym (reached_past ls xs n)) (sym fims) h
+AreShownIn lines s ballots xs m = AreShown lines s ballots (commits_in xs) (length (commits_in (take m xs))) (fims_in (take m (lines_in xs)))
 
 pub shown_nothing : (lines : List BallotLine) (s : State) → AreShown lines s [] [] 0 0
 shown_nothing lines s zero u which is =
@@ -126,41 +69,37 @@ shown_nothing lines s zero u which is =
     (0, inl refl, omega arith, subst (HasAlso lines s []) same (also_none lines s))
 shown_nothing lines s (suc j) u which is = absurd (cc)
 
+pub shown_quiet : (lines : List BallotLine) (s : State) (ballots : List Ballot) (ls : List (List ℕ)) (xs : List Step) → AllByRecursion IsOther ls
+    → ((m : ℕ) → AreShownIn lines s ballots xs m) → (m : ℕ) → AreShownIn lines s ballots (quiet ls ++ xs) m
+shown_quiet lines s ballots [] xs all h m = h m
+shown_quiet lines s ballots (l ∷ ls) xs all h zero = shown_quiet lines s ballots ls xs all.1 h 0
+shown_quiet lines s ballots (l ∷ ls) xs all h (suc m) =
+    let ys : List Step = quiet ls ++ xs in
+    subst (AreShown lines s ballots (commits_in ys) (length (commits_in (take m ys)))) (sym (fims_other l (take m (lines_in ys)) all.0))
+    (shown_quiet lines s ballots ls xs all.1 h m)
+
 -- a line that tells a state, which has d ballots more
-pub shown_telling : (lines : List BallotLine) (s w : State) (rest all : List Ballot) (d : ℕ) (l : List ℕ) (xs : List Step) (n : ℕ)
+pub shown_telling : (lines : List BallotLine) (s w : State) (rest all : List Ballot) (d : ℕ) (l : List ℕ) (xs : List Step)
     → d ≤ 1 → cond {A = ℕ} (bytes_eq fim l) 1 0 ≡ d → length all ≡ d + length rest
     → ((k : ℕ) (u : State) → HasAlso lines w (take k rest) u → HasAlso lines s (take (d + k) all) u)
-    → ((m : ℕ) → AreShownIn lines w rest xs m) → AreShownIn lines s all (telling w l ++ xs) n
-shown_telling lines s w rest all d l xs n small counted long grown shown zero u which is =
+    → ((m : ℕ) → AreShownIn lines w rest xs m) → (m : ℕ) → AreShownIn lines s all (telling w l ++ xs) m
+shown_telling lines s w rest all d l xs small counted long grown shown zero zero u which is =
     let same : s ≡ u = cc in
-    elim (cases_lt 0 n) [
-      | inl some ↦
-          let past = commits_more (record { line = l; commit = Some w }) xs n some in
-          absurd (elim which [ inl e ↦ omega (arith, past, e) | inr e ↦ omega (arith, e) ])
-      | inr nothing ↦
-          let none : n ≡ 0 = omega arith in
-          let fims = ap (λ (k : ℕ). fims_reached (l ∷ lines_in xs) k) none in
-          (0, inl (sym fims), omega arith, subst (HasAlso lines s []) same (also_none lines s))
-    ]
-shown_telling lines s w rest all d l xs n small counted long grown shown (suc j) u which is = elim (cases_lt 0 n) [
-  | inl some ↦
-      let past = commits_more (record { line = l; commit = Some w }) xs n some in
-      let fims = fims_more l (lines_in xs) n some in
-      let m : ℕ = n - length l in
-      let next : (j ≡ commits_reached xs m) ⊎ (j ≡ commits_reached xs m + 1) =
-      elim which [ inl e ↦ inl (omega (arith, past, e)) | inr e ↦ inr (omega (arith, past, e)) ] in
-      let found = shown m j u next is in
-      let number : (d + found.0 ≡ fims_reached (l ∷ lines_in xs) n) ⊎ (d + found.0 ≡ fims_reached (l ∷ lines_in xs) n + 1) =
-      elim found.1 [ inl e ↦ inl (omega (arith, fims, counted, e)) | inr e ↦ inr (omega (arith, fims, counted, e)) ] in
-      (d + found.0, number, omega (arith, long, found.2), grown found.0 u found.3)
-  | inr nothing ↦
-      let none : n ≡ 0 = omega arith in
-      let fims : fims_reached (l ∷ lines_in xs) n ≡ 0 = ap (λ (k : ℕ). fims_reached (l ∷ lines_in xs) k) none in
-      let reached : commits_reached (telling w l ++ xs) n ≡ 0 = ap (λ (k : ℕ). commits_reached (telling w l ++ xs) k) none in
-      let first : j ≡ 0 = elim which [ inl e ↦ absurd (omega (arith, reached, e)) | inr e ↦ omega (arith, reached, e) ] in
-      let got : slice_get (w ∷ commits_in xs) 0 ≡ Some u = subst (λ (k : ℕ). slice_get (w ∷ commits_in xs) k ≡ Some u) first is in
-      let same : w ≡ u = cc in
-      let number : (d + 0 ≡ fims_reached (l ∷ lines_in xs) n) ⊎ (d + 0 ≡ fims_reached (l ∷ lines_in xs) n + 1) =
-      elim (cases_lt 0 d) [ inl one ↦ inr (omega (arith, fims)) | inr never ↦ inl (omega (arith, fims)) ] in
-      (d + 0, number, omega (arith, long), grown 0 u (subst (HasAlso lines w []) same (also_none lines w)))
-]
+    (0, inl refl, omega arith, subst (HasAlso lines s []) same (also_none lines s))
+shown_telling lines s w rest all d l xs small counted long grown shown zero (suc j) u which is =
+    let first : j ≡ 0 = elim which [ inl e ↦ absurd (omega (arith, e)) | inr e ↦ omega (arith, e) ] in
+    let got : slice_get (w ∷ commits_in xs) 0 ≡ Some u = subst (λ (k : ℕ). slice_get (w ∷ commits_in xs) k ≡ Some u) first is in
+    let same : w ≡ u = cc in
+    let number : (d + 0 ≡ 0) ⊎ (d + 0 ≡ 0 + 1) = elim (cases_lt 0 d) [ inl one ↦ inr (omega arith) | inr never ↦ inl (omega arith) ] in
+    (d + 0, number, omega (arith, long), grown 0 u (subst (HasAlso lines w []) same (also_none lines w)))
+shown_telling lines s w rest all d l xs small counted long grown shown (suc m) zero u which is =
+    absurd (elim which [ inl e ↦ omega (arith, e) | inr e ↦ omega (arith, e) ])
+shown_telling lines s w rest all d l xs small counted long grown shown (suc m) (suc j) u which is =
+    let c : ℕ = length (commits_in (take m xs)) in
+    let f : ℕ = fims_in (l ∷ take m (lines_in xs)) in
+    let fims = fims_more l (take m (lines_in xs)) in
+    let next : (j ≡ c) ⊎ (j ≡ c + 1) = elim which [ inl e ↦ inl (omega (arith, e)) | inr e ↦ inr (omega (arith, e)) ] in
+    let found = shown m j u next is in
+    let number : (d + found.0 ≡ f) ⊎ (d + found.0 ≡ f + 1) =
+    elim found.1 [ inl e ↦ inl (omega (arith, fims, counted, e)) | inr e ↦ inr (omega (arith, fims, counted, e)) ] in
+    (d + found.0, number, omega (arith, long, found.2), grown found.0 u found.3)

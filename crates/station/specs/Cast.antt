@@ -1,11 +1,12 @@
 -- The ballots of a run, and how many FIM lines a shown text reaches into
-use Rattle.std.specs.Prelude.{◌-◌, ◌==◌, ℕ, List, [], ◌∷◌, ◌++◌, if◌then◌else◌, codes, length, count_by}
+use Rattle.std.specs.Prelude.{ℕ, List, [], ◌∷◌, ◌++◌, codes, count_by, take}
 use Rattle.std.specs.Str.{bytes_eq}
 use Rattle.key_script.specs.declared.keys.Event.{Event}
 use Rattle.vote_kinds.specs.declared.choice.Choice.{Choice}
 use Rattle.vote_kinds.specs.Ballot.{BallotLine}
 use Rattle.image_codec.specs.CodecLaws.{Ballot}
 use Rattle.image_codec.specs.State.{State, filled_up}
+use Rattle.state_store.specs.Steps.{lines_reached}
 use Rattle.station.specs.Output.{Output}
 use Rattle.station.specs.Run.{IsRun, ends, ignores, refuses, opens, seals, waits, cancels, visits, cut_off, Visit, whole, suspended}
 use Rattle.station.specs.Setting.{Setting}
@@ -38,11 +39,6 @@ ballots_of (cut_off before reply waiting on) = []
 abbrev pub fim : List ℕ
 fim = codes "FIM" ++ 10 ∷ []
 
--- the lines that the first n bytes of their text reach into by at least one byte
-abbrev pub lines_reached : List (List ℕ) → ℕ → List (List ℕ)
-lines_reached [] n = []
-lines_reached (line ∷ lines) n = if n == 0 then [] else line ∷ lines_reached lines (n - length line)
-
--- how many of them are FIM
+-- how many of the lines that the first n bytes of their text reach into are FIM
 abbrev pub fims_reached : List (List ℕ) → ℕ → ℕ
-fims_reached lines n = count_by (bytes_eq fim) (lines_reached lines n)
+fims_reached lines n = count_by (bytes_eq fim) (take (lines_reached lines n) lines)

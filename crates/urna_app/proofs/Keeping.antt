@@ -19,7 +19,7 @@ use Rattle.image_codec.proofs.Growing.{also_none}
 use Rattle.state_store.specs.Calls.{AreFound, KeepFrames, both_synced}
 use Rattle.state_store.specs.Held.{HeldAlone, HeldByBoth, bodies_of_both}
 use Rattle.state_store.specs.Played.{Follows, IsSafe, IsStateOrNext, Survives}
-use Rattle.state_store.specs.Steps.{Step, commits_in, commits_reached}
+use Rattle.state_store.specs.Steps.{Step, commits_in, commits_reached, lines_reached}
 use Rattle.state_store.specs.declared.load.Load.{Load}
 use Rattle.state_store.proofs.Holding.{hold_encoding}
 use Rattle.station.specs.Cast.{ballots_of, fims_reached}
@@ -89,7 +89,7 @@ module _ (t : TablesData) (r : RollData) (s last : State) (es : List Event) (out
   kept_shown : 0 < length left.shown → Follows t (length r.titles) s steps left → KeepFrames start left → Kept
   kept_shown some follows frames =
       let n : ℕ = length left.shown in
-      let shown = run_shown t r.titles roll run n in
+      let shown = run_shown t r.titles roll run (lines_reached lines n) in
       let states = commits_in steps in
       let c = commits_reached steps n in
       let f = fims_reached lines n in
