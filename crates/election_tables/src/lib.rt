@@ -17,6 +17,3 @@ mod tables;
 pub use office::{Kind, Office, code_digits, code_proportional};
 pub use roll::{Roll, RollError};
 pub use tables::{Candidate, Section, Tables, TablesError};
-
-#[cfg(test)]
-mod tests;

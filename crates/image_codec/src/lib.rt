@@ -18,6 +18,3 @@ mod writing;
 pub use reading::rank_of;
 pub use state::{State, decode};
 pub use writing::encode_into;
-
-#[cfg(test)]
-mod tests;

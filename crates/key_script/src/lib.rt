@@ -7,8 +7,6 @@
 mod keys;
 pub mod laws;
 mod line;
-#[cfg(test)]
-mod tests;
 mod text;
 
 pub use keys::{ClerkKey, Event, Key};

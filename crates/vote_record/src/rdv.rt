@@ -95,34 +95,3 @@ impl Rdv {
         self.bags[panel as usize].get(i)
     }
 }
-
-#[cfg(test)]
-mod tests {
-    use super::*;
-    use std::test::Fail;
-
-    const TABLES: &[u8] = br#"
-processo = 7
-data = 20261004
-turno = 1
-cargo = [{codigo = 11, regra = "absoluta", cadeiras = 1}]
-partido = [{numero = 13, nome = "PA"}]
-candidato = [{cargo = 11, numero = 13, nascimento = 19600303, nome = "CARLA"}]
-secao = [{zona = 1, secao = 42, eleitores = 2}]
-"#;
-
-    #[test]
-    fn tells_votes_in_the_order_of_choices(rt: HostRuntime) -> Result<(), Fail> {
-        let tables = Tables::read(rt.alloc(), TABLES)?;
-        assert!(rt; tables.panels() == 1);
-        let mut votes = Rdv::new(rt.alloc(), &tables, 2)?;
-        votes.add(&tables, 0, Choice::Null);
-        votes.add(&tables, 0, Choice::Blank);
-        assert_eq!(rt; votes.total(0), 2);
-        assert_eq!(rt; votes.vote(0, 0), Choice::Blank);
-        assert_eq!(rt; votes.vote(0, 1), Choice::Null);
-        assert_eq!(rt; votes.count(0, Choice::Null), 1);
-        assert_eq!(rt; votes.count(0, Choice::Party(13)), 0);
-        Ok(())
-    }
-}

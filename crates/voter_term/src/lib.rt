@@ -7,8 +7,6 @@
 
 mod laws;
 mod panel;
-#[cfg(test)]
-mod tests;
 mod text;
 
 pub use laws::{field_after_key, last_screen, word_after_key};

@@ -1,6 +1,6 @@
 //! Documents of tables, each with the answer that the rules of docs/FORMATS.md give it, found by hand.
 
-use crate::Kind;
+use election_tables::Kind;
 
 /// The parts of the good document. Its offices have numbers of 5, 2 and 3 digits, and its lists don't rise.
 pub(super) const HEAD: &str = "processo = 7

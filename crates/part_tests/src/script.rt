@@ -1,7 +1,8 @@
+//! Scripts of key presses (the crate `key_script`).
 ghost use Rattle.std.specs.Prelude.{◌≡◌, ◌+◌, ◌^◌, ◌<◌, ◌++◌, length};
 ghost use Rattle.key_script.specs.Event.{IsEvent, keys_of};
 
-use super::*;
+use key_script::{ClerkKey, Event, Key, LineError, Script};
 use std::process::Abort;
 
 // A step that asks for a valid event.

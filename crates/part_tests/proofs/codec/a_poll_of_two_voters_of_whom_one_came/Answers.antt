@@ -8,7 +8,7 @@ use Rattle.vote_kinds.specs.Ballot.{BallotLine, ballot_lines, lines_by_panel, li
 use Rattle.vote_kinds.proofs.Lookups.{lines_length, one_line}
 use Rattle.image_codec.specs.State.{State, AreFirst}
 use Rattle.image_codec.proofs.Ballots.{length-with_votes}
-use Rattle.image_codec.proofs.state.tests.a_poll_of_two_voters_of_whom_one_came.Goals as goal
+use Rattle.part_tests.proofs.codec.a_poll_of_two_voters_of_whom_one_came.Goals as goal
 
 first_blank : (t : TablesData) (first : ℕ) (panels : List Panel) → length panels ≡ 1 → AreFirst (lines_from t first panels) (choice.Blank ∷ [])
 first_blank t first [] n = absurd (omega arith)

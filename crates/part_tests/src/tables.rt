@@ -1,5 +1,5 @@
-//! Tables and rolls read from text, and each call on them once.
-use crate::{
+//! Tables and rolls read from text, and each call on them once (the crate `election_tables`).
+use election_tables::{
     Candidate, Kind, Office, Roll, RollError, Section, Tables, TablesError, code_digits,
     code_proportional,
 };

@@ -1,12 +1,12 @@
-//! Bodies worked out by hand from docs/FORMATS.md.
+//! The states of a poll, and their bodies, worked out by hand from docs/FORMATS.md (the crate `image_codec`).
 ghost use Rattle.std.specs.Prelude.{◌≡◌, ◌+◌, ◌≤◌, length, vec_len, IfOk};
 
-use super::*;
 use election_tables::Tables;
+use image_codec::{State, decode, encode_into, rank_of};
 use std::alloc::Global;
 use std::test::Fail;
 use turnout::Phase;
-use urna_base::Memory;
+use urna_base::{Memory, moment_ok};
 use vote_kinds::Choice;
 
 const TABLES: &[u8] = br#"
@@ -24,6 +24,32 @@ candidato = [
 ]
 secao = [{zona = 1, secao = 42, eleitores = 3}]
 "#;
+
+const OPENED: u64 = 20261004080000;
+
+const CLOSED: u64 = 20261004170000;
+
+#[test]
+fn a_poll_of_two_voters_of_whom_one_came(rt: HostRuntime) -> Result<(), Fail> {
+    let tables = Tables::read(rt.alloc(), TABLES)?;
+    assert!(rt; tables.panels() == 1);
+    assert!(rt; moment_ok(OPENED) && moment_ok(CLOSED));
+    let mut state = State::ready(rt.alloc(), &tables, 2)?;
+    assert_eq!(rt; state.rank(), 0);
+    state.begin(OPENED);
+    state.ballot(&tables, 1, &[Choice::Blank]);
+    assert_eq!(rt; state.rank(), 2);
+    assert_eq!(rt; state.turnout().came(1), true);
+    assert_eq!(rt; state.votes().count(0, Choice::Blank), 1);
+    state.seal(CLOSED);
+    assert_eq!(rt; state.rank(), 3);
+    let sealed = Phase::Sealed {
+        opened: OPENED,
+        closed: CLOSED,
+    };
+    assert_eq!(rt; state.phase(), sealed);
+    Ok(())
+}
 
 // A sealed poll: version and phase, 20261004080000, 20261004170000, how many came, the first and the third of three voters.
 const SEALED: [u8; 23] = [

@@ -1,7 +1,7 @@
 use Rattle.std.proofs.Common.{length, refl, ap, arith, length-append}
 use Rattle.std.proofs.lemmas.List.{append-nil}
 use Rattle.key_script.proofs.EventLaws.{yielded_more, event_valid, keys_of-append, length-keys_of}
-use Rattle.key_script.proofs.tests.voter_presses.Goals as goal
+use Rattle.part_tests.proofs.script.voter_presses.Goals as goal
 
 pub digit_of-requires : goal.digit_of-requires
 digit_of-requires c =

@@ -2,7 +2,7 @@ use Rattle.std.proofs.Common.{List, length, ap, arith, rules}
 use Rattle.vote_kinds.specs.declared.choice.Choice.{Choice}
 use Rattle.image_codec.specs.Encoding.{IsStateOf}
 use Rattle.image_codec.proofs.OfTables.{panels_of}
-use Rattle.image_codec.proofs.tests.a_sealed_poll_is_read_and_written_again.Goals as goal
+use Rattle.part_tests.proofs.codec.a_sealed_poll_is_read_and_written_again.Goals as goal
 
 pub count-requires : goal.count-requires
 count-requires g c =

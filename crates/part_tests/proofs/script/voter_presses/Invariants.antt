@@ -1,6 +1,6 @@
 use Rattle.std.proofs.Common.{◌≡◌, ◌++◌, length}
 use Rattle.key_script.specs.Event.{keys_of}
-use Rattle.key_script.proofs.tests.voter_presses.Given as goal
+use Rattle.part_tests.proofs.script.voter_presses.Given as goal
 
 abbrev pub invariant-loop-event : goal.invariant-loop-event
 invariant-loop-event l =

@@ -1,11 +1,12 @@
+//! The voter's terminal on one panel, key by key (the crate `voter_term`).
 ghost use Rattle.key_script.specs.Event.{IsKey};
 
-use super::*;
 use election_tables::Tables;
 use key_script::Key;
 use std::process::Abort;
 use std::test::Fail;
 use vote_kinds::office_digits;
+use voter_term::{Panel, Shown, screen};
 
 const TABLES: &[u8] = br#"
 processo = 7

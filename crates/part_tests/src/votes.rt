@@ -1,0 +1,56 @@
+//! The record of the votes (the crate `vote_record`).
+use election_tables::Tables;
+use std::test::Fail;
+use vote_kinds::{Choice, is_choice};
+use vote_record::Rdv;
+
+const TABLES: &[u8] = br#"
+processo = 7
+data = 20261004
+turno = 1
+cargo = [{codigo = 13, regra = "proporcional", cadeiras = 5}]
+partido = [
+  {numero = 13, nome = "PA"},
+  {numero = 45, nome = "PB"},
+]
+candidato = [
+  {cargo = 13, numero = 13001, nascimento = 19700101, nome = "ANA"},
+  {cargo = 13, numero = 45001, nascimento = 19650520, nome = "BRUNO"},
+]
+secao = [{zona = 1, secao = 42, eleitores = 6}]
+"#;
+
+#[test]
+fn tells_votes_in_the_order_of_choices(rt: HostRuntime) -> Result<(), Fail> {
+    let tables = Tables::read(rt.alloc(), TABLES)?;
+    assert!(rt; tables.panels() == 1);
+    let mut votes = Rdv::new(rt.alloc(), &tables, 6)?;
+    let typed = [
+        Choice::Null,
+        Choice::Party(45),
+        Choice::Blank,
+        Choice::Nominal(45001),
+        Choice::Party(13),
+        Choice::Nominal(13001),
+    ];
+    for choice in typed {
+        assert!(rt; votes.total(0) < 6);
+        assert!(rt; is_choice(&tables, 0, choice));
+        votes.add(&tables, 0, choice);
+    }
+    let kept = [
+        Choice::Nominal(13001),
+        Choice::Nominal(45001),
+        Choice::Party(13),
+        Choice::Party(45),
+        Choice::Blank,
+        Choice::Null,
+    ];
+    for (i, choice) in (0..6).zip(kept) {
+        assert!(rt; i < votes.total(0));
+        assert_eq!(rt; votes.vote(0, i), choice, "at {i}");
+        assert_eq!(rt; votes.count(0, choice), 1, "at {i}");
+    }
+    assert_eq!(rt; votes.count(0, Choice::Nominal(13)), 0);
+    Ok(())
+}
