@@ -48,9 +48,9 @@ mod tests {
 
     /// A system whose program was given these arguments, its name first.
     #[derive(Drop)]
-    struct Given<'a>(&'a [&'a [u8]]);
+    struct Given(&'static [&'static [u8]]);
 
-    impl<'a> Env for Given<'a> {
+    impl Env for Given {
         fn arg(&self, i: usize, buf: &mut [u8]) -> Result<usize, FillError> {
             let Some(word) = self.0.get(i) else {
                 return Err(FillError::NotPresent);
@@ -73,7 +73,7 @@ mod tests {
 
     #[test]
     fn words_are_those_after_the_name_where_each_is_text(rt: HostRuntime) -> Result<(), Fail> {
-        let rows: [(&[&[u8]], &[&str]); 5] = [
+        let rows: [(&'static [&'static [u8]], &'static [&'static str]); 5] = [
             (&[b"urna", b"carga", b"t"], &["carga", "t"]),
             (&[b"\xff", b"carga", b"t"], &["carga", "t"]),
             (&[b"urna", b"carga", b"\xff"], &[]),
