@@ -4,7 +4,7 @@
 //! times, and prints the bytes that each time puts on the flashes and its syncs. Each other work runs the keys once and then,
 //! TIMES times, writes the body of the state that is held (`encode`), reads it (`decode`) or copies it (`copy`).
 //!
-//! Its status is 0 where each time went well, 1 where one did not, and 2 where the words are others.
+//! Its status is 0 where each time went well, 1 where one did not, and 3 where the words are others.
 #![tactic(auto)]
 
 ghost use Rattle.std.specs.Prelude.{◌≡◌, ◌≤◌, Some, codes, IfSome, length};
@@ -250,7 +250,7 @@ fn outcome_of(alloc: Global, task: &Task) -> Option<Outcome> {
 
 fn status(rt: &HostRuntime) -> io::Result<u8> {
     let Some(task) = task_of(rt)? else {
-        return Ok(2);
+        return Ok(3);
     };
     match outcome_of(rt.alloc(), &task) {
         Some(outcome) => {

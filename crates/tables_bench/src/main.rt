@@ -1,6 +1,6 @@
 //! Reads one document some times, for `make bench`: the word `tables` reads it as tables, `toml` only parses it.
 //!
-//! It shows nothing. Its status is 0 where each time went well, 1 where one did not, and 2 where the words are others.
+//! It shows nothing. Its status is 0 where each time went well, 1 where one did not, and 3 where the words are others.
 #![tactic(auto)]
 
 ghost use Rattle.std.specs.Prelude.{◌≡◌, Some, codes};
@@ -50,10 +50,10 @@ fn all_done(alloc: Global, work: Work, bytes: &[u8]) -> bool {
 fn status(rt: &HostRuntime) -> io::Result<u8> {
     let mut words = env::args(rt)?.skip(1);
     let (Some(word), Some(name)) = (words.next(), words.next()) else {
-        return Ok(2);
+        return Ok(3);
     };
     let Some(work) = work_of(word.as_str()) else {
-        return Ok(2);
+        return Ok(3);
     };
     let bytes = fs::read(rt, name.as_str())?;
     if all_done(rt.alloc(), work, &bytes) {

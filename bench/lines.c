@@ -1,0 +1,13 @@
+/* Writes so many lines, each by a call of its own, and does nothing else: what a session that shows as many is compared with. */
+#include <stdlib.h>
+#include <unistd.h>
+
+int main(int count, char **words) {
+    long lines = count == 2 ? atol(words[1]) : 0;
+    for (long line = 0; line < lines; line++) {
+        if (write(STDOUT_FILENO, "RECUSA 7\n", 9) != 9) {
+            return 1;
+        }
+    }
+    return 0;
+}
