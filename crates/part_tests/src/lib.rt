@@ -1,6 +1,6 @@
-//! The tests of the parts: what each crate below answers to values from outside, and each of its public calls once on its
-//! happy path. They stand in a crate of their own because a crate with tests is proved twice, with them and without them;
-//! here nothing but the tests is. One module has the tests of one crate.
+//! The tests of six parts: what each answers to values from outside, and each of its public calls once on its happy path.
+//! They stand in a crate of their own because a crate with tests is proved twice, with them and without them; here nothing
+//! but the tests is. One module has the tests of one crate.
 #![tactic(auto)]
 
 #[cfg(test)]

@@ -67,6 +67,7 @@ fn panels_answer(rt: HostRuntime) -> Result<(), Fail> {
     let text = good_document(rt.alloc())?;
     let tables = Tables::read(rt.alloc(), text.as_str().as_bytes())?;
     assert_eq!(rt; tables.panels(), 3);
+    assert_eq!(rt; tables.places(0), 1);
     assert!(rt;
         tables.office(0)
             == Office {
