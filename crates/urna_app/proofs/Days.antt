@@ -14,14 +14,14 @@ use Rattle.vote_kinds.specs.Ballot.{ballot_lines}
 use Rattle.image_codec.specs.Also.{HasAlso}
 use Rattle.image_codec.specs.CodecLaws.{Ballot}
 use Rattle.image_codec.specs.State.{State}
-use Rattle.image_codec.proofs.Growing.{also_also}
+use Rattle.image_codec.proofs.Growing.{also_also, also_none}
 use Rattle.state_store.specs.Calls.{AreFound}
 use Rattle.state_store.specs.Held.{AreLoaded, HeldByBoth}
 use Rattle.state_store.specs.Laws.{AreWhole, IsPollOf}
 use Rattle.state_store.proofs.Going.{found_once, poll_left, syncs_leave_no_more}
 use Rattle.state_store.proofs.Resting.{clean_image}
 use Rattle.station.specs.Cast.{ballots_of}
-use Rattle.urna_app.specs.Headline.{DayKeepsVotes, IsSitting, KeepsVotes, Sitting, not_begun, one, session_lines, then}
+use Rattle.urna_app.specs.Headline.{DayKeepsVotes, IsNotBegun, IsSitting, KeepsVotes, Sitting, none, not_begun, one, session_lines, then}
 use Rattle.urna_app.proofs.Headline.{votes_are_kept}
 
 -- One sitting: what it leaves is a poll of the section again, with its ballots.
@@ -92,6 +92,16 @@ whole_contents : (flashes : Flashes) → AreWhole flashes → AreWhole (clean_fl
 whole_contents flashes whole dev.Internal = whole dev.Internal
 whole_contents flashes whole dev.External = whole dev.External
 
+found_contents : (t : TablesData) (r : RollData) (section : Section) (s : State) (flashes : Flashes) → AreFound t r section s flashes
+    → AreFound t r section s (clean_flashes flashes.internal.content flashes.external.content)
+found_contents t r section s flashes found = record { loaded = found.loaded; held = found.held }
+
+-- A call that did not begin left the content as it was.
+content_left : (start : Flashes) (left : Left) → IsNotBegun start left → (left.internal ≡ start.internal.content) × (left.external ≡ start.external.content)
+content_left start left begun =
+    let leaves = syncs_leave_no_more start begun.done left begun.stop begun.is in
+    (clean_image start.internal left.internal (begun.clean dev.Internal) leaves.internal, clean_image start.external left.external (begun.clean dev.External) leaves.external)
+
 pub day_keeps_votes : DayKeepsVotes
 day_keeps_votes t r section s start _ left whole found (one {x} is) =
     let h = leads t r section s start x left whole found is in (
@@ -111,10 +121,18 @@ day_keeps_votes t r section s start _ last whole found (then {next} {x} {more} {
       ((h.number, h.shown, h.cast, refl), rest.3),
       also_also (ballot_lines t) s h.state rest.0 (take h.number x.ballots) (flat_map (λ (l : List Ballot). l) rest.1) h.has rest.4,
     )
-day_keeps_votes t r section s start _ last whole found (not_begun {next} {more} {left} done clean stop is internal external day) =
-    let leaves = syncs_leave_no_more start done left stop is in
-    let i = internal ∙ clean_image start.internal left.internal (clean dev.Internal) leaves.internal in
-    let e = external ∙ clean_image start.external left.external (clean dev.External) leaves.external in
+day_keeps_votes t r section s start _ left whole found (none begun) =
+    let same = content_left start left begun in (
+      s,
+      [],
+      (found_next t r section s start.internal.content start.external.content (clean_flashes left.internal left.external) same.0 same.1 (found_contents t r section s start found)).held,
+      tt,
+      also_none (ballot_lines t) s,
+    )
+day_keeps_votes t r section s start _ last whole found (not_begun {next} {more} {left} begun internal external day) =
+    let same = content_left start left begun in
+    let i = internal ∙ same.0 in
+    let e = external ∙ same.1 in
     day_keeps_votes t r section s next more last
     (whole_next start.internal.content start.external.content next i e (whole_contents start whole))
-    (found_next t r section s start.internal.content start.external.content next i e (record { loaded = found.loaded; held = found.held })) day
+    (found_next t r section s start.internal.content start.external.content next i e (found_contents t r section s start found)) day

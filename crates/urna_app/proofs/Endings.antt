@@ -16,13 +16,13 @@ use Rattle.state_store.specs.declared.store.LoadError.{LoadError}
 use Rattle.state_store.specs.declared.store.LoadError.TheVariants as load
 use Rattle.station.specs.declared.station.StartError.{StartError}
 use Rattle.station.specs.declared.station.StartError.TheVariants as start
-use Rattle.urna_app.specs.Carga.{CargaEnds, IsRefusedLoad, load_no_cabinet, load_no_memory, load_refused, load_roll, load_tables}
+use Rattle.urna_app.specs.Carga.{CargaEnds, load_no_cabinet, load_no_memory, load_refused}
 use Rattle.urna_app.specs.Command.{Carga, Vota}
-use Rattle.urna_app.specs.Documents.{HasKeys, HasRoll, HasTables, IsFirstFault, of_roll, of_tables}
+use Rattle.urna_app.specs.Documents.{HasKeys, HasRoll, HasTables, IsFirstFault}
 use Rattle.urna_app.specs.Errors.{load_status, port_status, start_status}
 use Rattle.urna_app.specs.Holding.{FailsToHold, hold_status}
 use Rattle.urna_app.specs.Taking.{CountsFor, HasTaken, status_in}
-use Rattle.urna_app.specs.Vota.{IsGiven, IsRefused, VotaEnds, cut, no_cabinet, no_memory, not_started, refused, roll, tables}
+use Rattle.urna_app.specs.Vota.{IsGiven, IsRefused, VotaEnds, cut, no_cabinet, no_memory, not_started, refused}
 use Rattle.urna_app.specs.declared.status.Status.{Status}
 use Rattle.urna_app.specs.declared.status.Status.TheVariants as status
 use Rattle.urna_app.specs.declared.vota.HoldError.{HoldError}
@@ -59,15 +59,6 @@ which status.NoImage = inr (inr (λ e. absurd (cc), λ e. absurd (cc)))
 which (status.Busy d) = inr (inr (λ e. absurd (cc), λ e. absurd (cc)))
 which status.NoSection = inr (inr (λ e. absurd (cc), λ e. absurd (cc)))
 
--- the tables or the roll are at fault
-pub first_refused : (files : Option Files) (names : Vota) (s : Status) → IsFirstFault files names.tables names.roll s → IsRefused files names s
-first_refused files names s (of_tables h) = tables h
-first_refused files names s (of_roll has h) = roll has h
-
-pub first_refused_load : (files : Option Files) (names : Carga) (s : Status) → IsFirstFault files names.tables names.roll s → IsRefusedLoad files names s
-first_refused_load files names s (of_tables h) = load_tables h
-first_refused_load files names s (of_roll has h) = load_roll has h
-
 -- the keys are taken behind the tables and the roll
 pub given_keys : (names : Vota) (c d : CabinetTold) (t : TablesData) (r : RollData) (es : List Event) → HasTables c.files names.tables t
     → HasRoll c.files names.roll r → HasTaken 2 status.Done c d → HasKeys d.files names.keys es → IsGiven c.files names t r es
@@ -87,12 +78,12 @@ fault_ends names c d m s found taken = ends s (which s) found taken
         subst (VotaEnds names c d m m) (sym failed) (no_cabinet (subst (λ (v : Status). HasTaken 3 v c d) failed taken) (untouched m))
     ends u (inr (inr (memory, failed))) found taken = refused (found memory failed) taken (untouched m)
 
-pub load_fault_ends : (names : Carga) (c d : CabinetTold) (m : Told) (s : Status) → (s ≢ status.Memory → s ≢ status.Cabinet → IsRefusedLoad c.files names s)
+pub load_fault_ends : (names : Carga) (c d : CabinetTold) (m : Told) (s : Status) → (s ≢ status.Memory → s ≢ status.Cabinet → IsFirstFault c.files names.tables names.roll s)
     → HasTaken 2 s c d → CargaEnds names c d m m s
 load_fault_ends names c d m s found taken = ends s (which s) found taken
   where
     ends : (u : Status) → (u ≡ status.Memory) ⊎ (u ≡ status.Cabinet) ⊎ ((u ≢ status.Memory) × (u ≢ status.Cabinet))
-        → (u ≢ status.Memory → u ≢ status.Cabinet → IsRefusedLoad c.files names u) → HasTaken 2 u c d → CargaEnds names c d m m u
+        → (u ≢ status.Memory → u ≢ status.Cabinet → IsFirstFault c.files names.tables names.roll u) → HasTaken 2 u c d → CargaEnds names c d m m u
     ends u (inl memory) found taken =
         subst (CargaEnds names c d m m) (sym memory) (load_no_memory (subst (λ (v : Status). HasTaken 2 v c d) memory taken) (untouched m))
     ends u (inr (inl failed)) found taken =

@@ -19,7 +19,8 @@ use Rattle.state_store.specs.Laws.{AreWhole}
 use Rattle.state_store.specs.declared.store.LoadError.{LoadError}
 use Rattle.state_store.specs.declared.store.LoadError.TheVariants as load
 use Rattle.state_store.proofs.Loaded.{rest_found, rest_whole}
-use Rattle.urna_app.specs.Carga.{CargaEnds, HasLoaded, IsAsked, IsGivenLoad, IsRefusedLoad, load_no_cabinet, load_no_memory, load_refused, loaded, loaded_line, no_section, not_loaded, not_told}
+use Rattle.urna_app.specs.Carga.{CargaEnds, HasLoaded, IsAsked, IsGivenLoad, load_no_cabinet, load_no_memory, load_refused, loaded, loaded_line, no_section, not_loaded, not_told}
+use Rattle.urna_app.specs.Documents.{IsFirstFault}
 use Rattle.urna_app.specs.Command.{Carga, ToLoad, command_of}
 use Rattle.urna_app.specs.Ending.{CommandEnds, carga, vota}
 use Rattle.urna_app.specs.Errors.{load_status}
@@ -61,7 +62,7 @@ module _ (files : Files) (names : Carga) (c d : CabinetTold) (told : c.files ≡
 
   carga_begins : (answer : Status) → answer ≡ status.Done → CargaEnds names c d m b answer → Begins
   carga_begins answer ok (load_refused bad taken un) =
-      absurd (refused_or_given_load files names answer t r (subst (λ (o : Option Files). IsRefusedLoad o names answer) told bad) given)
+      absurd (refused_or_given_load files names answer t r (subst (λ (o : Option Files). IsFirstFault o names.tables names.roll answer) told bad) given)
   carga_begins _ ok (load_no_memory taken un) = absurd (cc)
   carga_begins _ ok (load_no_cabinet taken un) = absurd (cc)
   carga_begins _ ok (no_section also none taken un) = absurd (cc)

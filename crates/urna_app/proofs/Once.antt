@@ -11,10 +11,10 @@ use Rattle.election_tables.specs.TablesData.{TablesData}
 use Rattle.key_script.specs.Script.{events_of, first_bad}
 use Rattle.key_script.proofs.ScriptLaws.{events_or_bad}
 use Rattle.key_script.specs.declared.keys.Event.{Event}
-use Rattle.urna_app.specs.Carga.{IsGivenLoad, IsRefusedLoad, load_tables, load_roll}
+use Rattle.urna_app.specs.Carga.{IsGivenLoad}
 use Rattle.urna_app.specs.Command.{Carga, Vota}
-use Rattle.urna_app.specs.Documents.{IsTaken, IsBad, IsFault, HasTables, HasRoll, HasKeys, limit_of, lacks, longer, bad, no_document, rule, count, roll_line, line}
-use Rattle.urna_app.specs.Vota.{IsGiven, IsRefused, tables, roll, keys}
+use Rattle.urna_app.specs.Documents.{IsTaken, IsBad, IsFault, IsFirstFault, HasTables, HasRoll, HasKeys, first_tables, first_roll, limit_of, lacks, longer, bad, no_document, rule, count, roll_line, line}
+use Rattle.urna_app.specs.Vota.{IsGiven, IsRefused, documents, keys}
 use Rattle.urna_app.specs.declared.status.Doc.{Doc}
 use Rattle.urna_app.specs.declared.status.Doc.TheVariants as doc
 use Rattle.urna_app.specs.declared.status.Status.{Status}
@@ -25,19 +25,19 @@ use Rattle.urna_app.specs.declared.status.Status.TheVariants as status
 no_members : (bytes : List ℕ) (ms : Members) → IsNoDocument bytes → IsDocument bytes ms → ⊥
 no_members bytes ms none h = let parsed = h.1 in let not_parsed = none h.0 in absurd (cc)
 
-same_members : (bytes : List ℕ) (ms ns : Members) → IsDocument bytes ms → IsDocument bytes ns → ms ≡ ns
-same_members bytes ms ns h k = let p = h.1 in let q = k.1 in cc
+one_document : (bytes : List ℕ) (ms ns : Members) → IsDocument bytes ms → IsDocument bytes ns → ms ≡ ns
+one_document bytes ms ns h k = let p = h.1 in let q = k.1 in cc
 
 same_rule : (bytes : List ℕ) (k n : ℕ) → BreaksFirst bytes k → BreaksFirst bytes n → k ≡ n
 same_rule bytes k n h i =
-    let same = same_members bytes h.members i.members h.parsed i.parsed in
+    let same = one_document bytes h.members i.members h.parsed i.parsed in
     let p = h.broken in
     let q : broken_rule h.members ≡ Some n = subst (λ (ms : Members). broken_rule ms ≡ Some n) (sym same) i.broken in
     cc
 
 broken_not_kept : (bytes : List ℕ) (k : ℕ) (ms : Members) → BreaksFirst bytes k → IsDocument bytes ms → broken_rule ms ≡ None → ⊥
 broken_not_kept bytes k ms h parsed kept =
-    let same = same_members bytes h.members ms h.parsed parsed in
+    let same = one_document bytes h.members ms h.parsed parsed in
     let p = h.broken in
     let q : broken_rule h.members ≡ None = subst (λ (ns : Members). broken_rule ns ≡ None) (sym same) kept in
     absurd (cc)
@@ -143,30 +143,29 @@ keys_not_fault files name s es (bad {bytes} taken (line {k} h)) has =
 
 -- The files of some names
 
+pub first_once : (files : Files) (tables roll : List ℕ) (s u : Status) → IsFirstFault (Some files) tables roll s → IsFirstFault (Some files) tables roll u → s ≡ u
+first_once files a b s u (first_tables h) (first_tables i) = fault_once files a doc.Tables s u h i
+first_once files a b s u (first_tables h) (first_roll {t} has i) = absurd (tables_not_fault files a s t h has)
+first_once files a b s u (first_roll {t} has h) (first_tables i) = absurd (tables_not_fault files a u t i has)
+first_once files a b s u (first_roll has h) (first_roll also i) = fault_once files b doc.Roll s u h i
+
+-- tables and a roll that are at fault are not there
+first_not_there : (files : Files) (tables roll : List ℕ) (s : Status) (t : TablesData) (r : RollData) → IsFirstFault (Some files) tables roll s
+    → HasTables (Some files) tables t → HasRoll (Some files) roll r → ⊥
+first_not_there files a b s t r (first_tables h) has read = tables_not_fault files a s t h has
+first_not_there files a b s t r (first_roll _ h) has read = roll_not_fault files b s r h read
+
 pub refused_once : (files : Files) (names : Vota) (s u : Status) → IsRefused (Some files) names s → IsRefused (Some files) names u → s ≡ u
-refused_once files a s u (tables h) (tables i) = fault_once files a.tables doc.Tables s u h i
-refused_once files a s u (tables h) (roll {t} has i) = absurd (tables_not_fault files a.tables s t h has)
-refused_once files a s u (tables h) (keys {t} has read i) = absurd (tables_not_fault files a.tables s t h has)
-refused_once files a s u (roll {t} has h) (tables i) = absurd (tables_not_fault files a.tables u t i has)
-refused_once files a s u (roll has h) (roll also i) = fault_once files a.roll doc.Roll s u h i
-refused_once files a s u (roll has h) (keys {r} also read i) = absurd (roll_not_fault files a.roll s r h read)
-refused_once files a s u (keys {t} has read h) (tables i) = absurd (tables_not_fault files a.tables u t i has)
-refused_once files a s u (keys {r} has read h) (roll also i) = absurd (roll_not_fault files a.roll u r i read)
+refused_once files a s u (documents h) (documents i) = first_once files a.tables a.roll s u h i
+refused_once files a s u (documents h) (keys {t} {r} has read i) = absurd (first_not_there files a.tables a.roll s t r h has read)
+refused_once files a s u (keys {t} {r} has read h) (documents i) = absurd (first_not_there files a.tables a.roll u t r i has read)
 refused_once files a s u (keys has read h) (keys also seen i) = fault_once files a.keys doc.Keys s u h i
 
 pub refused_or_given : (files : Files) (names : Vota) (s : Status) (t : TablesData) (r : RollData) (es : List Event) → IsRefused (Some files) names s
     → IsGiven (Some files) names t r es → ⊥
-refused_or_given files a s t r es (tables h) given = tables_not_fault files a.tables s t h given.tables
-refused_or_given files a s t r es (roll has h) given = roll_not_fault files a.roll s r h given.roll
+refused_or_given files a s t r es (documents h) given = first_not_there files a.tables a.roll s t r h given.tables given.roll
 refused_or_given files a s t r es (keys has read h) given = keys_not_fault files a.keys s es h given.keys
 
-pub refused_load_once : (files : Files) (names : Carga) (s u : Status) → IsRefusedLoad (Some files) names s → IsRefusedLoad (Some files) names u → s ≡ u
-refused_load_once files a s u (load_tables h) (load_tables i) = fault_once files a.tables doc.Tables s u h i
-refused_load_once files a s u (load_tables h) (load_roll {t} has i) = absurd (tables_not_fault files a.tables s t h has)
-refused_load_once files a s u (load_roll {t} has h) (load_tables i) = absurd (tables_not_fault files a.tables u t i has)
-refused_load_once files a s u (load_roll has h) (load_roll also i) = fault_once files a.roll doc.Roll s u h i
-
-pub refused_or_given_load : (files : Files) (names : Carga) (s : Status) (t : TablesData) (r : RollData) → IsRefusedLoad (Some files) names s
+pub refused_or_given_load : (files : Files) (names : Carga) (s : Status) (t : TablesData) (r : RollData) → IsFirstFault (Some files) names.tables names.roll s
     → IsGivenLoad (Some files) names t r → ⊥
-refused_or_given_load files a s t r (load_tables h) given = tables_not_fault files a.tables s t h given.tables
-refused_or_given_load files a s t r (load_roll has h) given = roll_not_fault files a.roll s r h given.roll
+refused_or_given_load files a s t r h given = first_not_there files a.tables a.roll s t r h given.tables given.roll

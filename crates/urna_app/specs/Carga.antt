@@ -16,10 +16,9 @@ use Rattle.state_store.specs.Load.{IsSectionOf, load_of}
 use Rattle.state_store.specs.Rest.{AreAtRest}
 use Rattle.state_store.specs.declared.store.LoadError.{LoadError}
 use Rattle.urna_app.specs.Command.{Carga}
-use Rattle.urna_app.specs.Documents.{HasTables, HasRoll, IsFault}
+use Rattle.urna_app.specs.Documents.{HasTables, HasRoll, IsFirstFault}
 use Rattle.urna_app.specs.Errors.{load_status}
 use Rattle.urna_app.specs.Taking.{HasTaken}
-use Rattle.urna_app.specs.declared.status.Doc.TheVariants as doc
 use Rattle.urna_app.specs.declared.status.Status.{Status}
 use Rattle.urna_app.specs.declared.status.Status.TheVariants as status
 
@@ -29,11 +28,6 @@ use Rattle.urna_app.specs.declared.status.Status.TheVariants as status
 pub record IsGivenLoad (files : Option Files) (names : Carga) (t : TablesData) (r : RollData) : Type 0 where
   pub tables : HasTables files names.tables t
   pub roll : HasRoll files names.roll r
-
--- A document is at fault, and this status says it: the tables are tried first.
-pub data IsRefusedLoad (files : Option Files) (names : Carga) : Status → Type 0 where
-  load_tables : {s : Status} → IsFault files names.tables doc.Tables s → IsRefusedLoad files names s
-  load_roll : {t : TablesData} {s : Status} → HasTables files names.tables t → IsFault files names.roll doc.Roll s → IsRefusedLoad files names s
 
 -- the section that is to be loaded: the tables have it, with as many voters as the roll
 pub record IsAsked (names : Carga) (t : TablesData) (r : RollData) (section : Section) : Type 0 where
@@ -57,7 +51,7 @@ pub record HasLoaded (t : TablesData) (r : RollData) (section : Section) (old ne
 
 -- How carga ends, but for the line that tells a fault.
 pub data CargaEnds (names : Carga) (c d : CabinetTold) (m n : Told) : Status → Type 0 where
-  load_refused : {s : Status} → IsRefusedLoad c.files names s → HasTaken 2 s c d → IsUntouched m n → CargaEnds names c d m n s
+  load_refused : {s : Status} → IsFirstFault c.files names.tables names.roll s → HasTaken 2 s c d → IsUntouched m n → CargaEnds names c d m n s
   load_no_memory : HasTaken 2 status.Memory c d → IsUntouched m n → CargaEnds names c d m n status.Memory
   load_no_cabinet : HasTaken 2 status.Cabinet c d → IsUntouched m n → CargaEnds names c d m n status.Cabinet
   -- The tables have no such section, or it has another number of voters than the roll.

@@ -57,5 +57,5 @@ pub record HasKeys (files : Option Files) (name : List ℕ) (es : List Event) : 
 
 -- The tables or the roll are at fault, and this status says it: the tables are tried first.
 pub data IsFirstFault (files : Option Files) (tables roll : List ℕ) : Status → Type 0 where
-  of_tables : {s : Status} → IsFault files tables doc.Tables s → IsFirstFault files tables roll s
-  of_roll : {t : TablesData} {s : Status} → HasTables files tables t → IsFault files roll doc.Roll s → IsFirstFault files tables roll s
+  first_tables : {s : Status} → IsFault files tables doc.Tables s → IsFirstFault files tables roll s
+  first_roll : {t : TablesData} {s : Status} → HasTables files tables t → IsFault files roll doc.Roll s → IsFirstFault files tables roll s

@@ -8,6 +8,7 @@ use Rattle.election_tables.specs.declared.tables.TablesError.{TablesError}
 use Rattle.election_tables.specs.declared.tables.TablesError.TheVariants as tables
 use Rattle.election_tables.specs.declared.roll.RollError.{RollError}
 use Rattle.election_tables.specs.declared.roll.RollError.TheVariants as roll
+use Rattle.key_script.specs.declared.text.LineError.{LineError}
 use Rattle.state_store.specs.declared.store.LoadError.{LoadError}
 use Rattle.state_store.specs.declared.store.LoadError.TheVariants as load
 use Rattle.station.specs.declared.station.StartError.{StartError}
@@ -31,6 +32,9 @@ abbrev pub roll_status : RollError → Status
 roll_status roll.Memory = status.Memory
 roll_status roll.Count = status.RollCount
 roll_status (roll.Line k) = status.RollLine k
+
+abbrev pub line_status : LineError → Status
+line_status e = status.Line e.line
 
 abbrev pub port_status : Port → Status
 port_status Internal = status.InternalFlash

@@ -132,16 +132,21 @@ pub record IsSitting (t : TablesData) (r : RollData) (start : Flashes) (x : Sitt
   pub ballots : x.ballots ≡ ballots_of run
   pub fims : x.fims ≡ fims_reached (session_lines t first out) (length left.shown)
 
--- One sitting, or one and then more, over flashes with the content that it left. Before a sitting some front of the two syncs may have
--- been done, over flashes on which nothing was dirty: so it is where a call was stopped or ended before its second sync, and where one
--- only syncs.
+-- A call over these flashes, on which nothing was dirty, came no further than its two opening syncs, and left that.
+pub record IsNotBegun (start : Flashes) (left : Left) : Type 0 where
+  pub clean : (d : Dev) → IsClean (flash_of d start)
+  pub done : List Op
+  pub stop : IsStop both_synced done
+  pub is : IsLeft (after done start) (shown_by done) left
+
+-- Sittings and calls that did not begin one, one or more, each over flashes with the content that the one before it left.
 pub data IsDay (t : TablesData) (r : RollData) : Flashes → List Sitting → Left → Type 0 where
   one : {start : Flashes} {x : Sitting} {left : Left} → IsSitting t r start x left → IsDay t r start (x ∷ []) left
+  none : {start : Flashes} {left : Left} → IsNotBegun start left → IsDay t r start [] left
   then : {start next : Flashes} {x : Sitting} {more : List Sitting} {left last : Left} → IsSitting t r start x left
       → next.internal.content ≡ left.internal → next.external.content ≡ left.external → IsDay t r next more last
       → IsDay t r start (x ∷ more) last
-  not_begun : {start next : Flashes} {more : List Sitting} {left last : Left} (done : List Op) → ((d : Dev) → IsClean (flash_of d start))
-      → IsStop both_synced done → IsLeft (after done start) (shown_by done) left
+  not_begun : {start next : Flashes} {more : List Sitting} {left last : Left} → IsNotBegun start left
       → next.internal.content ≡ left.internal → next.external.content ≡ left.external → IsDay t r next more last
       → IsDay t r start more last
 

@@ -17,7 +17,7 @@ use Rattle.station.specs.Start.{FailsToStart, Opens, opening}
 use Rattle.station.specs.Text.{session_steps}
 use Rattle.station.specs.declared.station.StartError.{StartError}
 use Rattle.urna_app.specs.Command.{Vota}
-use Rattle.urna_app.specs.Documents.{HasTables, HasRoll, HasKeys, IsFault}
+use Rattle.urna_app.specs.Documents.{HasTables, HasRoll, HasKeys, IsFault, IsFirstFault}
 use Rattle.urna_app.specs.Errors.{port_status, start_status}
 use Rattle.urna_app.specs.Taking.{HasTaken}
 use Rattle.urna_app.specs.declared.status.Doc.TheVariants as doc
@@ -35,8 +35,7 @@ pub record IsGiven (files : Option Files) (names : Vota) (t : TablesData) (r : R
 -- A document is at fault, and this status says it: the documents are tried in the order of the words, and the first that is at
 -- fault gives the status.
 pub data IsRefused (files : Option Files) (names : Vota) : Status → Type 0 where
-  tables : {s : Status} → IsFault files names.tables doc.Tables s → IsRefused files names s
-  roll : {t : TablesData} {s : Status} → HasTables files names.tables t → IsFault files names.roll doc.Roll s → IsRefused files names s
+  documents : {s : Status} → IsFirstFault files names.tables names.roll s → IsRefused files names s
   keys : {t : TablesData} {r : RollData} {s : Status} → HasTables files names.tables t → HasRoll files names.roll r
       → IsFault files names.keys doc.Keys s → IsRefused files names s
 

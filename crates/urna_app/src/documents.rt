@@ -88,8 +88,6 @@ pub(crate) fn take_keys<C: Cabinet>(
     ensures taken { HasTaken 1 (status_in result) (C.told cabinet.old) (C.told cabinet.new) }
 {
     let bytes = take(alloc, cabinet, name, Doc::Keys)?;
-    match Script::read(bytes) {
-        Ok(script) => Ok(script),
-        Err(error) => Err(Status::Line(error.line)),
-    }
+    let script = Script::read(bytes)?;
+    Ok(script)
 }

@@ -1,11 +1,12 @@
 //! The statuses of errors (`specs/Errors.antt`): a `?` gives them, but for a file that was not taken.
 ghost use Rattle.std.specs.Prelude.{◌≡◌};
-ghost use Rattle.urna_app.specs.Errors.{load_status, port_status, roll_status, tables_status, take_status};
+ghost use Rattle.urna_app.specs.Errors.{line_status, load_status, port_status, roll_status, tables_status, take_status};
 ghost use Rattle.urna_app.specs.Holding.{hold_status};
 
 use crate::status::{Doc, Status};
 use crate::vota::HoldError;
 use election_tables::{RollError, TablesError};
+use key_script::LineError;
 use state_store::LoadError;
 use station::StartError;
 use urna_outside::{CabinetError, Port};
@@ -43,6 +44,14 @@ impl From<RollError> for Status {
             RollError::Count => Status::RollCount,
             RollError::Line(line) => Status::RollLine(line),
         }
+    }
+}
+
+impl From<LineError> for Status {
+    ghost from_gives = { λ error status. status ≡ line_status error };
+
+    fn from(error: LineError) -> Status {
+        Status::Line(error.line)
     }
 }
 

@@ -10,7 +10,7 @@ use Rattle.urna_app.specs.Errors.{load_status}
 use Rattle.urna_app.specs.Taking.{HasTaken}
 use Rattle.urna_app.specs.declared.status.Status.TheVariants as status
 use Rattle.urna_app.proofs.Calls.{taken_as}
-use Rattle.urna_app.proofs.Endings.{counts_load, first_refused_load, load_fault_ends, passed_on, untouched}
+use Rattle.urna_app.proofs.Endings.{counts_load, load_fault_ends, passed_on, untouched}
 use Rattle.urna_app.proofs.carga.carga.Goals as goal
 
 pub returns-in_err-tables : goal.returns-in_err-tables
@@ -21,7 +21,7 @@ returns-in_err-tables g c =
     let m = g.M.Machine.told c.args.machine.now in
     let s = c.in_err-tables.field-0.0 in
     subst (CargaEnds names x y m m) (sym (passed_on c.from_residual.result s c.from_residual.ensures.1 (λ e h. h)))
-    (load_fault_ends names x y m s (λ memory failed. first_refused_load x.files names s (c.in_err-tables.ensures.fault memory failed))
+    (load_fault_ends names x y m s c.in_err-tables.ensures.fault
     c.in_err-tables.ensures.taken)
 
 pub returns-in_default : goal.returns-in_default

@@ -4,11 +4,11 @@ use Rattle.urna_app.specs.Command.{Vota}
 use Rattle.urna_app.specs.Documents.{IsFault}
 use Rattle.urna_app.specs.Holding.{hold_status}
 use Rattle.urna_app.specs.Taking.{HasTaken}
-use Rattle.urna_app.specs.Vota.{VotaEnds, done, keys}
+use Rattle.urna_app.specs.Vota.{VotaEnds, documents, done, keys}
 use Rattle.urna_app.specs.declared.status.Doc.TheVariants as doc
 use Rattle.urna_app.specs.declared.status.Status.TheVariants as status
 use Rattle.urna_app.proofs.Calls.{taken_more, taken_within}
-use Rattle.urna_app.proofs.Endings.{fault_ends, first_refused, given_keys, not_held, passed_on}
+use Rattle.urna_app.proofs.Endings.{fault_ends, given_keys, not_held, passed_on}
 use Rattle.urna_app.proofs.vota.vota.Goals as goal
 
 pub returns-in_err-tables : goal.returns-in_err-tables
@@ -19,7 +19,7 @@ returns-in_err-tables g c out =
     let m = g.M.Machine.told c.args.machine.now in
     let s = c.in_err-tables.field-0.0 in
     subst (VotaEnds names x y m m) (sym (passed_on c.from_residual.result s c.from_residual.ensures.1 (λ e h. h)))
-    (fault_ends names x y m s (λ memory failed. first_refused x.files names s (c.in_err-tables.ensures.fault memory failed))
+    (fault_ends names x y m s (λ memory failed. documents (c.in_err-tables.ensures.fault memory failed))
     (taken_within 2 3 s x y (omega arith) c.in_err-tables.ensures.taken))
 
 pub returns-in_err-script : goal.returns-in_err-script
