@@ -10,7 +10,7 @@ use Rattle.std.proofs.lemmas.Bool.Decides.{nat_tests}
 use Rattle.std.proofs.lemmas.List.Elements.{All-nil, All-cons}
 use Rattle.urna_base.specs.Digits.{is_digit, digits_value}
 use Rattle.urna_base.specs.Moment.{is_moment}
-use Rattle.urna_base.proofs.DigitLaws.{is_digit-true, digits_value-below}
+use Rattle.urna_base.proofs.DigitLaws.{is_digit-true, digits_value-below, some_from_test}
 use Rattle.key_script.specs.declared.keys.Key.{Key}
 use Rattle.key_script.specs.declared.keys.Key.TheVariants.{Digit, Blank, Correct, Confirm}
 use Rattle.key_script.specs.declared.keys.ClerkKey.{ClerkKey}
@@ -53,18 +53,13 @@ pub after_word-stripped : (word text : List ℕ) (r : Option (Bor (List ℕ))) �
 after_word-stripped word text None never = sym (after_word-none word text never)
 after_word-stripped word text (Some x) e = rw e (sym (after_word-append word x.now))
 
--- a value that passes a test
-kept_value : (b : Bool) (m v : ℕ) → (if b then Some m else None) ≡ Some v → (b ≡ true) × (m ≡ v)
-kept_value true m v e = (refl, cc)
-kept_value false m v e = absurd (cc)
-
 -- a moment that is read is valid
 pub moment_value-valid : (text : List ℕ) (m : ℕ) → moment_value text ≡ Some m → is_moment m ≡ true
 moment_value-valid text m e = go (digits_value 14 text) e
   where
     go : (o : Option ℕ) → option_and_then (λ m. if is_moment m then Some m else None) o ≡ Some m → is_moment m ≡ true
     go None e = absurd (cc)
-    go (Some n) e = let kept = kept_value (is_moment n) n m e in subst (λ (x : ℕ). is_moment x ≡ true) kept.1 kept.0
+    go (Some n) e = let kept = some_from_test (is_moment n) n m e in subst (λ (x : ℕ). is_moment x ≡ true) kept.1 kept.0
 
 -- and is what the digits write
 pub moment_value-digits : (text : List ℕ) (m : ℕ) → moment_value text ≡ Some m → digits_value 14 text ≡ Some m
@@ -72,7 +67,7 @@ moment_value-digits text m e = go (digits_value 14 text) e
   where
     go : (o : Option ℕ) → option_and_then (λ m. if is_moment m then Some m else None) o ≡ Some m → o ≡ Some m
     go None e = absurd (cc)
-    go (Some n) e = let kept = kept_value (is_moment n) n m e in ap (λ (x : ℕ). Some x) kept.1
+    go (Some n) e = let kept = some_from_test (is_moment n) n m e in ap (λ (x : ℕ). Some x) kept.1
 
 -- what a numbered line gives, from its number
 numbered-gives : (Q : ClerkKey → Type 0) (key : ℕ → ClerkKey) (word : List ℕ) (value : List ℕ → Option ℕ) (line : List ℕ) (k : ClerkKey) → ((text : List ℕ) (n : ℕ) → line ≡ word ++ text → value text ≡ Some n → Q (key n)) → numbered word value key line ≡ Some k → Q k

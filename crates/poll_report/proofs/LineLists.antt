@@ -63,7 +63,8 @@ panels_rest t bags first (q ∷ panels) (suc i) =
           ∙ sym (append_assoc (panel_lines t q (bag_at bags first)) (lines_of_panels t bags (first + 1) (take i panels)) more.0),
     )
 
-known : (panels : List Panel) (i : ℕ) → i < length panels → slice_get panels i ≡ Some (unwrap_or (slice_get panels i) no_panel)
+-- the panels of a place that they have
+pub known : (panels : List Panel) (i : ℕ) → i < length panels → slice_get panels i ≡ Some (unwrap_or (slice_get panels i) no_panel)
 known [] i h = absurd (omega arith)
 known (p ∷ panels) zero h = refl
 known (p ∷ panels) (suc i) h = known panels i (omega arith)

@@ -20,10 +20,6 @@ looked a b P does holds fs told = holds fs (does.flashes ∙ same_flashes a.flas
 pub looked_twice : (a b c : Told) → Does [] a b → Does [] b c → Does [] a c
 looked_twice a b c first second = does-append [] [] a b c first second
 
--- and a fault of the second is one of both
-pub fails_looking : {T E : Type 0} (port_in : E → Port) (r : Result T E) (a b c : Told) → IsFaultless a b → FailsAt port_in r b c → FailsAt port_in r a c
-fails_looking port_in r a b c first later = fails_later port_in r a b c first later
-
 -- a test that came out false denies all that implies what it tests
 pub unlike : {P Q : Type 0} (test : Bool) → test ≡ false → (IsTrue test ↔ Q) → (P → Q) → (IsTrue false ↔ P)
 unlike true is decides then = absurd (cc)

@@ -19,6 +19,7 @@ use Rattle.state_store.specs.Load.{header}
 use Rattle.state_store.specs.Rest.{AreAtRest, body_size}
 use Rattle.state_store.specs.declared.load.Load.{Load}
 use Rattle.state_store.proofs.Holding.{IsKnown, hold_either}
+use Rattle.twin_image.proofs.Framing.{stop_whole}
 
 -- a state that can stand in the slots of flashes of this load
 pub record IsStored (t : TablesData) (load : Load) (s : State) : Type 0 where
@@ -79,16 +80,11 @@ frames_trans first mid left kept keeps d =
       bytes = λ k out. (keeps d).bytes k out ∙ (kept d).bytes k out;
     }
 
--- the stop behind all operations
-pub whole_stop : (ops : List Op) → IsStop ops ops
-whole_stop [] = tt
-whole_stop (op ∷ ops) = inl (refl, whole_stop ops)
-
 -- What holds at each stop holds of what reads give at the end.
 pub at_end : (start : Flashes) (ops : List Op) (P : Left → Type 0) → AtEachStop start ops P
     → P (record { internal = (after ops start).internal.content; external = (after ops start).external.content; shown = shown_by ops })
 at_end start ops P holds =
-    holds ops (whole_stop ops) (record { internal = (after ops start).internal.content; external = (after ops start).external.content; shown = shown_by ops }) (record {
+    holds ops (stop_whole ops) (record { internal = (after ops start).internal.content; external = (after ops start).external.content; shown = shown_by ops }) (record {
       internal = content_image (after ops start).internal;
       external = content_image (after ops start).external;
       shown = refl;

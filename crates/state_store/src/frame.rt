@@ -48,7 +48,7 @@ pub(crate) fn stand_at<M: Machine>(m: &mut M, dev: Dev, at: u32, bytes: &[u8]) -
 }
 
 /// Whether a device has this header, and zeros behind both gates. It reads and does nothing else.
-#[tactic(auto, using(crate::proofs::Looking::looked, crate::proofs::Looking::looked_twice, crate::proofs::Looking::fails_looking))]
+#[tactic(auto, using(crate::proofs::Looking::looked, crate::proofs::Looking::looked_twice, urna_outside::proofs::Faults::fails_later))]
 fn has_frame<M: Machine>(m: &mut M, dev: Dev, header: &[u8; 512]) -> Result<bool, Dev>
     requires { size_of dev (M.told m.old).sizes ≡ device_size }
     ensures frame { IfOk result (λ has. ForSome (M.told m.old).flashes

@@ -9,13 +9,13 @@ use Rattle.state_store.specs.Played.{HasPut}
 use Rattle.state_store.specs.Steps.{Step, state_after}
 use Rattle.state_store.specs.Store.{AreDevices, IsLoadedWith, Keeps, StoreData}
 use Rattle.state_store.specs.declared.load.Load.{Load}
-use Rattle.state_store.proofs.Counting.{state_after-append}
+use Rattle.state_store.proofs.Counting.{state_after-append, state_after-quiet}
 use Rattle.state_store.proofs.Playing.{put_nothing, put_to}
 use Rattle.state_store.proofs.Stored.{stored}
 use Rattle.station.specs.Acts.{output_of, outputs_of}
 use Rattle.station.specs.Doing.{AreDoable, MayDoAll}
 use Rattle.station.specs.Text.{output_steps, session_steps}
-use Rattle.station.specs.declared.act.Act.{Act}
+use Rattle.station.specs.declared.perform.Act.{Act}
 use Rattle.key_script.specs.Event.{IsEvent}
 use Rattle.key_script.specs.declared.keys.Event.{Event}
 use Rattle.poll_report.specs.Counts.{count_lines}
@@ -23,16 +23,16 @@ use Rattle.std.specs.List.{AllByRecursion}
 use Rattle.state_store.specs.Steps.{quiet}
 use Rattle.station.specs.Acts.{IsAct, act_of, last_state}
 use Rattle.station.specs.Output.{Output, Says, Commits, Reports}
-use Rattle.station.specs.Press.{Pressed, press}
+use Rattle.station.specs.Press.{Pressed, Standing, press}
 use Rattle.station.specs.Setting.{setting_of}
 use Rattle.station.specs.Session.{FitsLine}
-use Rattle.station.specs.Station.{IsStationed, StationData}
+use Rattle.station.specs.Station.{IsAsked, IsStationed, StationData}
 use Rattle.station.specs.Text.{title_text}
 use Rattle.station.proofs.Faithful.{press_faithful}
 use Rattle.station.proofs.Leading.{Leads, press_leads}
 use Rattle.station.proofs.Performing.{press_acts, tables_panels, tables_setting}
 use Rattle.station.proofs.Stepping.{press_stands}
-use Rattle.station.proofs.Steps.{acts_more, after_quiet, full_steps, kept_by_act}
+use Rattle.station.proofs.Steps.{acts_more, full_steps, kept_by_act}
 
 -- The first acts are done over a state, from what the store kept first, and the rest may be.
 pub record ActsDone (t : TablesData) (r : RollData) (u : State) (first now : StoreData) (done rest : List Act) (old new : Told) : Type 0 where
@@ -109,7 +109,7 @@ state_after_outputs t s (Says l ∷ out) = state_after_outputs t s out
 state_after_outputs t s (Commits u l ∷ out) = state_after_outputs t u out
 state_after_outputs t s (Reports title u ∷ out) =
     state_after-append s (quiet (title_text title ∷ count_lines t u.bags)) (session_steps t out)
-    ∙ ap (λ (x : State). state_after x (session_steps t out)) (after_quiet s (title_text title ∷ count_lines t u.bags)) ∙ state_after_outputs t s out
+    ∙ ap (λ (x : State). state_after x (session_steps t out)) (state_after-quiet s (title_text title ∷ count_lines t u.bags)) ∙ state_after_outputs t s out
 
 module _ (t : TablesData) (r : RollData) (told : Told) (x : StationData) (e : Event) (valid : IsEvent e) (is : IsStationed t r told x) where
   abbrev pressed : Pressed
@@ -148,3 +148,53 @@ module _ (t : TablesData) (r : RollData) (told : Told) (x : StationData) (e : Ev
         load = subst (λ (l : Load). IsLoadedWith t r l) (sym same) is.load;
         kept = kept;
       }
+
+-- What an event asked for, at the station that stands behind it in memory
+
+module _ (t : TablesData) (r : RollData) (told : Told) (from : StationData) (e : Event) (x : StationData) (acts : List Act) (is : IsAsked t r told from e x acts) where
+  abbrev asked : Pressed
+  asked = press (setting_of t r.titles) from.standing e
+
+  pub asked_loaded : IsLoadedWith t r x.store.load
+  asked_loaded = subst (λ (y : StoreData). IsLoadedWith t r y.load) (sym is.store) is.before.load
+
+  pub asked_kept : Keeps t told x.store from.standing.state
+  asked_kept = subst (λ (y : StoreData). Keeps t told y from.standing.state) (sym is.store) is.before.kept
+
+  pub asked_acts : AllByRecursion (IsAct t) acts
+  asked_acts = subst (AllByRecursion (IsAct t)) (sym is.asks) (event_acts t r told from e is.valid is.before)
+
+  pub asked_state : IsStateOf t x.store.load.section.voters x.standing.state
+  asked_state =
+      subst (λ (y : StoreData). IsStateOf t y.load.section.voters x.standing.state) (sym is.store)
+      (subst (λ (y : Standing). IsStateOf t from.store.load.section.voters y.state) (sym is.standing) (event_state t r told from e is.valid is.before))
+
+  pub asked_doable : AreDoable t told x.store x.standing.state acts
+  asked_doable =
+      subst (λ (l : List Act). AreDoable t told x.store x.standing.state l) (sym is.asks)
+      (subst (λ (y : StoreData). AreDoable t told y x.standing.state (map act_of asked.out)) (sym is.store)
+      (subst (λ (y : Standing). AreDoable t told from.store y.state (map act_of asked.out)) (sym is.standing) (event_doable t r told from e is.valid is.before)))
+
+  pub asked_steps : session_steps t (outputs_of x.standing.state acts) ≡ session_steps t asked.out
+  asked_steps =
+      ap (λ (y : Standing). session_steps t (outputs_of y.state acts)) is.standing ∙ ap (λ (l : List Act). session_steps t (outputs_of asked.standing.state l)) is.asks
+      ∙ event_steps t r told from e is.valid is.before
+
+  -- the acts were done
+  pub asked_stationed : (new : Told) (store : StoreData) → store.load ≡ x.store.load → Keeps t new store (state_after from.standing.state (session_steps t (outputs_of x.standing.state acts)))
+      → IsStationed t r new (record { standing = x.standing; digits = x.digits; store = store })
+  asked_stationed new store load kept =
+      let after = ap (state_after from.standing.state) asked_steps ∙ event_after t r told from e is.valid is.before in
+      subst (λ (y : Standing). IsStationed t r new (record { standing = y; digits = x.digits; store = store })) (sym is.standing)
+      (event_stationed t r told from e is.valid is.before new store x.digits (subst (λ (y : Standing). FitsLine (setting_of t r.titles) y x.digits) is.standing is.panel)
+      (load ∙ ap (λ (y : StoreData). y.load) is.store) (subst (Keeps t new store) after kept))
+
+-- Nothing was asked for.
+module _ (t : TablesData) (r : RollData) (told : Told) (from : StationData) (e : Event) (x : StationData) (is : IsAsked t r told from e x []) where
+  pub nothing_stationed : IsStationed t r told x
+  nothing_stationed = asked_stationed t r told from e x [] is told x.store refl (asked_kept t r told from e x [] is)
+
+  pub nothing_put : HasPut t from.store.load from.standing.state (session_steps t (press (setting_of t r.titles) from.standing e).out) told told
+  nothing_put =
+      subst (λ (l : List Step). HasPut t from.store.load from.standing.state l told told) (asked_steps t r told from e x [] is)
+      (put_nothing t from.store.load from.standing.state told (stored t r from.store.load from.standing.state is.before.load is.before.kept.encoding.state) is.before.kept.rest)

@@ -9,11 +9,7 @@ use Rattle.vote_kinds.specs.Ballot.{BallotLine, no_panel, line_for, line_of, bal
 use Rattle.vote_kinds.proofs.Lookups.{line_get}
 use Rattle.station.specs.Setting.{setting_of}
 use Rattle.station.specs.Output.{line_at, earlier_of, earlier_for}
-
-known : (panels : List Panel) (n : ℕ) → n < length panels → slice_get panels n ≡ Some (unwrap_or (slice_get panels n) no_panel)
-known [] n h = absurd (omega arith)
-known (p ∷ panels) zero h = refl
-known (p ∷ panels) (suc n) h = known panels n (omega arith)
+use Rattle.poll_report.proofs.LineLists.{known}
 
 missing : (panels : List Panel) (n : ℕ) → length panels ≤ n → slice_get panels n ≡ None
 missing [] n h = refl

@@ -33,14 +33,14 @@ record ReachedBy (v : Setting) (s : State) (x : Standing) (es : List Event) (out
   last : List Output
   events : es ≡ before ++ since
   texts : out ≡ first ++ last
-  goes_on : (more : List Event) (u : State) (put : List Output) → IsRun v mid more u put → IsRun v s (before ++ more) u (first ++ put)
+  continues : (more : List Event) (u : State) (put : List Output) → IsRun v mid more u put → IsRun v s (before ++ more) u (first ++ put)
   stands : StandsFor v mid x since last
 
 reach_goes : {v : Setting} {s mid : State} {y : Standing} {fs : List Event} {q : List Output} (before : List Event) (first : List Output)
     → ((more : List Event) (u : State) (put : List Output) → IsRun v mid more u put → IsRun v s (before ++ more) u (first ++ put))
     → Goes v mid y fs q → ReachedBy v s y (before ++ fs) (first ++ q)
 reach_goes {v} {s} {mid} before first on (stands {x} {es} {out} h) =
-    record { mid = mid; before = before; since = es; first = first; last = out; events = refl; texts = refl; goes_on = on; stands = h }
+    record { mid = mid; before = before; since = es; first = first; last = out; events = refl; texts = refl; continues = on; stands = h }
 reach_goes {v} {s} {mid} before first on (done t {es} {out} f) =
     record {
       mid = t;
@@ -50,7 +50,7 @@ reach_goes {v} {s} {mid} before first on (done t {es} {out} f) =
       last = [];
       events = sym (append-nil (before ++ es));
       texts = sym (append-nil (first ++ out));
-      goes_on = λ more u put run.
+      continues = λ more u put run.
           run_moved (sym (append_assoc before es more)) (sym (append_assoc first out put)) (on (es ++ more) u (out ++ put) (f more u put run));
       stands = idle;
     }
@@ -64,7 +64,7 @@ reach_more {v} {s} {x} {es} {out} valid h e =
     reach_moved
     (sym (append_assoc h.before h.since (e ∷ [])) ∙ ap (λ (f : List Event). f ++ e ∷ []) (sym h.events))
     (sym (append_assoc h.first h.last (press v x e).out) ∙ ap (λ (o : List Output). o ++ (press v x e).out) (sym h.texts))
-    (reach_goes h.before h.first h.goes_on (goes valid h.stands e))
+    (reach_goes h.before h.first h.continues (goes valid h.stands e))
 
 reach_all : (v : Setting) → IsSetting v → (s : State) (x : Standing) (es : List Event) (out : List Output) (more : List Event) → ReachedBy v s x es out
     → ReachedBy v s (after v x more) (es ++ more) (out ++ outputs v x more)
@@ -76,7 +76,7 @@ reach_all v valid s x es out (e ∷ more) h =
 -- the events from an idle station lead to where it stands after them
 reached : (v : Setting) (s : State) (es : List Event) → IsSetting v → IsReached v s es (outputs v (idle_at s) es) (after v (idle_at s) es)
 reached v s es valid =
-    let h = reach_all v valid s (idle_at s) [] [] es (record { mid = s; before = []; since = []; first = []; last = []; events = refl; texts = refl; goes_on = λ more u put run. run; stands = idle }) in
+    let h = reach_all v valid s (idle_at s) [] [] es (record { mid = s; before = []; since = []; first = []; last = []; events = refl; texts = refl; continues = λ more u put run. run; stands = idle }) in
     record {
       state = h.mid;
       before = h.before;
@@ -85,7 +85,7 @@ reached v s es valid =
       put_since = h.last;
       events = h.events;
       texts = h.texts;
-      run = run_moved (append-nil h.before) (append-nil h.first) (h.goes_on [] h.mid [] ends);
+      run = run_moved (append-nil h.before) (append-nil h.first) (h.continues [] h.mid [] ends);
       stands = h.stands;
     }
 

@@ -16,7 +16,7 @@ use Rattle.image_codec.specs.State.{State}
 use Rattle.station.specs.Setting.{Setting, reply_at}
 use Rattle.station.specs.Output.{refusal, line_at, earlier_for, echo, screen}
 use Rattle.station.specs.Run.{IsWaiting, IsVisiting}
-use Rattle.station.specs.Press.{Standing, press, after_key, goes_on, voting_at}
+use Rattle.station.specs.Press.{Standing, press, after_key, calls_next, voting_at}
 use Rattle.key_script.specs.declared.keys.Event.TheVariants.{Clerk, Voter}
 use Rattle.key_script.specs.declared.keys.ClerkKey.{ClerkKey}
 use Rattle.key_script.specs.declared.keys.ClerkKey.TheVariants as clerk
@@ -111,5 +111,5 @@ press_key v s place choices l w (key.Digit d) h at last = rw at (changes v s pla
 pub press_confirm : (v : Setting) (s : State) (place : ℕ) (choices : List Choice) (l : BallotLine) (w : List Key)
     → line_at v choices ≡ Some l → is_confirmable l (field_after l.digits w) ≡ true
     → press v (voting_at s place choices (field_after l.digits w)) (Voter key.Confirm)
-    ≡ goes_on v s place (choices ++ choice_of l (earlier_for v choices l) (field_after l.digits w) ∷ [])
+    ≡ calls_next v s place (choices ++ choice_of l (earlier_for v choices l) (field_after l.digits w) ∷ [])
 press_confirm v s place choices l w at t = rw (at, t) refl

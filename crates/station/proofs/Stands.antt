@@ -15,7 +15,7 @@ use Rattle.image_codec.specs.State.{State, with_ballot, opened_at, sealed_at}
 use Rattle.station.specs.Setting.{Setting, IsSetting, reply_at}
 use Rattle.station.specs.Output.{Output, Says, Commits, refusal, line_at, earlier_for, echo, call_of}
 use Rattle.station.specs.Run.{IsWaiting, IsVisiting, wait_outputs, line_outputs, Votes, start, voted, open_at, IsRun, ends, ignores, refuses, opens, seals, waits, cancels, visits, cut_off, whole, suspended, after_suspension, suspension}
-use Rattle.station.specs.Press.{Standing, Pressed, press, goes_on, call, idle_at, identified_at, voting_at, after, outputs, answered, title_of}
+use Rattle.station.specs.Press.{Standing, Pressed, press, calls_next, call, idle_at, identified_at, voting_at, after, outputs, answered, title_of}
 use Rattle.station.specs.Stands.{StandsFor, StandsOn, idle, identified, voting}
 use Rattle.station.proofs.Single.{polls, Polls, refused_waiting, refused_visiting, press_refused, press_key, press_confirm}
 use Rattle.key_script.specs.declared.keys.Event.{Event}
@@ -28,6 +28,7 @@ use Rattle.clerk_term.specs.declared.replies.Mode.TheVariants as mode
 use Rattle.clerk_term.specs.declared.replies.ClerkAnswer.{ClerkAnswer}
 use Rattle.clerk_term.specs.declared.replies.ClerkAnswer.TheVariants as answer
 use Rattle.station.specs.declared.line.Line.TheVariants as line
+use Rattle.key_script.proofs.EventLaws.{keys_of-append}
 
 -- After these events, which put this out, a station stands for s and the events, or it is idle and the events are a run that
 -- whatever follows continues.
@@ -54,11 +55,6 @@ goes_press v s x e r es out p h = subst (λ (q : Pressed). Goes v s q.standing e
 all_more : {A : Type 0} (P : A → Type 0) (xs : List A) (x : A) → AllByRecursion P xs → P x → AllByRecursion P (xs ++ x ∷ [])
 all_more P [] x h p = (p, tt)
 all_more P (y ∷ xs) x h p = (h.0, all_more P xs x h.1 p)
-
-keys_of-append : (es fs : List Event) → keys_of (es ++ fs) ≡ keys_of es ++ keys_of fs
-keys_of-append [] fs = refl
-keys_of-append (Clerk c ∷ es) fs = keys_of-append es fs
-keys_of-append (Voter k ∷ es) fs = ap (λ (ks : List Key). k ∷ ks) (keys_of-append es fs)
 
 wait_outputs-append : (v : Setting) (s : State) (place : ℕ) (es fs : List Event) → wait_outputs v s place (es ++ fs) ≡ wait_outputs v s place es ++ wait_outputs v s place fs
 wait_outputs-append v s place [] fs = refl
@@ -207,7 +203,7 @@ goes_identified v s number place before (Clerk clerk.Libera) h w =
     goes_press v s (identified_at s place) (Clerk clerk.Libera) (answered v (identified_at s place) clerk.Libera (answer.Releases place)) _ (Says (line.Voter number) ∷ wait_outputs v s place before)
     (ap (answered v (identified_at s place) clerk.Libera) released)
     (goes_moved refl refl
-    (ap (λ (o : List Output). Says (line.Voter number) ∷ o) (append_assoc (wait_outputs v s place before) (Says line.Released ∷ []) (goes_on v s place []).out))
+    (ap (λ (o : List Output). Says (line.Voter number) ∷ o) (append_assoc (wait_outputs v s place before) (Says line.Released ∷ []) (calls_next v s place []).out))
     (goes_called v s number place before [] [] [] (line_at v []) h w start refl))
 
 -- A voter votes

@@ -35,20 +35,16 @@ use Rattle.station.specs.Acts.{output_of, outputs_of}
 use Rattle.station.specs.Doing.{kept_after}
 use Rattle.station.specs.Output.{Output, Says, Commits, Reports}
 use Rattle.station.specs.Text.{line_text, output_steps, session_steps, title_text}
-use Rattle.station.specs.declared.act.Act.{Act}
-use Rattle.station.specs.declared.act.Act.TheVariants.{Say, Commit, Report}
-
--- lines that tell no state leave the state
-pub after_quiet : (s : State) (lines : List (List ℕ)) → state_after s (quiet lines) ≡ s
-after_quiet s [] = refl
-after_quiet s (line ∷ lines) = after_quiet s lines
+use Rattle.station.specs.declared.perform.Act.{Act}
+use Rattle.station.specs.declared.perform.Act.TheVariants.{Say, Commit, Report}
+use Rattle.state_store.proofs.Counting.{state_after-quiet}
 
 -- shown lines leave what a store keeps
 pub keeps_shown : (t : TablesData) (r : RollData) (store : StoreData) (s : State) (lines : List (List ℕ)) (a b : Told) → IsLoadedWith t r store.load → Keeps t a store s → HasShown lines a b
     → Keeps t b store (state_after s (quiet lines))
 keeps_shown t r store s lines a b loaded kept shown =
     let put = put_shown t store.load s lines a b (stored t r store.load s loaded kept.encoding.state) kept.rest shown in
-    let same = after_quiet s lines in
+    let same = state_after-quiet s lines in
     subst (λ (u : State). Keeps t b store u) (sym same) (record {
       encoding = kept.encoding;
       rest = subst (λ (u : State). ForSome b.flashes (AreAtRest store.load u)) same put.rest;
@@ -165,4 +161,4 @@ acts_rest t s acts i d h =
 pub kept_by_act : (t : TablesData) (s u : State) (act : Act) → state_after s (output_steps t (output_of u act)) ≡ kept_after s u act
 kept_by_act t s u (Say l) = refl
 kept_by_act t s u (Commit l) = refl
-kept_by_act t s u (Report title) = after_quiet s (title_text title ∷ count_lines t u.bags)
+kept_by_act t s u (Report title) = state_after-quiet s (title_text title ∷ count_lines t u.bags)

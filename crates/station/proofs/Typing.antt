@@ -15,7 +15,7 @@ use Rattle.image_codec.specs.State.{State, with_ballot, filled_up}
 use Rattle.station.specs.Setting.{Setting}
 use Rattle.station.specs.Output.{line_at, earlier_for, screen}
 use Rattle.station.specs.Run.{after_suspension}
-use Rattle.station.specs.Press.{typed, on_line, after_key, goes_on, voting_at}
+use Rattle.station.specs.Press.{typed, on_line, after_key, calls_next, voting_at}
 
 typed_is : (v : Setting) (s : State) (place : ℕ) (choices : List Choice) (f : Field) (k : Key) (l : BallotLine) (r : Shown)
     → line_at v choices ≡ Some l → earlier_for v choices l ≡ None → next_shown l None f k ≡ r
@@ -50,7 +50,7 @@ typed_screen v s place choices f k l at none shows =
 -- the key that ends the line goes on to the next
 pub typed_voted : (v : Setting) (s : State) (place : ℕ) (choices : List Choice) (f : Field) (k : Key) (l : BallotLine) (c : Choice)
     → line_at v choices ≡ Some l → earlier_for v choices l ≡ None → next_shown l None f k ≡ shown.Voted c
-    → typed v s (mode.Voting place) choices f k ≡ goes_on v s place (choices ++ c ∷ [])
+    → typed v s (mode.Voting place) choices f k ≡ calls_next v s place (choices ++ c ∷ [])
 typed_voted v s place choices f k l c at none shows = typed_is v s place choices f k l (shown.Voted c) at none shows
 
 -- a voter who is suspended after a choice came

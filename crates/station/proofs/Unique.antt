@@ -15,7 +15,7 @@ use Rattle.image_codec.specs.State.{State, with_ballot, opened_at, sealed_at}
 use Rattle.station.specs.Setting.{Setting, IsSetting, reply_at}
 use Rattle.station.specs.Output.{Output, Says, Commits, Reports, refusal, line_at, earlier_for, echo, call_of}
 use Rattle.station.specs.Run.{IsWaiting, IsVisiting, wait_outputs, line_outputs, Votes, start, voted, IsOpen, open_at, IsRun, ends, ignores, refuses, opens, seals, waits, cancels, visits, cut_off, Visit, whole, suspended, suspension}
-use Rattle.station.specs.Press.{Standing, Pressed, press, goes_on, call, idle_at, identified_at, voting_at, after, outputs, answered}
+use Rattle.station.specs.Press.{Standing, Pressed, press, calls_next, call, idle_at, identified_at, voting_at, after, outputs, answered}
 use Rattle.station.proofs.Single.{polls, Polls, refused_waiting, refused_visiting, press_refused, press_key, press_confirm}
 use Rattle.key_script.specs.declared.keys.Event.{Event}
 use Rattle.key_script.specs.declared.keys.Event.TheVariants.{Clerk, Voter}
@@ -76,23 +76,23 @@ ends_moved v r es fs t out put p q h = subst (λ (o : List Output). EndsAfter v 
 -- from the release on, through the first ballot lines
 ends_votes : {v : Setting} {s : State} {place : ℕ} {es : List Event} {choices : List Choice} {text : List Output}
     → IsSetting v → Polls s → Votes v s place es choices text → (more : List Event) (t : State) (out : List Output)
-    → EndsAfter v (goes_on v s place choices) more t out → EndsAfter v (goes_on v s place []) (es ++ more) t (text ++ out)
+    → EndsAfter v (calls_next v s place choices) more t out → EndsAfter v (calls_next v s place []) (es ++ more) t (text ++ out)
 ends_votes valid polling start more t out h = h
 ends_votes {v} {s} {place} valid polling (voted {es} {choices} {text} {c} l on votes at visit confirms) more t out h =
     let confirm : List Event = Voter key.Confirm ∷ [] in
     let earlier = earlier_for v choices l in
-    let chosen : EndsAfter v (goes_on v s place (choices ++ choice_of l earlier (field_after l.digits (keys_of on)) ∷ [])) more t out =
-    subst (λ (d : Choice). EndsAfter v (goes_on v s place (choices ++ d ∷ [])) more t out) confirms.chosen h in
+    let chosen : EndsAfter v (calls_next v s place (choices ++ choice_of l earlier (field_after l.digits (keys_of on)) ∷ [])) more t out =
+    subst (λ (d : Choice). EndsAfter v (calls_next v s place (choices ++ d ∷ [])) more t out) confirms.chosen h in
     let last : Ends v (voting_at s place choices (field_after l.digits (keys_of on))) (Voter key.Confirm ∷ more) t out =
     ends_press v (voting_at s place choices (field_after l.digits (keys_of on))) (Voter key.Confirm) _ more t out
     (press_confirm v s place choices l (keys_of on) at confirms.confirmable) chosen in
     let typed : Ends v (voting_at s place choices field.Empty) (on ++ Voter key.Confirm ∷ more) t (line_outputs v s place l [] on ++ out) =
     ends_line v s place choices l [] on (Voter key.Confirm ∷ more) t out polling (valid _ l at) at visit confirms.shortest last in
-    let called : EndsAfter v (goes_on v s place choices) (on ++ Voter key.Confirm ∷ more) t ((call_of choices l ∷ line_outputs v s place l [] on) ++ out) =
+    let called : EndsAfter v (calls_next v s place choices) (on ++ Voter key.Confirm ∷ more) t ((call_of choices l ∷ line_outputs v s place l [] on) ++ out) =
     subst (λ (o : Option BallotLine). EndsAfter v (call v s place choices o) (on ++ Voter key.Confirm ∷ more) t ((call_of choices l ∷ line_outputs v s place l [] on) ++ out)) (sym at)
     (typed.0, ap (λ (o : List Output). call_of choices l ∷ o) typed.1) in
     let before = ends_votes valid polling votes (on ++ Voter key.Confirm ∷ more) t ((call_of choices l ∷ line_outputs v s place l [] on) ++ out) called in
-    ends_moved v (goes_on v s place []) _ _ t _ _
+    ends_moved v (calls_next v s place []) _ _ t _ _
     (sym (append_assoc es (on ++ confirm) more ∙ ap (λ (e : List Event). es ++ e) (append_assoc on confirm more)))
     (sym (append_assoc text (call_of choices l ∷ line_outputs v s place l [] on) out))
     before
@@ -108,7 +108,7 @@ ends_visit v s t number place before on text e w h =
     (ap (answered v (idle_at s) (clerk.Titulo number)) e) (more.0, ap (λ (o : List Output). Says (line.Voter number) ∷ o) more.1)
 
 ends_release : (v : Setting) (s t : State) (place : ℕ) (on : List Event) (text : List Output)
-    → Polls s → EndsAfter v (goes_on v s place []) on t text
+    → Polls s → EndsAfter v (calls_next v s place []) on t text
     → Ends v (identified_at s place) (Clerk clerk.Libera ∷ on) t (Says line.Released ∷ text)
 ends_release v s t place on text polling h =
     let released : reply_at v s (mode.Identified place) clerk.Libera ≡ answer.Releases place = rw polling.1 refl in
@@ -118,31 +118,31 @@ ends_release v s t place on text polling h =
 -- from the release on, through some ballot lines and into the next one
 ends_open : {v : Setting} {s : State} {place : ℕ} {es : List Event} {choices : List Choice} {text : List Output}
     → IsSetting v → Polls s → IsOpen v s place es choices text → (more : List Event) (t : State) (out : List Output)
-    → ((f : Field) → Ends v (voting_at s place choices f) more t out) → EndsAfter v (goes_on v s place []) (es ++ more) t (text ++ out)
+    → ((f : Field) → Ends v (voting_at s place choices f) more t out) → EndsAfter v (calls_next v s place []) (es ++ more) t (text ++ out)
 ends_open {v} {s} {place} valid polling (open_at {es} {choices} {text} l on votes at visit unconfirmed) more t out h =
     let typed : Ends v (voting_at s place choices field.Empty) (on ++ more) t (line_outputs v s place l [] on ++ out) =
     ends_line v s place choices l [] on more t out polling (valid _ l at) at visit unconfirmed (h _) in
-    let called : EndsAfter v (goes_on v s place choices) (on ++ more) t ((call_of choices l ∷ line_outputs v s place l [] on) ++ out) =
+    let called : EndsAfter v (calls_next v s place choices) (on ++ more) t ((call_of choices l ∷ line_outputs v s place l [] on) ++ out) =
     subst (λ (o : Option BallotLine). EndsAfter v (call v s place choices o) (on ++ more) t ((call_of choices l ∷ line_outputs v s place l [] on) ++ out)) (sym at)
     (typed.0, ap (λ (o : List Output). call_of choices l ∷ o) typed.1) in
     let before = ends_votes valid polling votes (on ++ more) t ((call_of choices l ∷ line_outputs v s place l [] on) ++ out) called in
-    ends_moved v (goes_on v s place []) _ _ t _ _ (sym (append_assoc es on more))
+    ends_moved v (calls_next v s place []) _ _ t _ _ (sym (append_assoc es on more))
     (sym (append_assoc text (call_of choices l ∷ line_outputs v s place l [] on) out)) before
 
 -- a whole or suspended visit, and what follows from the state that it leaves
 ends_visited : {v : Setting} {s u : State} {place : ℕ} {visit : List Event} {text : List Output}
     → IsSetting v → Polls s → Visit v s place visit u text → (es : List Event) (t : State) (out : List Output)
-    → Ends v (idle_at u) es t out → EndsAfter v (goes_on v s place []) (visit ++ es) t (text ++ out)
+    → Ends v (idle_at u) es t out → EndsAfter v (calls_next v s place []) (visit ++ es) t (text ++ out)
 ends_visited {v} {s} {place} valid polling (whole {es = visit} {choices} {text} votes at) es t out h =
     let told = Commits (with_ballot v.lines s place choices) line.Ended in
-    let ended : EndsAfter v (goes_on v s place choices) es t (told ∷ out) =
+    let ended : EndsAfter v (calls_next v s place choices) es t (told ∷ out) =
     subst (λ (o : Option BallotLine). EndsAfter v (call v s place choices o) es t (told ∷ out)) (sym at)
     (h.0, ap (λ (o : List Output). told ∷ o) h.1) in
-    ends_moved v (goes_on v s place []) _ _ t _ _ refl (sym (append_assoc text (told ∷ []) out)) (ends_votes valid polling votes es t (told ∷ out) ended)
+    ends_moved v (calls_next v s place []) _ _ t _ _ refl (sym (append_assoc text (told ∷ []) out)) (ends_votes valid polling votes es t (told ∷ out) ended)
 ends_visited {v} {s} {place} valid polling (suspended {es = visit} {choices} {text} on) es t out h =
     let told = suspension v s place choices in
     let suspends : reply_at v s (mode.Voting place) clerk.Suspende ≡ answer.Suspends place = rw polling.1 refl in
-    ends_moved v (goes_on v s place []) _ _ t _ _ (sym (append_assoc visit (Clerk clerk.Suspende ∷ []) es)) (sym (append_assoc text (told ∷ []) out))
+    ends_moved v (calls_next v s place []) _ _ t _ _ (sym (append_assoc visit (Clerk clerk.Suspende ∷ []) es)) (sym (append_assoc text (told ∷ []) out))
     (ends_open valid polling on (Clerk clerk.Suspende ∷ es) t (told ∷ out)
     (λ f. ends_press v (voting_at s place choices f) (Clerk clerk.Suspende) _ es t _ (ap (answered v (voting_at s place choices f) clerk.Suspende) suspends)
     (h.0, ap (λ (o : List Output). told ∷ o) h.1)))
@@ -179,4 +179,4 @@ run_by_events {v} {s} valid (cut_off {number} {place} {visit} {choices} {text} b
     let polling = polls v s s.phase number place e in
     let front = ends_open valid polling on [] s [] (λ f. (refl, refl)) in
     ends_visit v s s number place before _ _ e w (ends_release v s s place _ _ polling
-    (ends_moved v (goes_on v s place []) _ _ s _ _ (append-nil visit) (append-nil text) front))
+    (ends_moved v (calls_next v s place []) _ _ s _ _ (append-nil visit) (append-nil text) front))

@@ -4,8 +4,8 @@ use Rattle.election_tables.specs.TablesData.{TablesData}
 use Rattle.image_codec.specs.State.{State}
 use Rattle.station.specs.Output.{Output, Says, Commits, Reports}
 use Rattle.station.specs.Text.{IsLine}
-use Rattle.station.specs.declared.act.Act.{Act}
-use Rattle.station.specs.declared.act.Act.TheVariants.{Say, Commit, Report}
+use Rattle.station.specs.declared.perform.Act.{Act}
+use Rattle.station.specs.declared.perform.Act.TheVariants.{Say, Commit, Report}
 
 -- the output of an act, where it is done over this state
 abbrev pub output_of : State → Act → Output

@@ -4,8 +4,8 @@ use Rattle.urna_outside.specs.Told.{Told}
 use Rattle.election_tables.specs.TablesData.{TablesData}
 use Rattle.image_codec.specs.State.{State, rank_of}
 use Rattle.state_store.specs.Store.{Keeps, StoreData}
-use Rattle.station.specs.declared.act.Act.{Act}
-use Rattle.station.specs.declared.act.Act.TheVariants.{Say, Commit, Report}
+use Rattle.station.specs.declared.perform.Act.{Act}
+use Rattle.station.specs.declared.perform.Act.TheVariants.{Say, Commit, Report}
 
 -- a commit needs that the kept state is of lesser rank
 abbrev pub MayDo : State → State → Act → Type 0

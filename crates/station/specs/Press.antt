@@ -51,14 +51,14 @@ call v s place choices (Some l) = record { standing = voting_at s place choices 
 call v s place choices None =
     record { standing = idle_at (with_ballot v.lines s place choices); out = Commits (with_ballot v.lines s place choices) line.Ended ∷ [] }
 
-abbrev pub goes_on : Setting → State → ℕ → List Choice → Pressed
-goes_on v s place choices = call v s place choices (line_at v choices)
+abbrev pub calls_next : Setting → State → ℕ → List Choice → Pressed
+calls_next v s place choices = call v s place choices (line_at v choices)
 
 abbrev pub after_key : Setting → State → ℕ → List Choice → Field → BallotLine → Key → Shown → Pressed
 after_key v s place choices f l k shown.Nothing = record { standing = voting_at s place choices f; out = [] }
 after_key v s place choices f l k shown.Screen =
     record { standing = voting_at s place choices (next_field l.digits f k); out = screen l (next_field l.digits f k) ∷ [] }
-after_key v s place choices f l k (shown.Voted c) = goes_on v s place (choices ++ c ∷ [])
+after_key v s place choices f l k (shown.Voted c) = calls_next v s place (choices ++ c ∷ [])
 
 abbrev pub on_line : Setting → State → ℕ → List Choice → Field → Key → Option BallotLine → Pressed
 on_line v s place choices f k None = record { standing = voting_at s place choices f; out = [] }
@@ -90,7 +90,7 @@ answered v x c (answer.Opens m) =
     }
 answered v x c (answer.Identifies place) = record { standing = identified_at x.state place; out = Says (line.Voter (title_of c)) ∷ [] }
 answered v x c (answer.Releases place) =
-    record { standing = (goes_on v x.state place []).standing; out = Says line.Released ∷ (goes_on v x.state place []).out }
+    record { standing = (calls_next v x.state place []).standing; out = Says line.Released ∷ (calls_next v x.state place []).out }
 answered v x c (answer.Cancels place) = record { standing = idle_at x.state; out = Says line.Canceled ∷ [] }
 answered v x c (answer.Suspends place) =
     record { standing = idle_at (after_suspension v x.state place x.choices); out = suspension v x.state place x.choices ∷ [] }

@@ -28,7 +28,7 @@ pub fn one_run()
 {}
 
 /// What some events put out is the front of what any longer list puts out.
-pub fn run_goes_on()
+pub fn run_grows()
     ensures { (t : TablesData) (titles : List ℕ) (s last other : State) (es more : List Event) (out put : List Output) → IsTables t
         → IsRun (setting_of t titles) s es last out → IsRun (setting_of t titles) s (es ++ more) other put
         → (rest : List Output) × (put ≡ out ++ rest) }

@@ -9,7 +9,6 @@
 //! that keeps the state on both flashes (`perform`).
 #![tactic(auto)]
 
-mod act;
 pub mod laws;
 mod line;
 mod panel;
@@ -19,6 +18,6 @@ mod station;
 mod visit;
 
 pub use laws::{
-    event_commits, fims_and_ballots, last_screens, one_run, run_commits, run_goes_on, stands_for,
+    event_commits, fims_and_ballots, last_screens, one_run, run_commits, run_grows, stands_for,
 };
 pub use station::{StartError, Station};

@@ -11,13 +11,29 @@ ghost use Rattle.station.specs.Acts.{IsAct, output_of, outputs_of};
 ghost use Rattle.station.specs.Doing.{AreDoable};
 ghost use Rattle.station.specs.Text.{IsLine, line_text, output_steps, session_steps};
 
-use crate::act::Act;
-use crate::line::Line;
+use crate::line::{Line, Title};
 use crate::session::Session;
 use election_tables::{Roll, Tables};
 use poll_report::show_counts;
 use state_store::Store;
 use urna_outside::{Dev, Machine, Port, show_line};
+
+/// What a station asks to be done.
+#[derive(Clone, Copy, Debug, PartialEq, Eq)]
+pub(crate) enum Act {
+    /// Show a line.
+    Say(Line),
+    /// Commit the state, and then show the line that tells it.
+    Commit(Line),
+    /// Show the counts of the record.
+    Report(Title),
+}
+
+impl Default for Act {
+    fn default() -> Self {
+        Act::Say(Line::Released)
+    }
+}
 
 /// Does the acts in order, over the state as it is now. The caller owes that the store keeps a state from which they may be done.
 pub(crate) fn perform_all<M: Machine>(

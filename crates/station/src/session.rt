@@ -7,13 +7,13 @@ ghost use Rattle.image_codec.specs.State.{AreFirst, MayVote};
 ghost use Rattle.station.specs.Session.{FitsLine};
 ghost use Rattle.station.specs.Setting.{Setting, reply_at, setting_of};
 ghost use Rattle.station.specs.Run.{after_suspension, suspension};
-ghost use Rattle.station.specs.Press.{answered, goes_on, idle_at, press, title_of, typed};
+ghost use Rattle.station.specs.Press.{answered, calls_next, idle_at, press, title_of, typed};
 ghost use Rattle.station.specs.Acts.{act_of};
 ghost use Rattle.station.specs.Valid.{IsAnswer, IsStanding};
 
-use crate::act::Act;
 use crate::line::{Line, Title};
 use crate::panel::OpenPanel;
+use crate::perform::Act;
 use crate::visit::{Choices, fill_up, panel_of_line};
 use arrayvec::ArrayVec;
 use clerk_term::{ClerkAnswer, Mode, reply};
@@ -153,7 +153,7 @@ impl Session {
             })),
             Shown::Voted(choice) => {
                 self.choices.push(choice);
-                one(self.goes_on(tables, roll, place))
+                one(self.calls_next(tables, roll, place))
             }
         }
     }
@@ -172,31 +172,31 @@ impl Session {
             ClerkAnswer::Refused(number) => one(Act::Say(Line::Refused(number))),
             ClerkAnswer::Opens(moment) => {
                 self.state.begin(moment);
-                self.rests();
+                self.clear();
                 two(
                     Act::Report(Title::Zeresima),
                     Act::Commit(Line::Opened(moment)),
                 )
             }
             ClerkAnswer::Identifies(place) => {
-                self.rests();
+                self.clear();
                 self.mode = Mode::Identified(place);
                 one(Act::Say(Line::Voter(title_of(key))))
             }
             ClerkAnswer::Releases(place) => {
                 self.choices.clear();
-                let next = self.goes_on(tables, roll, place);
+                let next = self.calls_next(tables, roll, place);
                 two(Act::Say(Line::Released), next)
             }
             ClerkAnswer::Cancels(_) => {
-                self.rests();
+                self.clear();
                 one(Act::Say(Line::Canceled))
             }
             ClerkAnswer::Suspends(place) => one(self.suspends(tables, roll, place)),
             ClerkAnswer::Seals(moment) => {
                 let came = self.state.turnout().len();
                 self.state.seal(moment);
-                self.rests();
+                self.clear();
                 two(
                     Act::Commit(Line::Sealed {
                         closed: moment,
@@ -209,14 +209,14 @@ impl Session {
     }
 
     /// Calls the next line of the ballot, or ends the visit.
-    fn goes_on(&mut self, tables: &Tables, roll: &Roll, place: u32) -> Act
+    fn calls_next(&mut self, tables: &Tables, roll: &Roll, place: u32) -> Act
         requires voter { MayVote self.old.standing.state place }
         requires choices { AreFirst (ballot_lines tables.now) self.old.standing.choices }
         requires roll { length self.old.standing.state.came ≡ length roll.now.titles }
         requires places { self.old.standing.state.places ≡ places_of tables.now }
-        ensures standing { self.new.standing ≡ (goes_on (setting_of tables.now roll.now.titles) self.old.standing.state place self.old.standing.choices).standing }
+        ensures standing { self.new.standing ≡ (calls_next (setting_of tables.now roll.now.titles) self.old.standing.state place self.old.standing.choices).standing }
         ensures panel { FitsLine (setting_of tables.now roll.now.titles) self.new.standing self.new.digits }
-        ensures act { result ∷ [] ≡ map act_of (goes_on (setting_of tables.now roll.now.titles) self.old.standing.state place self.old.standing.choices).out }
+        ensures act { result ∷ [] ≡ map act_of (calls_next (setting_of tables.now roll.now.titles) self.old.standing.state place self.old.standing.choices).out }
     {
         match panel_of_line(tables, self.choices.len()) {
             Some(panel) => {
@@ -229,7 +229,7 @@ impl Session {
             }
             None => {
                 self.state.ballot(tables, place, &self.choices);
-                self.rests();
+                self.clear();
                 Act::Commit(Line::Ended)
             }
         }
@@ -246,17 +246,17 @@ impl Session {
         ensures act { result ≡ act_of (suspension (setting_of tables.now roll.now.titles) self.old.standing.state place self.old.standing.choices) }
     {
         if self.choices.is_empty() {
-            self.rests();
+            self.clear();
             return Act::Say(Line::Suspended);
         }
         fill_up(&mut self.choices, tables.panels() as usize);
         self.state.ballot(tables, place, &self.choices);
-        self.rests();
+        self.clear();
         Act::Commit(Line::Ended)
     }
 
     /// Nobody is at the station. The panel is an empty one; no key reaches it.
-    fn rests(&mut self)
+    fn clear(&mut self)
         ensures standing { self.new.standing ≡ idle_at self.old.standing.state }
         ensures panel { (v : Setting) → FitsLine v self.new.standing self.new.digits }
     {

@@ -1,5 +1,5 @@
 ghost use Rattle.std.specs.Prelude.{◌≡◌, ◌++◌, ◌∷◌, ◌↔◌, [], List, IfErr, IfOk, IsTrue};
-ghost use Rattle.urna_outside.specs.Told.{port_of};
+ghost use Rattle.urna_outside.specs.Told.{Told, port_of};
 ghost use Rattle.urna_outside.specs.declared.device.Dev.{Dev};
 ghost use Rattle.urna_outside.specs.declared.device.Port.{Port};
 ghost use Rattle.election_tables.specs.TablesData.{IsTables};
@@ -11,15 +11,17 @@ ghost use Rattle.state_store.specs.Store.{AreDevices};
 ghost use Rattle.station.specs.Output.{Output};
 ghost use Rattle.station.specs.Press.{press};
 ghost use Rattle.station.specs.Run.{IsRun};
+ghost use Rattle.station.specs.Session.{FitsLine};
 ghost use Rattle.station.specs.Setting.{setting_of};
 ghost use Rattle.station.specs.Stands.{IsReached, StandsFor, StandsOn};
 ghost use Rattle.station.specs.Start.{FailsToStart, IsStarted, start_error};
-ghost use Rattle.station.specs.Station.{IsStationed};
+ghost use Rattle.station.specs.Station.{IsAsked, IsStationed, StationData};
 ghost use Rattle.station.specs.Text.{session_steps};
+ghost use Rattle.station.specs.Valid.{IsStanding};
 
 use crate::line::Line;
-use crate::perform::{perform_all, port_of};
-use crate::session::Session;
+use crate::perform::{Act, perform_all, port_of};
+use crate::session::{Acts, Session};
 use clerk_term::Mode;
 use election_tables::{Roll, Section, Tables};
 use image_codec::State;
@@ -150,12 +152,52 @@ impl Station {
     {
         let mut station = self;
         for event in script.events() {
-            station = match station.do_event(tables, roll, m, event) {
+            let acts = station.take_event(tables, roll, event);
+            // most keys ask for nothing, and the station isn't moved for them
+            if acts.is_empty() {
+                continue;
+            }
+            station = match station.perform(tables, roll, m, &acts) {
                 Ok(station) => station,
                 Err(port) => return Err(port),
             };
         }
         Ok(station)
+    }
+
+    /// One event in memory, and what it asks to be done.
+    fn take_event(&mut self, tables: &Tables, roll: &Roll, event: Event) -> Acts
+        requires event { IsEvent event }
+        requires stands { IsStanding (setting_of tables.now roll.now.titles) self.old.standing }
+        requires panel { FitsLine (setting_of tables.now roll.now.titles) self.old.standing self.old.digits }
+        ensures asked { (told : Told) → IsStationed tables.now roll.now told self.old → IsAsked tables.now roll.now told self.old event self.new result.items }
+        ensures tables { IsTables tables.now }
+    {
+        self.session.take_event(tables, roll, event)
+    }
+
+    /// Does what an event asked for.
+    fn perform<M: Machine>(
+        self,
+        tables: &Tables,
+        roll: &Roll,
+        m: &mut M,
+        acts: &[Act],
+    ) -> Result<Station, Port>
+        requires devices { AreDevices (M.told m.old).sizes }
+        requires asked { (from : StationData) × (event : Event) × IsAsked tables.now roll.now (M.told m.old) from event self acts.now }
+        ensures standing { IfOk result (λ next. next.standing ≡ self.standing) }
+        ensures load { IfOk result (λ next. next.store.load ≡ self.store.load) }
+        ensures stationed { IfOk result (IsStationed tables.now roll.now (M.told m.new)) }
+        ensures puts { (from : StationData) (event : Event) → IsAsked tables.now roll.now (M.told m.old) from event self acts.now
+            → Puts (λ port. port) result tables.now from.store.load from.standing.state
+            (session_steps tables.now (press (setting_of tables.now roll.now.titles) from.standing event).out) (M.told m.old) (M.told m.new) }
+    {
+        let Station { session, store } = self;
+        match perform_all(&session, store, tables, roll, m, acts) {
+            Ok(store) => Ok(Station { session, store }),
+            Err(port) => Err(port),
+        }
     }
 
     /// One event, done.
@@ -176,12 +218,9 @@ impl Station {
         ensures puts { Puts (λ port. port) result tables.now self.store.load self.standing.state
             (session_steps tables.now (press (setting_of tables.now roll.now.titles) self.standing event).out) (M.told m.old) (M.told m.new) }
     {
-        let Station { mut session, store } = self;
-        let acts = session.take_event(tables, roll, event);
-        match perform_all(&session, store, tables, roll, m, &acts) {
-            Ok(store) => Ok(Station { session, store }),
-            Err(port) => Err(port),
-        }
+        let mut station = self;
+        let acts = station.take_event(tables, roll, event);
+        station.perform(tables, roll, m, &acts)
     }
 
     /// Whether nobody is identified or voting.

@@ -11,7 +11,7 @@ use Rattle.state_store.proofs.Stored.{stored}
 use Rattle.poll_report.specs.Counts.{count_lines}
 use Rattle.station.specs.Acts.{output_of}
 use Rattle.station.specs.Text.{line_text, output_steps, title_text}
-use Rattle.station.specs.declared.act.Act.{Act}
+use Rattle.station.specs.declared.perform.Act.{Act}
 use Rattle.station.proofs.Steps.{keeps_shown}
 use Rattle.station.proofs.perform.perform.Goals as goal
 

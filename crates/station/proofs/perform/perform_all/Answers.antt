@@ -8,8 +8,8 @@ use Rattle.state_store.specs.declared.load.Load.{Load}
 use Rattle.state_store.proofs.Playing.{stopped_within}
 use Rattle.station.specs.Acts.{output_of, outputs_of}
 use Rattle.station.specs.Text.{output_steps, session_steps}
-use Rattle.station.specs.declared.act.Act.{Act}
-use Rattle.station.specs.declared.act.Act.TheVariants.{Say}
+use Rattle.station.specs.declared.perform.Act.{Act}
+use Rattle.station.specs.declared.perform.Act.TheVariants.{Say}
 use Rattle.station.specs.declared.line.Line.TheVariants as line
 use Rattle.station.proofs.Doing.{acts_begin, acts_go_on}
 use Rattle.station.proofs.Steps.{acts_rest, full_steps}

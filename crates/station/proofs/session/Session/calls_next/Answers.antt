@@ -4,7 +4,7 @@ use Rattle.vote_kinds.specs.Ballot.{ballot_lines, line_of}
 use Rattle.image_codec.specs.State.{IsBallot}
 use Rattle.station.specs.Session.{SessionData}
 use Rattle.station.proofs.Choosing.{first_all}
-use Rattle.station.proofs.session.Session.goes_on.Goals as goal
+use Rattle.station.proofs.session.Session.calls_next.Goals as goal
 
 pub ballot-requires-clause-ballot : goal.ballot-requires-clause-ballot
 ballot-requires-clause-ballot c =

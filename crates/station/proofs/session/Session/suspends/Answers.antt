@@ -33,7 +33,7 @@ returns-clause-standing c =
     c.fill_up.ensures ∙ (ap (λ (cs : List Choice). cs ++ replicate (c.panels.result - length cs) Null) held
     ∙ ap (λ (n : ℕ). x.choices ++ replicate (n - length x.choices) Null) (c.panels.ensures.count ∙ sym (lines_length t))) in
     let some : nat_eq (length x.choices) 0 ≡ false = ap (λ (cs : List Choice). nat_eq (length cs) 0) (sym held) ∙ sym c.if-is_empty.ensures in
-    c.rests-2.ensures.standing ∙ ap idle_at (c.ballot.ensures
+    c.clear-2.ensures.standing ∙ ap idle_at (c.ballot.ensures
     ∙ (ap (with_ballot lines c.self.inside.state place) (c.deref.ensures.0 ∙ filled)
     ∙ (ap (λ (y : SessionData). with_ballot lines y.standing.state place (filled_up lines x.choices)) c.self.view_is
     ∙ sym (came_suspended v x.state place x.choices some))))

@@ -9,7 +9,7 @@ use Rattle.image_codec.specs.State.{AreFirst, State}
 use Rattle.station.specs.Setting.{setting_of}
 use Rattle.station.specs.Output.{line_at, screen}
 use Rattle.station.specs.Acts.{act_of}
-use Rattle.station.specs.Press.{Pressed, Standing, typed, goes_on}
+use Rattle.station.specs.Press.{Pressed, Standing, typed, calls_next}
 use Rattle.station.specs.Session.{SessionData}
 use Rattle.station.specs.Terminal.{digits_in, field_in}
 use Rattle.station.specs.Valid.{IsPlaced}
@@ -21,8 +21,8 @@ use Rattle.station.proofs.session.Session.typed.Goals as goal
 abbrev stood : State → Mode → List Choice → Field → Standing
 stood s m choices f = record { state = s; mode = m; choices = choices; field = f }
 
-pub goes_on-requires-clause-choices : goal.goes_on-requires-clause-choices
-goes_on-requires-clause-choices c =
+pub calls_next-requires-clause-choices : goal.calls_next-requires-clause-choices
+calls_next-requires-clause-choices c =
     let t = c.args.tables.now in
     let v = setting_of t c.args.roll.now.titles in
     let x = c.args.self.now.standing in
@@ -67,8 +67,8 @@ returns-in-Voted-clause-standing c =
     ap (slice_get (ballot_lines t)) (sym c.len.ensures.value) ∙ (sym c.panel_of_line.ensures.line ∙ ap (option_map (line_of t)) c.in-Some.is) in
     let is = typed_voted v inside.state c.in-Voting.place inside.choices.items (field_in inside.panel) c.args.key l c.in-Voted.choice at (no_earlier t c.args.roll.now.titles inside.choices.items l at)
     (sym c.key.ensures.tells ∙ c.in-Voted.is) in
-    c.goes_on.ensures.standing
-    ∙ (ap (λ (cs : List Choice). (goes_on v inside.state c.in-Voting.place cs).standing) c.push.ensures.items
+    c.calls_next.ensures.standing
+    ∙ (ap (λ (cs : List Choice). (calls_next v inside.state c.in-Voting.place cs).standing) c.push.ensures.items
     ∙ (sym (ap (λ (p : Pressed). p.standing) is)
     ∙ (ap (λ (m : Mode). (typed v inside.state m inside.choices.items (field_in inside.panel) c.args.key).standing) (sym c.in-Voting.is)
     ∙ ap (λ (y : SessionData). (typed v y.standing.state y.standing.mode y.standing.choices y.standing.field c.args.key).standing) c.self.view_is)))
@@ -83,8 +83,8 @@ returns-in-Voted-clause-acts c =
     ap (slice_get (ballot_lines t)) (sym c.len.ensures.value) ∙ (sym c.panel_of_line.ensures.line ∙ ap (option_map (line_of t)) c.in-Some.is) in
     let is = typed_voted v inside.state c.in-Voting.place inside.choices.items (field_in inside.panel) c.args.key l c.in-Voted.choice at (no_earlier t c.args.roll.now.titles inside.choices.items l at)
     (sym c.key.ensures.tells ∙ c.in-Voted.is) in
-    c.one-in-Voted.ensures ∙ (c.goes_on.ensures.act
-    ∙ (ap (λ (cs : List Choice). map act_of (goes_on v inside.state c.in-Voting.place cs).out) c.push.ensures.items
+    c.one-in-Voted.ensures ∙ (c.calls_next.ensures.act
+    ∙ (ap (λ (cs : List Choice). map act_of (calls_next v inside.state c.in-Voting.place cs).out) c.push.ensures.items
     ∙ (sym (ap (λ (p : Pressed). map act_of p.out) is)
     ∙ (ap (λ (m : Mode). map act_of (typed v inside.state m inside.choices.items (field_in inside.panel) c.args.key).out) (sym c.in-Voting.is)
     ∙ ap (λ (y : SessionData). map act_of (typed v y.standing.state y.standing.mode y.standing.choices y.standing.field c.args.key).out) c.self.view_is))))
