@@ -135,6 +135,21 @@ def names_in(definition):
     return set(CITED.findall(text)) - {definition.name}
 
 
+def statement(definition):
+    """What a lemma states, with its variables numbered; None where the definition is no lemma about variables."""
+    text = " ".join(code.strip() for _, code in definition.text)
+    name = rf"(?<![\w'.-]){re.escape(definition.name)}(?![\w'-])"
+    _, _, said = re.split(rf"({name})", text, maxsplit=1)
+    said = re.split(name, said.strip().removeprefix(":"))[0].strip()
+    variables = {it for names in re.findall(r"[({]([\w' -]+) :", said) for it in names.split()}
+    if not variables or said.endswith("Type 0"):
+        return None
+    numbers = {}
+    return " ".join(
+        f"#{numbers.setdefault(it, len(numbers))}" if it in variables else it for it in re.findall(rf"{NAME}|[^\sA-Za-z_]", said)
+    )
+
+
 @functools.cache
 def defining(crate, kept):
     """The paths of a crate's files of definitions or of proofs by the names of their modules."""
