@@ -1,11 +1,9 @@
 -- What a document that keeps rules 4 to 14 has, and that its entries fit the types of the tables.
-use Rattle.std.proofs.Common.{◌≡◌, ℕ, ℤ, pos, negsuc, ◌-◌, ◌^◌, ◌<◌, ◌≤◌, ◌==◌, Bool, true, false, ◌&&◌, ◌||◌, List, [], ◌∷◌, length, map, nat_le, nat_lt, Option, Some, None, is_some, refl, arith}
-use Rattle.std.specs.Prelude.{if◌then◌else◌}
+use Rattle.std.proofs.Common.{◌≡◌, ℕ, ℤ, pos, negsuc, ◌-◌, ◌^◌, ◌<◌, ◌≤◌, ◌==◌, Bool, true, false, ◌&&◌, List, [], ◌∷◌, length, map, nat_le, nat_lt, Option, Some, None, is_some, option_map, refl, subst, arith}
 use Rattle.std.specs.List.{All, list_all, list_any}
 use Rattle.std.specs.Option.{option_map_or}
 use Rattle.std.specs.Ordering.{int_eq}
-use Rattle.std.proofs.lemmas.Bool.{and_parts, and_from, leb-true, ltb-true, le-leb, false≢true}
-use Rattle.std.proofs.lemmas.Bool.Decides.{nat_tests}
+use Rattle.std.proofs.lemmas.Bool.{and_parts, and_from, eqb-true, leb-true, ltb-true, le-leb, false≢true}
 use Rattle.std.proofs.lemmas.List.Elements.{All-nil, All-cons}
 use Rattle.std.proofs.Math.Nat.{pow-le-pow_right}
 use Rattle.urna_base.proofs.MomentLaws.{is_date-below}
@@ -13,9 +11,11 @@ use Rattle.election_tables.specs.declared.office.Kind.{Kind}
 use Rattle.election_tables.specs.DocumentData.{DocumentData}
 use Rattle.election_tables.specs.Fields.{natural, is_within, is_valid_date, is_name, has_digits}
 use Rattle.election_tables.specs.Fitting.{office_fits, party_fits, candidate_fits}
-use Rattle.election_tables.specs.Offices.{code_digits, code_proportional, most_seats}
+use Rattle.election_tables.specs.declared.office.OfficeRow.{OfficeRow}
+use Rattle.election_tables.specs.Offices.{code_digits, greatest_code, most_seats, office_rows, row_of}
 use Rattle.election_tables.specs.Rules.{first_broken, typed_rules, digits_of, kind_fits, seats_in_range, section_in_range, counts_in_range, head_in_range, names_in_range, has_office, are_distinct, rule_4, rule_5, rule_6, rule_7, rule_8, rule_9, rule_10, rule_11, rule_12, rule_13, rule_14}
 use Rattle.election_tables.proofs.Breaks.{all_hold}
+use Rattle.election_tables.proofs.Rising.{find_all, find_passes}
 
 pub record Kept (d : DocumentData) : Type 0 where
   pub ranges : rule_4 d ≡ true
@@ -66,23 +66,38 @@ all_from_two p q r gives (x ∷ xs) e f =
 
 -- ---- codes and digits
 
-pub code_in_range : (n : ℕ) → is_some (code_digits n) ≡ true → is_within 1 13 (pos n) ≡ true
-code_in_range n e = grind (arith, nat_tests)
+-- the code, the digits and the seats of a row are in their ranges
+abbrev row_in_range : OfficeRow → Bool
+row_in_range row = is_within 1 greatest_code (pos row.code) && ((nat_le 2 row.digits && nat_le row.digits 5) && nat_le row.most_seats 200)
 
-abbrev few_digits : ℕ → Type 0
-few_digits digits = (2 ≤ digits) × (digits ≤ 5)
+found_row : (n : ℕ) (row : OfficeRow) → row_of n ≡ Some row → (n ≡ row.code) × (row_in_range row ≡ true)
+unfolding row_of
+found_row n row e = (
+  eqb-true n row.code (find_passes (λ r. n == r.code) office_rows row e),
+  find_all (λ r. row_in_range r ≡ true) (λ r. n == r.code) office_rows row (all_true row_in_range office_rows refl) e,
+)
 
-if_few : (b : Bool) (x : ℕ) (o : Option ℕ) (digits : ℕ) → few_digits x → (o ≡ Some digits → few_digits digits) → (if b then Some x else o) ≡ Some digits
-    → few_digits digits
-if_few true x o digits few rest e = let same : digits ≡ x = cc in rw same few
-if_few false x o digits few rest e = rest e
+code_of_row : (n : ℕ) (o : Option OfficeRow) → row_of n ≡ o → is_some (option_map (λ r. r.digits) o) ≡ true → is_within 1 greatest_code (pos n) ≡ true
+code_of_row n None f e = absurd (false≢true e)
+code_of_row n (Some row) f e =
+    let (same, fits) = found_row n row f in
+    rw same (and_parts (is_within 1 greatest_code (pos row.code)) _ fits).0
+
+pub code_in_range : (n : ℕ) → is_some (code_digits n) ≡ true → is_within 1 greatest_code (pos n) ≡ true
+code_in_range n e = code_of_row n (row_of n) refl e
+
+digits_of_row : (n digits : ℕ) (o : Option OfficeRow) → row_of n ≡ o → option_map (λ r. r.digits) o ≡ Some digits → (2 ≤ digits) × (digits ≤ 5)
+digits_of_row n digits None f e = absurd (cc)
+digits_of_row n digits (Some row) f e =
+    let (_, rest) = and_parts (is_within 1 greatest_code (pos row.code)) _ (found_row n row f).1 in
+    let (range, _) = and_parts (nat_le 2 row.digits && nat_le row.digits 5) _ rest in
+    let (least, most) = and_parts (nat_le 2 row.digits) (nat_le row.digits 5) range in
+    let same : row.digits ≡ digits = cc in
+    let P : ℕ → Type 0 = λ n. (2 ≤ n) × (n ≤ 5) in
+    subst P same (leb-true 2 row.digits least, leb-true row.digits 5 most)
 
 pub code_digits-range : (n digits : ℕ) → code_digits n ≡ Some digits → (2 ≤ digits) × (digits ≤ 5)
-code_digits-range n digits e =
-    if_few (n == 1 || (n == 3 || n == 11)) 2 _ digits (omega arith, omega arith)
-    (λ e5. if_few (n == 5) 3 _ digits (omega arith, omega arith)
-    (λ e6. if_few (n == 6) 4 _ digits (omega arith, omega arith)
-    (λ e7. if_few (n == 7 || (n == 8 || n == 13)) 5 None digits (omega arith, omega arith) (λ none. absurd (cc)) e7) e6) e5) e
+code_digits-range n digits e = digits_of_row n digits (row_of n) refl e
 
 pub has_digits-below : (digits n : ℕ) → digits ≤ 5 → has_digits digits n ≡ true → n ≤ 99999
 has_digits-below digits n few h =
@@ -93,20 +108,22 @@ has_digits-below digits n few h =
 
 -- ---- entries that fit
 
-most_at_200 : (b : Bool) → (if b then 200 else 1) ≤ 200
-most_at_200 true = omega arith
-most_at_200 false = omega arith
+seats_of_row : (n : ℕ) (o : Option OfficeRow) → row_of n ≡ o → option_map_or (λ r. r.most_seats) o 1 ≤ 200
+seats_of_row n None f = omega arith
+seats_of_row n (Some row) f =
+    let (_, rest) = and_parts (is_within 1 greatest_code (pos row.code)) _ (found_row n row f).1 in
+    leb-true row.most_seats 200 (and_parts (nat_le 2 row.digits && nat_le row.digits 5) _ rest).1
 
 seats_few : (code : ℕ) (seats : ℤ) → is_within 1 (most_seats code) seats ≡ true → is_within 1 200 seats ≡ true
 seats_few code (negsuc n) h = absurd (false≢true h)
 seats_few code (pos n) h =
     let (least, most) = and_parts (nat_le 1 n) (nat_le n (most_seats code)) h in
     let few : n ≤ most_seats code = leb-true n (most_seats code) most in
-    and_from _ _ least (le-leb n 200 (omega (arith, most_at_200 (code_proportional code))))
+    and_from _ _ least (le-leb n 200 (omega (arith, seats_of_row code (row_of code) refl)))
 
 office_parts_fit : (code : ℤ) (kind : Option Kind) (seats : ℤ) → is_some (digits_of code) ≡ true → kind_fits code kind ≡ true
     → option_map_or (λ c. is_within 1 (most_seats c) seats) (natural code) false ≡ true
-    → ((is_within 1 13 code && is_some (digits_of code)) && (is_some kind && is_within 1 200 seats)) ≡ true
+    → ((is_within 1 greatest_code code && is_some (digits_of code)) && (is_some kind && is_within 1 200 seats)) ≡ true
 office_parts_fit (negsuc n) kind seats known fits few = absurd (false≢true known)
 office_parts_fit (pos n) None seats known fits few = absurd (false≢true fits)
 office_parts_fit (pos n) (Some kind) seats known fits few = and_from _ _ (and_from _ _ (code_in_range n known) known) (seats_few n seats few)

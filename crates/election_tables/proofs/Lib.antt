@@ -1,5 +1,6 @@
 mod Rows
 mod RollRows
+mod OfficeRows
 mod Walks
 mod Distinct
 mod Signs

@@ -102,6 +102,14 @@ find_all P p (y ∷ ys) x all e = elim (cases_Bool (p y)) [
   | inr miss ↦ find_all P p ys x (All-tail P y ys all) (rw miss at e)
 ]
 
+-- and it passes the test
+pub find_passes : {X : Type 0} (p : X → Bool) (xs : List X) (x : X) → find p xs ≡ Some x → p x ≡ true
+find_passes p [] x e = cc
+find_passes p (y ∷ ys) x e = elim (cases_Bool (p y)) [
+  | inl pass ↦ (let same : y ≡ x = (let e2 : Some y ≡ Some x = rw pass at e in cc) in rw same at pass)
+  | inr miss ↦ find_passes p ys x (rw miss at e)
+]
+
 -- each neighbour of a strict order isn't above the next
 pub sorted_from_strict : {X K : Type 0} {R : K → K → Ordering} (o : IsTotalOrder R) (key : X → K) (xs : List X) → IsStrictlySortedBy R (map key xs) → IsSortedByKey key R xs
 sorted_from_strict {X} {K} {R} o key xs rise k d low within =

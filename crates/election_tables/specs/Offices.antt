@@ -1,28 +1,55 @@
--- The offices that there are: their codes, digits and kinds.
-use Rattle.std.specs.Prelude.{ℕ, Option, Some, None, Bool, not, ◌&&◌, ◌||◌, ◌==◌, if◌then◌else◌}
+-- The offices that there are: a table with a row for each code, and what is looked up there.
+use Rattle.std.specs.Prelude.{ℕ, List, [], ◌∷◌, Option, Bool, true, false, option_map, ◌==◌}
+use Rattle.std.specs.List.{find}
+use Rattle.std.specs.Option.{option_map_or}
 use Rattle.election_tables.specs.declared.office.Kind.{Kind}
 use Rattle.election_tables.specs.declared.office.Kind.TheVariants as kind
+use Rattle.election_tables.specs.declared.office.Kinds.{Kinds}
+use Rattle.election_tables.specs.declared.office.Kinds.TheVariants as by
+use Rattle.election_tables.specs.declared.office.OfficeRow.{OfficeRow}
 
--- how many digits a candidate's number has: president, governor and mayor 2, senator 3, federal deputy 4, state deputy,
--- district deputy and councillor 5
+-- president, governor, senator, federal deputy, state deputy, district deputy, mayor and councillor: how many digits a
+-- candidate's number has, by which kinds the office may be decided, and its most seats
+abbrev pub office_rows : List OfficeRow
+office_rows =
+    record { code = 1; digits = 2; kinds = by.EitherMajority; most_seats = 1 }
+    ∷ record { code = 3; digits = 2; kinds = by.EitherMajority; most_seats = 1 }
+    ∷ record { code = 5; digits = 3; kinds = by.SimpleMajority; most_seats = 1 }
+    ∷ record { code = 6; digits = 4; kinds = by.Proportional; most_seats = 200 }
+    ∷ record { code = 7; digits = 5; kinds = by.Proportional; most_seats = 200 }
+    ∷ record { code = 8; digits = 5; kinds = by.Proportional; most_seats = 200 }
+    ∷ record { code = 11; digits = 2; kinds = by.EitherMajority; most_seats = 1 }
+    ∷ record { code = 13; digits = 5; kinds = by.Proportional; most_seats = 200 }
+    ∷ []
+
+-- no office has a greater code
+abbrev pub greatest_code : ℕ
+greatest_code = 13
+
+-- the row of a code, if an office has it
+unfoldable pub row_of : ℕ → Option OfficeRow
+row_of code = find (λ row. code == row.code) office_rows
+
+-- how many digits a candidate's number has
 abbrev pub code_digits : ℕ → Option ℕ
-code_digits code =
-    if code == 1 || (code == 3 || code == 11) then Some 2
-    else (if code == 5 then Some 3
-    else (if code == 6 then Some 4
-    else (if code == 7 || (code == 8 || code == 13) then Some 5 else None)))
+code_digits code = option_map (λ row. row.digits) (row_of code)
+
+-- the kinds allow this kind
+abbrev pub kinds_allow : Kinds → Kind → Bool
+kinds_allow by.Proportional kind.Proportional = true
+kinds_allow by.SimpleMajority kind.Simple = true
+kinds_allow by.EitherMajority kind.Absolute = true
+kinds_allow by.EitherMajority kind.Simple = true
+kinds_allow _ _ = false
+
+-- the code allows the kind; one that no office has allows either majority, and rule 5 refuses it
+abbrev pub allows : ℕ → Kind → Bool
+allows code k = kinds_allow (option_map_or (λ row. row.kinds) (row_of code) by.EitherMajority) k
 
 -- deputies and councillors are elected in proportion
 abbrev pub code_proportional : ℕ → Bool
-code_proportional code = code == 6 || (code == 7 || (code == 8 || code == 13))
+code_proportional code = allows code kind.Proportional
 
--- the kinds that a code allows: a proportional office is proportional, a senator is elected by the simple majority, and the
--- other offices by either majority
-abbrev pub allows : ℕ → Kind → Bool
-allows code kind.Proportional = code_proportional code
-allows code kind.Absolute = not (code_proportional code) && not (code == 5)
-allows code kind.Simple = not (code_proportional code)
-
--- the most seats of an office
+-- the most seats of an office; 1 for a code that no office has
 abbrev pub most_seats : ℕ → ℕ
-most_seats code = if code_proportional code then 200 else 1
+most_seats code = option_map_or (λ row. row.most_seats) (row_of code) 1

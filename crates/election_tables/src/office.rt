@@ -1,6 +1,6 @@
 //! The offices: their codes, how many digits their candidates' numbers have, and how each is decided.
-ghost use Rattle.std.specs.Prelude.{◌≡◌};
-ghost use Rattle.election_tables.specs.Offices.{allows, code_digits, code_proportional, most_seats};
+ghost use Rattle.std.specs.Prelude.{◌≡◌, ◌≤◌, IfSome};
+ghost use Rattle.election_tables.specs.Offices.{allows, code_digits, code_proportional, kinds_allow, most_seats, row_of};
 
 /// How an office is decided: in proportion to the votes of the parties, by the absolute majority (with a second
 /// turn), or by the simple majority.
@@ -20,6 +20,61 @@ pub struct Office {
     pub seats: u32,
 }
 
+/// The kinds by which an office may be decided.
+#[derive(Clone, Copy)]
+pub(crate) enum Kinds {
+    Proportional,
+    SimpleMajority,
+    EitherMajority,
+}
+
+/// The row of an office in the table of codes.
+#[derive(Clone, Copy)]
+pub(crate) struct OfficeRow {
+    pub code: u64,
+    pub digits: u8,
+    pub kinds: Kinds,
+    pub most_seats: u64,
+}
+
+/// The table of codes (docs/FORMATS.md, "Offices"): the row of a code, `None` exactly where no office has it.
+#[tactic(auto, unfolding(crate::specs::Offices::row_of))]
+fn row_of(code: u64) -> Option<OfficeRow>
+    ensures row { result ≡ row_of code }
+    ensures digits { IfSome result (λ row. (2 ≤ row.digits) × (row.digits ≤ 5)) }
+{
+    let (digits, kinds, most_seats) = match code {
+        1 => (2, Kinds::EitherMajority, 1),
+        3 => (2, Kinds::EitherMajority, 1),
+        5 => (3, Kinds::SimpleMajority, 1),
+        6 => (4, Kinds::Proportional, 200),
+        7 => (5, Kinds::Proportional, 200),
+        8 => (5, Kinds::Proportional, 200),
+        11 => (2, Kinds::EitherMajority, 1),
+        13 => (5, Kinds::Proportional, 200),
+        _ => return None,
+    };
+    Some(OfficeRow {
+        code,
+        digits,
+        kinds,
+        most_seats,
+    })
+}
+
+impl Kinds {
+    fn allow(self, kind: Kind) -> bool
+        ensures { result ≡ kinds_allow self kind }
+    {
+        match (self, kind) {
+            (Kinds::Proportional, Kind::Proportional) => true,
+            (Kinds::SimpleMajority, Kind::Simple) => true,
+            (Kinds::EitherMajority, Kind::Absolute | Kind::Simple) => true,
+            _ => false,
+        }
+    }
+}
+
 /// The digits of an office's numbers; `None` exactly where no office has the code (docs/FORMATS.md, "Election tables").
 pub fn code_digits(code: u8) -> Option<u8>
     ensures { result ≡ code_digits code }
@@ -31,36 +86,27 @@ pub fn code_digits(code: u8) -> Option<u8>
 pub fn code_proportional(code: u8) -> bool
     ensures { result ≡ code_proportional code }
 {
-    is_proportional(u64::from(code))
+    allows(u64::from(code), Kind::Proportional)
 }
 
 /// `code_digits` of a number that a document has.
 pub(crate) fn digits_of_code(code: u64) -> Option<u8>
-    ensures { result ≡ code_digits code }
+    ensures digits { result ≡ code_digits code }
+    ensures few { IfSome result (λ digits. (2 ≤ digits) × (digits ≤ 5)) }
 {
-    match code {
-        1 | 3 | 11 => Some(2),
-        5 => Some(3),
-        6 => Some(4),
-        7 | 8 | 13 => Some(5),
-        _ => None,
+    match row_of(code) {
+        Some(row) => Some(row.digits),
+        None => None,
     }
-}
-
-fn is_proportional(code: u64) -> bool
-    ensures { result ≡ code_proportional code }
-{
-    code == 6 || (code == 7 || (code == 8 || code == 13))
 }
 
 /// Whether an office may be decided so (docs/FORMATS.md, "Election tables").
 pub(crate) fn allows(code: u64, kind: Kind) -> bool
     ensures { result ≡ allows code kind }
 {
-    match kind {
-        Kind::Proportional => is_proportional(code),
-        Kind::Absolute => !is_proportional(code) && code != 5,
-        Kind::Simple => !is_proportional(code),
+    match row_of(code) {
+        Some(row) => row.kinds.allow(kind),
+        None => Kinds::EitherMajority.allow(kind),
     }
 }
 
@@ -68,5 +114,8 @@ pub(crate) fn allows(code: u64, kind: Kind) -> bool
 pub(crate) fn most_seats(code: u64) -> u64
     ensures { result ≡ most_seats code }
 {
-    if is_proportional(code) { 200 } else { 1 }
+    match row_of(code) {
+        Some(row) => row.most_seats,
+        None => 1,
+    }
 }

@@ -1,5 +1,5 @@
 //! The rules on offices: 5, 6 and 14.
-ghost use Rattle.std.specs.Prelude.{◌≡◌, is_some, map, IfOk};
+ghost use Rattle.std.specs.Prelude.{◌≡◌, ◌≤◌, is_some, map, IfOk, IfSome};
 ghost use Rattle.std.specs.List.{list_all};
 ghost use Rattle.election_tables.specs.Rules.{digits_of, kind_fits, seats_in_range, rule_5, rule_6, rule_14};
 
@@ -11,7 +11,8 @@ use std::alloc::{AllocError, Global};
 
 /// The digits of an office, if the code is one.
 pub(crate) fn digits_of(code: i64) -> Option<u8>
-    ensures { result ≡ digits_of code }
+    ensures digits { result ≡ digits_of code }
+    ensures few { IfSome result (λ digits. (2 ≤ digits) × (digits ≤ 5)) }
 {
     match natural(code) {
         Some(n) => digits_of_code(n),
