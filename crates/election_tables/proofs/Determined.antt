@@ -17,6 +17,7 @@ use Rattle.election_tables.specs.declared.tables.sections.Section.{Section}
 use Rattle.election_tables.specs.declared.tables.panels.Panel.{Panel}
 use Rattle.election_tables.specs.DocumentData.{DocumentData}
 use Rattle.election_tables.specs.Entries.{document_of}
+use Rattle.election_tables.specs.Limits.{most_voters}
 use Rattle.election_tables.specs.Offices.{code_digits}
 use Rattle.election_tables.specs.Roll.{IsRoll, IsRollOf, RollData}
 use Rattle.election_tables.specs.Tables.{AreTablesOf, IsPanelOf, IsReadAs, candidates_of, entry_of_candidate, entry_of_office, entry_of_party, entry_of_section}
@@ -187,6 +188,6 @@ roll_determined bytes r s a b =
 pub roll_is : (bytes : List ℕ) (r : RollData) → IsRollOf bytes r → IsRoll r
 roll_is bytes r is =
     let n = length (lines_of bytes) in
-    let (least, most) = and_parts (nat_le 1 n) (nat_le n 600) is.count in
-    roll_valid (lines_of bytes) r.titles r.digest (leb-true 1 n least) (leb-true n 600 most)
+    let (least, most) = and_parts (nat_le 1 n) (nat_le n most_voters) is.count in
+    roll_valid (lines_of bytes) r.titles r.digest (leb-true 1 n least) (leb-true n most_voters most)
     (is.titles, is.lines) (ap length is.digest ∙ length-sha256 bytes)

@@ -12,6 +12,7 @@ use Rattle.election_tables.specs.DocumentData.{DocumentData}
 use Rattle.election_tables.specs.Fields.{natural, is_within, is_valid_date, is_name, has_digits}
 use Rattle.election_tables.specs.Fitting.{office_fits, party_fits, candidate_fits}
 use Rattle.election_tables.specs.declared.office.OfficeRow.{OfficeRow}
+use Rattle.election_tables.specs.Limits.{most_offices, most_parties, most_candidates, most_sections, proportional_seats, greatest_process}
 use Rattle.election_tables.specs.Offices.{code_digits, greatest_code, most_seats, office_rows, row_of}
 use Rattle.election_tables.specs.Rules.{first_broken, typed_rules, digits_of, kind_fits, seats_in_range, section_in_range, counts_in_range, head_in_range, names_in_range, has_office, are_distinct, rule_4, rule_5, rule_6, rule_7, rule_8, rule_9, rule_10, rule_11, rule_12, rule_13, rule_14}
 use Rattle.election_tables.proofs.Breaks.{all_hold}
@@ -68,7 +69,7 @@ all_from_two p q r gives (x ∷ xs) e f =
 
 -- the code, the digits and the seats of a row are in their ranges
 abbrev row_in_range : OfficeRow → Bool
-row_in_range row = is_within 1 greatest_code (pos row.code) && ((nat_le 2 row.digits && nat_le row.digits 5) && nat_le row.most_seats 200)
+row_in_range row = is_within 1 greatest_code (pos row.code) && ((nat_le 2 row.digits && nat_le row.digits 5) && nat_le row.most_seats proportional_seats)
 
 found_row : (n : ℕ) (row : OfficeRow) → row_of n ≡ Some row → (n ≡ row.code) × (row_in_range row ≡ true)
 unfolding row_of
@@ -108,22 +109,22 @@ has_digits-below digits n few h =
 
 -- ---- entries that fit
 
-seats_of_row : (n : ℕ) (o : Option OfficeRow) → row_of n ≡ o → option_map_or (λ r. r.most_seats) o 1 ≤ 200
+seats_of_row : (n : ℕ) (o : Option OfficeRow) → row_of n ≡ o → option_map_or (λ r. r.most_seats) o 1 ≤ proportional_seats
 seats_of_row n None f = omega arith
 seats_of_row n (Some row) f =
     let (_, rest) = and_parts (is_within 1 greatest_code (pos row.code)) _ (found_row n row f).1 in
-    leb-true row.most_seats 200 (and_parts (nat_le 2 row.digits && nat_le row.digits 5) _ rest).1
+    leb-true row.most_seats proportional_seats (and_parts (nat_le 2 row.digits && nat_le row.digits 5) _ rest).1
 
-seats_few : (code : ℕ) (seats : ℤ) → is_within 1 (most_seats code) seats ≡ true → is_within 1 200 seats ≡ true
+seats_few : (code : ℕ) (seats : ℤ) → is_within 1 (most_seats code) seats ≡ true → is_within 1 proportional_seats seats ≡ true
 seats_few code (negsuc n) h = absurd (false≢true h)
 seats_few code (pos n) h =
     let (least, most) = and_parts (nat_le 1 n) (nat_le n (most_seats code)) h in
     let few : n ≤ most_seats code = leb-true n (most_seats code) most in
-    and_from _ _ least (le-leb n 200 (omega (arith, seats_of_row code (row_of code) refl)))
+    and_from _ _ least (le-leb n proportional_seats (omega (arith, seats_of_row code (row_of code) refl)))
 
 office_parts_fit : (code : ℤ) (kind : Option Kind) (seats : ℤ) → is_some (digits_of code) ≡ true → kind_fits code kind ≡ true
     → option_map_or (λ c. is_within 1 (most_seats c) seats) (natural code) false ≡ true
-    → ((is_within 1 greatest_code code && is_some (digits_of code)) && (is_some kind && is_within 1 200 seats)) ≡ true
+    → ((is_within 1 greatest_code code && is_some (digits_of code)) && (is_some kind && is_within 1 proportional_seats seats)) ≡ true
 office_parts_fit (negsuc n) kind seats known fits few = absurd (false≢true known)
 office_parts_fit (pos n) None seats known fits few = absurd (false≢true fits)
 office_parts_fit (pos n) (Some kind) seats known fits few = and_from _ _ (and_from _ _ (code_in_range n known) known) (seats_few n seats few)
@@ -170,47 +171,47 @@ candidates_fit d k =
 counts : (d : DocumentData) → Kept d → counts_in_range d ≡ true
 counts d k = (and_parts (counts_in_range d) (head_in_range d) (and_parts (counts_in_range d && head_in_range d) _ k.ranges).0).0
 
-pub offices_few : (d : DocumentData) → Kept d → (1 ≤ length d.offices) × (length d.offices ≤ 8)
+pub offices_few : (d : DocumentData) → Kept d → (1 ≤ length d.offices) × (length d.offices ≤ most_offices)
 offices_few d k =
     let (h, _) = and_parts _ _ (counts d k) in
-    let (least, most) = and_parts (nat_le 1 (length d.offices)) (nat_le (length d.offices) 8) h in
-    (leb-true 1 (length d.offices) least, leb-true (length d.offices) 8 most)
+    let (least, most) = and_parts (nat_le 1 (length d.offices)) (nat_le (length d.offices) most_offices) h in
+    (leb-true 1 (length d.offices) least, leb-true (length d.offices) most_offices most)
 
-pub parties_few : (d : DocumentData) → Kept d → (1 ≤ length d.parties) × (length d.parties ≤ 40)
+pub parties_few : (d : DocumentData) → Kept d → (1 ≤ length d.parties) × (length d.parties ≤ most_parties)
 parties_few d k =
-    let (_, rest) = and_parts (nat_le 1 (length d.offices) && nat_le (length d.offices) 8) _ (counts d k) in
-    let (h, _) = and_parts (nat_le 1 (length d.parties) && nat_le (length d.parties) 40) _ rest in
-    let (least, most) = and_parts (nat_le 1 (length d.parties)) (nat_le (length d.parties) 40) h in
-    (leb-true 1 (length d.parties) least, leb-true (length d.parties) 40 most)
+    let (_, rest) = and_parts (nat_le 1 (length d.offices) && nat_le (length d.offices) most_offices) _ (counts d k) in
+    let (h, _) = and_parts (nat_le 1 (length d.parties) && nat_le (length d.parties) most_parties) _ rest in
+    let (least, most) = and_parts (nat_le 1 (length d.parties)) (nat_le (length d.parties) most_parties) h in
+    (leb-true 1 (length d.parties) least, leb-true (length d.parties) most_parties most)
 
-lists_few : (d : DocumentData) → Kept d → (nat_le (length d.candidates) 4096 && (nat_le 1 (length d.sections) && nat_le (length d.sections) 2000)) ≡ true
+lists_few : (d : DocumentData) → Kept d → (nat_le (length d.candidates) most_candidates && (nat_le 1 (length d.sections) && nat_le (length d.sections) most_sections)) ≡ true
 lists_few d k =
-    let (_, rest) = and_parts (nat_le 1 (length d.offices) && nat_le (length d.offices) 8) _ (counts d k) in
-    (and_parts (nat_le 1 (length d.parties) && nat_le (length d.parties) 40) _ rest).1
+    let (_, rest) = and_parts (nat_le 1 (length d.offices) && nat_le (length d.offices) most_offices) _ (counts d k) in
+    (and_parts (nat_le 1 (length d.parties) && nat_le (length d.parties) most_parties) _ rest).1
 
-pub candidates_few : (d : DocumentData) → Kept d → length d.candidates ≤ 4096
-candidates_few d k = leb-true (length d.candidates) 4096 (and_parts (nat_le (length d.candidates) 4096) _ (lists_few d k)).0
+pub candidates_few : (d : DocumentData) → Kept d → length d.candidates ≤ most_candidates
+candidates_few d k = leb-true (length d.candidates) most_candidates (and_parts (nat_le (length d.candidates) most_candidates) _ (lists_few d k)).0
 
-pub sections_few : (d : DocumentData) → Kept d → (1 ≤ length d.sections) × (length d.sections ≤ 2000)
+pub sections_few : (d : DocumentData) → Kept d → (1 ≤ length d.sections) × (length d.sections ≤ most_sections)
 sections_few d k =
-    let (_, h) = and_parts (nat_le (length d.candidates) 4096) (nat_le 1 (length d.sections) && nat_le (length d.sections) 2000) (lists_few d k) in
-    let (least, most) = and_parts (nat_le 1 (length d.sections)) (nat_le (length d.sections) 2000) h in
-    (leb-true 1 (length d.sections) least, leb-true (length d.sections) 2000 most)
+    let (_, h) = and_parts (nat_le (length d.candidates) most_candidates) (nat_le 1 (length d.sections) && nat_le (length d.sections) most_sections) (lists_few d k) in
+    let (least, most) = and_parts (nat_le 1 (length d.sections)) (nat_le (length d.sections) most_sections) h in
+    (leb-true 1 (length d.sections) least, leb-true (length d.sections) most_sections most)
 
 heads : (d : DocumentData) → Kept d → head_in_range d ≡ true
 heads d k = (and_parts (counts_in_range d) (head_in_range d) (and_parts (counts_in_range d && head_in_range d) _ k.ranges).0).1
 
-pub process_in_range : (d : DocumentData) → Kept d → is_within 1 99999 d.process ≡ true
-process_in_range d k = (and_parts (is_within 1 99999 d.process) _ (heads d k)).0
+pub process_in_range : (d : DocumentData) → Kept d → is_within 1 greatest_process d.process ≡ true
+process_in_range d k = (and_parts (is_within 1 greatest_process d.process) _ (heads d k)).0
 
 pub date_is_valid : (d : DocumentData) → Kept d → is_valid_date d.date ≡ true
-date_is_valid d k = (and_parts (is_valid_date d.date) (is_within 1 2 d.turn) (and_parts (is_within 1 99999 d.process) _ (heads d k)).1).0
+date_is_valid d k = (and_parts (is_valid_date d.date) (is_within 1 2 d.turn) (and_parts (is_within 1 greatest_process d.process) _ (heads d k)).1).0
 
 pub date_fits : (d : DocumentData) → Kept d → is_within 0 99999999 d.date ≡ true
 date_fits d k = birth_fits d.date (date_is_valid d k)
 
 pub turn_in_range : (d : DocumentData) → Kept d → is_within 1 2 d.turn ≡ true
-turn_in_range d k = (and_parts (is_valid_date d.date) (is_within 1 2 d.turn) (and_parts (is_within 1 99999 d.process) _ (heads d k)).1).1
+turn_in_range d k = (and_parts (is_valid_date d.date) (is_within 1 2 d.turn) (and_parts (is_within 1 greatest_process d.process) _ (heads d k)).1).1
 
 pub sections_in_range : (d : DocumentData) → Kept d → list_all section_in_range d.sections ≡ true
 sections_in_range d k = (and_parts (list_all section_in_range d.sections) (names_in_range d) (and_parts (counts_in_range d && head_in_range d) _ k.ranges).1).0

@@ -4,21 +4,22 @@ use Rattle.std.specs.List.{All, list_all}
 use Rattle.std.proofs.lemmas.Bool.{and_parts, leb-true}
 use Rattle.std.proofs.lemmas.List.Elements.{All-weaker}
 use Rattle.std.proofs.lemmas.Option.{slice_get_cases}
+use Rattle.election_tables.specs.Limits.{longest_name}
 use Rattle.election_tables.specs.Fields.{is_name}
 use Rattle.election_tables.specs.declared.tables.candidates.NamedCandidate.{NamedCandidate}
 use Rattle.election_tables.specs.declared.tables.parties.Party.{Party}
 use Rattle.election_tables.specs.TablesData.{TablesData, IsCandidate, IsParty, candidates_at}
 use Rattle.election_tables.proofs.Rising.{find_all}
 
--- a name has 1 to 70 bytes
+-- a name has 1 to `longest_name` bytes
 abbrev pub IsShort : List ℕ → Type 0
-IsShort name = (1 ≤ length name) × (length name ≤ 70)
+IsShort name = (1 ≤ length name) × (length name ≤ longest_name)
 
 pub is_name-short : (name : List ℕ) → is_name name ≡ true → IsShort name
 is_name-short name h =
-    let (size, _) = and_parts (nat_le 1 (length name) && nat_le (length name) 70) (list_all (λ b. nat_le 0x20 b && not (b == 0x7f)) name) h in
-    let (least, most) = and_parts (nat_le 1 (length name)) (nat_le (length name) 70) size in
-    (leb-true 1 (length name) least, leb-true (length name) 70 most)
+    let (size, _) = and_parts (nat_le 1 (length name) && nat_le (length name) longest_name) (list_all (λ b. nat_le 0x20 b && not (b == 0x7f)) name) h in
+    let (least, most) = and_parts (nat_le 1 (length name)) (nat_le (length name) longest_name) size in
+    (leb-true 1 (length name) least, leb-true (length name) longest_name most)
 
 -- what is so of each element is so of what a search finds
 pub found_is : {X : Type 0} (P : X → Type 0) (p : X → Bool) (xs : List X) → All P xs → (r : Option X) → r ≡ find p xs → IfSome r P

@@ -11,6 +11,7 @@ use Rattle.std.proofs.lemmas.List.Sums.{position_or_len_is}
 use Rattle.urna_base.specs.Digits.{digits_value}
 use Rattle.urna_base.specs.Lines.{lines_of}
 use Rattle.urna_base.proofs.DigitLaws.{digits_value-below}
+use Rattle.election_tables.specs.Limits.{most_voters}
 use Rattle.election_tables.specs.Roll.{may_follow, bad_line, titles_on, IsRoll}
 use Rattle.election_tables.specs.RollAnswer.{AreTitlesOn}
 
@@ -53,7 +54,7 @@ titles_have_digits (l ∷ ls) (t ∷ ts) e =
     let more : titles_on ls ≡ map Some ts = cc in
     All-cons (λ title. title < 10 ^ 12) t ts (digits_value-below 12 l t here) (titles_have_digits ls ts more)
 
-pub roll_valid : (lines : List (List ℕ)) (titles digest : List ℕ) → 1 ≤ length lines → length lines ≤ 600 → AreTitlesOn lines titles → length digest ≡ 32
+pub roll_valid : (lines : List (List ℕ)) (titles digest : List ℕ) → 1 ≤ length lines → length lines ≤ most_voters → AreTitlesOn lines titles → length digest ≡ 32
     → IsRoll (record { titles = titles; digest = digest })
 roll_valid lines titles digest least most are size =
     let counted : length (map Some titles) ≡ length (titles_on lines) = sym (ap length are.0) in

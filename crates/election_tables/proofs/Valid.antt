@@ -19,6 +19,7 @@ use Rattle.election_tables.specs.declared.tables.sections.Section.{Section}
 use Rattle.election_tables.specs.declared.tables.panels.Panel.{Panel}
 use Rattle.election_tables.specs.DocumentData.{DocumentData}
 use Rattle.election_tables.specs.Fields.{is_within, is_valid_date, is_name, has_digits, first_two}
+use Rattle.election_tables.specs.Limits.{most_candidates, most_voters, greatest_place, greatest_process}
 use Rattle.election_tables.specs.Offices.{code_digits, most_seats}
 use Rattle.election_tables.specs.Rules.{are_distinct, kind_fits, seats_in_range, section_in_range, has_office, has_party}
 use Rattle.election_tables.specs.Tables.{AreTablesOf, IsPanelOf, candidates_of, entry_of_candidate, entry_of_office, entry_of_party, entry_of_section}
@@ -98,7 +99,7 @@ candidates_from d parties p k moved of i e h =
     (parts_are (λ x. is_name x.name ≡ true) entries (entry_of_candidate code) p.candidates of.candidates
     (All-filter mine (λ x. is_name x.name ≡ true) d.candidates (all_true (λ x. is_name x.name) d.candidates (kept.candidate_names d k))) i e h)
 
-count_from : (d : DocumentData) (p : Panel) → Kept d → IsPanelOf d.candidates p → length p.candidates ≤ 4096
+count_from : (d : DocumentData) (p : Panel) → Kept d → IsPanelOf d.candidates p → length p.candidates ≤ most_candidates
 count_from d p k of =
     let code = p.office.code in
     let mine = λ (x : CandidateEntry). int_eq x.office (pos code) in
@@ -122,9 +123,9 @@ panel_from d parties p k moved of kind seats = record {
 
 section_from : (s : Section) → section_in_range (entry_of_section s) ≡ true → IsSection s
 section_from s h =
-    let (zone, rest) = and_parts (is_within 1 9999 (pos s.zone)) (is_within 1 9999 (pos s.number) && is_within 1 600 (pos s.voters)) h in
-    let (number, voters) = and_parts (is_within 1 9999 (pos s.number)) (is_within 1 600 (pos s.voters)) rest in
-    record { zone = within 1 9999 s.zone zone; number = within 1 9999 s.number number; voters = within 1 600 s.voters voters }
+    let (zone, rest) = and_parts (is_within 1 greatest_place (pos s.zone)) (is_within 1 greatest_place (pos s.number) && is_within 1 most_voters (pos s.voters)) h in
+    let (number, voters) = and_parts (is_within 1 greatest_place (pos s.number)) (is_within 1 most_voters (pos s.voters)) rest in
+    record { zone = within 1 greatest_place s.zone zone; number = within 1 greatest_place s.number number; voters = within 1 most_voters s.voters voters }
 
 -- ---- the whole
 
@@ -160,7 +161,7 @@ tables_valid d t k are size =
     let few_candidates = kept.candidates_few d k in
     let together = candidates_together d.offices d.candidates t.panels are.offices (kept.codes_differ d k) are.panels in
     record {
-      process = within_same 1 99999 t.process d.process are.process (kept.process_in_range d k);
+      process = within_same 1 greatest_process t.process d.process are.process (kept.process_in_range d k);
       date = valid_date t.date d.date are.date (kept.date_is_valid d k);
       turn = within_same 1 2 t.turn d.turn are.turn (kept.turn_in_range d k);
       panel_count = (omega arith, omega arith);

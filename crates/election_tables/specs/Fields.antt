@@ -3,6 +3,7 @@ use Rattle.std.specs.Prelude.{ℕ, ◌-◌, ◌/◌, ◌^◌, ℤ, pos, negsuc, 
 use Rattle.std.specs.List.{list_all}
 use Rattle.std.specs.Option.{option_map_or}
 use Rattle.urna_base.specs.Moment.{is_date}
+use Rattle.election_tables.specs.Limits.{longest_name}
 
 -- the number, if it isn't negative
 abbrev pub natural : ℤ → Option ℕ
@@ -17,9 +18,9 @@ is_within low high z = option_map_or (λ n. nat_le low n && nat_le n high) (natu
 abbrev pub is_valid_date : ℤ → Bool
 is_valid_date z = option_map_or is_date (natural z) false
 
--- 1 to 70 bytes, none below 0x20 and none 0x7F
+-- 1 to `longest_name` bytes, none below 0x20 and none 0x7F
 abbrev pub is_name : List ℕ → Bool
-is_name name = (nat_le 1 (length name) && nat_le (length name) 70) && list_all (λ b. nat_le 0x20 b && not (b == 0x7f)) name
+is_name name = (nat_le 1 (length name) && nat_le (length name) longest_name) && list_all (λ b. nat_le 0x20 b && not (b == 0x7f)) name
 
 -- the number has exactly so many digits in its decimal form
 abbrev pub has_digits : ℕ → ℕ → Bool

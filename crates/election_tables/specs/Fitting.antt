@@ -3,12 +3,13 @@ use Rattle.std.specs.Prelude.{is_some, Bool, ◌&&◌}
 use Rattle.election_tables.specs.declared.document.OfficeEntry.{OfficeEntry}
 use Rattle.election_tables.specs.declared.document.PartyEntry.{PartyEntry}
 use Rattle.election_tables.specs.declared.document.CandidateEntry.{CandidateEntry}
+use Rattle.election_tables.specs.Limits.{proportional_seats}
 use Rattle.election_tables.specs.Fields.{is_within}
 use Rattle.election_tables.specs.Offices.{greatest_code}
 use Rattle.election_tables.specs.Rules.{digits_of}
 
 abbrev pub office_fits : OfficeEntry → Bool
-office_fits o = (is_within 1 greatest_code o.code && is_some (digits_of o.code)) && (is_some o.kind && is_within 1 200 o.seats)
+office_fits o = (is_within 1 greatest_code o.code && is_some (digits_of o.code)) && (is_some o.kind && is_within 1 proportional_seats o.seats)
 
 abbrev pub party_fits : PartyEntry → Bool
 party_fits p = is_within 10 99 p.number

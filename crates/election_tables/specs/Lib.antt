@@ -1,3 +1,4 @@
+pub mod Limits
 pub mod Shape
 pub mod DocumentData
 pub mod Entries

@@ -2,6 +2,7 @@
 use Rattle.std.specs.Prelude.{ℕ, List, [], ◌∷◌, Option, Bool, true, false, option_map, ◌==◌}
 use Rattle.std.specs.List.{find}
 use Rattle.std.specs.Option.{option_map_or}
+use Rattle.election_tables.specs.Limits.{proportional_seats}
 use Rattle.election_tables.specs.declared.office.Kind.{Kind}
 use Rattle.election_tables.specs.declared.office.Kind.TheVariants as kind
 use Rattle.election_tables.specs.declared.office.Kinds.{Kinds}
@@ -15,11 +16,11 @@ office_rows =
     record { code = 1; digits = 2; kinds = by.EitherMajority; most_seats = 1 }
     ∷ record { code = 3; digits = 2; kinds = by.EitherMajority; most_seats = 1 }
     ∷ record { code = 5; digits = 3; kinds = by.SimpleMajority; most_seats = 1 }
-    ∷ record { code = 6; digits = 4; kinds = by.Proportional; most_seats = 200 }
-    ∷ record { code = 7; digits = 5; kinds = by.Proportional; most_seats = 200 }
-    ∷ record { code = 8; digits = 5; kinds = by.Proportional; most_seats = 200 }
+    ∷ record { code = 6; digits = 4; kinds = by.Proportional; most_seats = proportional_seats }
+    ∷ record { code = 7; digits = 5; kinds = by.Proportional; most_seats = proportional_seats }
+    ∷ record { code = 8; digits = 5; kinds = by.Proportional; most_seats = proportional_seats }
     ∷ record { code = 11; digits = 2; kinds = by.EitherMajority; most_seats = 1 }
-    ∷ record { code = 13; digits = 5; kinds = by.Proportional; most_seats = 200 }
+    ∷ record { code = 13; digits = 5; kinds = by.Proportional; most_seats = proportional_seats }
     ∷ []
 
 -- no office has a greater code

@@ -5,6 +5,7 @@ use Rattle.std.specs.List.Sorted.{IsStrictlyIncreasing}
 use Rattle.urna_base.specs.Digits.{digits_value}
 use Rattle.urna_base.specs.Lines.{lines_of}
 use Rattle.sha2.specs.Sha256.{sha256}
+use Rattle.election_tables.specs.Limits.{most_voters}
 
 -- what contracts see of a roll: its titles in order, and the SHA-256 of its bytes
 pub record RollData : Type 0 where
@@ -25,9 +26,9 @@ may_follow (Some before) (Some title) = nat_lt before title
 abbrev pub bad_line : List (Option ℕ) → Option ℕ
 bad_line titles = position_from (λ p. not (may_follow p.0 p.1)) 1 (zip (None ∷ titles) titles)
 
--- there are 1 to 600 lines
+-- there are 1 to `most_voters` lines
 abbrev pub has_count : List (List ℕ) → Bool
-has_count lines = nat_le 1 (length lines) && nat_le (length lines) 600
+has_count lines = nat_le 1 (length lines) && nat_le (length lines) most_voters
 
 -- the bytes are a roll, and these are its titles, with the SHA-256 of the bytes
 pub record IsRollOf (bytes : List ℕ) (r : RollData) : Type 0 where
@@ -46,9 +47,9 @@ pub record IsRollText (bytes : List ℕ) : Type 0 where
   pub count : has_count (lines_of bytes) ≡ true
   pub lines : bad_line (titles_on (lines_of bytes)) ≡ None
 
--- what is so of every roll: 1 to 600 titles of 12 digits, each greater than the one before
+-- what is so of every roll: 1 to `most_voters` titles of 12 digits, each greater than the one before
 pub record IsRoll (r : RollData) : Type 0 where
-  pub count : (1 ≤ length r.titles) × (length r.titles ≤ 600)
+  pub count : (1 ≤ length r.titles) × (length r.titles ≤ most_voters)
   pub rise : IsStrictlyIncreasing r.titles
   pub digits : All (λ title. title < 10 ^ 12) r.titles
   pub digest : length r.digest ≡ 32

@@ -10,6 +10,7 @@ use Rattle.election_tables.specs.declared.document.PartyEntry.{PartyEntry}
 use Rattle.election_tables.specs.declared.document.CandidateEntry.{CandidateEntry}
 use Rattle.election_tables.specs.declared.document.SectionEntry.{SectionEntry}
 use Rattle.election_tables.specs.declared.shape.ShapeRule.TheVariants as shape
+use Rattle.election_tables.specs.Limits.{most_offices, most_parties, most_candidates, most_sections, most_voters, greatest_place, greatest_process}
 use Rattle.election_tables.specs.Fields.{natural, is_within, is_valid_date, is_name, has_digits, first_two}
 use Rattle.election_tables.specs.Offices.{code_digits, allows, most_seats}
 use Rattle.election_tables.specs.DocumentData.{DocumentData}
@@ -48,19 +49,20 @@ has_party parties c = option_map_or (λ digits. option_map_or
 
 -- ---- the rules
 
--- a section has a zone and a number from 1 to 9,999, and 1 to 600 voters
+-- a section has a zone and a number from 1 to `greatest_place`, and 1 to `most_voters` voters
 abbrev pub section_in_range : SectionEntry → Bool
-section_in_range s = is_within 1 9999 s.zone && (is_within 1 9999 s.number && is_within 1 600 s.voters)
+section_in_range s = is_within 1 greatest_place s.zone && (is_within 1 greatest_place s.number && is_within 1 most_voters s.voters)
 
--- 1 to 8 offices, 1 to 40 parties, at most 4,096 candidates, 1 to 2,000 sections
+-- 1 to `most_offices` offices, 1 to `most_parties` parties, at most `most_candidates` candidates, 1 to `most_sections` sections
 abbrev pub counts_in_range : DocumentData → Bool
 counts_in_range d =
-    (nat_le 1 (length d.offices) && nat_le (length d.offices) 8) && ((nat_le 1 (length d.parties) && nat_le (length d.parties) 40)
-    && (nat_le (length d.candidates) 4096 && (nat_le 1 (length d.sections) && nat_le (length d.sections) 2000)))
+    (nat_le 1 (length d.offices) && nat_le (length d.offices) most_offices)
+    && ((nat_le 1 (length d.parties) && nat_le (length d.parties) most_parties)
+    && (nat_le (length d.candidates) most_candidates && (nat_le 1 (length d.sections) && nat_le (length d.sections) most_sections)))
 
--- the election has a number from 1 to 99,999, a valid date, and is the first or the second turn
+-- the election has a number from 1 to `greatest_process`, a valid date, and is the first or the second turn
 abbrev pub head_in_range : DocumentData → Bool
-head_in_range d = is_within 1 99999 d.process && (is_valid_date d.date && is_within 1 2 d.turn)
+head_in_range d = is_within 1 greatest_process d.process && (is_valid_date d.date && is_within 1 2 d.turn)
 
 -- each party and each candidate has a name
 abbrev pub names_in_range : DocumentData → Bool
@@ -110,7 +112,7 @@ rule_13 d = are_distinct same_pair (map (λ s. (s.zone, s.number)) d.sections)
 abbrev pub seats_in_range : OfficeEntry → Bool
 seats_in_range o = option_map_or (λ code. is_within 1 (most_seats code) o.seats) (natural o.code) false
 
--- 14. 1 seat for a majority office, 1 to 200 for a proportional one
+-- 14. 1 seat for a majority office, 1 to `proportional_seats` for a proportional one
 abbrev pub rule_14 : DocumentData → Bool
 rule_14 d = list_all seats_in_range d.offices
 

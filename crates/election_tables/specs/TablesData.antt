@@ -12,6 +12,7 @@ use Rattle.election_tables.specs.declared.tables.candidates.NamedCandidate.{Name
 use Rattle.election_tables.specs.declared.tables.parties.Party.{Party}
 use Rattle.election_tables.specs.declared.tables.sections.Section.{Section}
 use Rattle.election_tables.specs.declared.tables.panels.Panel.{Panel}
+use Rattle.election_tables.specs.Limits.{most_offices, most_parties, most_candidates, most_sections, most_voters, greatest_place, greatest_process}
 use Rattle.election_tables.specs.Offices.{code_digits, allows, most_seats}
 use Rattle.election_tables.specs.Fields.{is_name, has_digits, first_two}
 
@@ -95,33 +96,33 @@ pub record IsPanel (parties : List Party) (p : Panel) : Type 0 where
   pub office : IsOffice p.office
   pub candidates : All (IsCandidate p.office.digits parties) p.candidates
   pub rise : CandidatesRise p.candidates
-  pub count : length p.candidates ≤ 4096
+  pub count : length p.candidates ≤ most_candidates
 
 -- a party has a number of two digits and a name
 pub record IsParty (q : Party) : Type 0 where
   pub number : (10 ≤ q.number) × (q.number ≤ 99)
   pub name : IsTrue (is_name q.name)
 
--- a section has a place and 1 to 600 voters
+-- a section has a place and 1 to `most_voters` voters
 pub record IsSection (s : Section) : Type 0 where
-  pub zone : (1 ≤ s.zone) × (s.zone ≤ 9999)
-  pub number : (1 ≤ s.number) × (s.number ≤ 9999)
-  pub voters : (1 ≤ s.voters) × (s.voters ≤ 600)
+  pub zone : (1 ≤ s.zone) × (s.zone ≤ greatest_place)
+  pub number : (1 ≤ s.number) × (s.number ≤ greatest_place)
+  pub voters : (1 ≤ s.voters) × (s.voters ≤ most_voters)
 
 -- What is so of all tables, by the rules of their document: the ranges, the orders and the parties of candidates. All panels together
--- have at most 4,096 candidates.
+-- have at most `most_candidates` candidates.
 pub record IsTables (t : TablesData) : Type 0 where
-  pub process : (1 ≤ t.process) × (t.process ≤ 99999)
+  pub process : (1 ≤ t.process) × (t.process ≤ greatest_process)
   pub date : IsTrue (is_date t.date)
   pub turn : (1 ≤ t.turn) × (t.turn ≤ 2)
-  pub panel_count : (1 ≤ length t.panels) × (length t.panels ≤ 8)
+  pub panel_count : (1 ≤ length t.panels) × (length t.panels ≤ most_offices)
   pub panels : All (IsPanel t.parties) t.panels
-  pub candidate_count : sum_by (λ p. length p.candidates) t.panels ≤ 4096
+  pub candidate_count : sum_by (λ p. length p.candidates) t.panels ≤ most_candidates
   pub codes : AllPairs (λ p q. p.office.code ≢ q.office.code) t.panels
-  pub party_count : (1 ≤ length t.parties) × (length t.parties ≤ 40)
+  pub party_count : (1 ≤ length t.parties) × (length t.parties ≤ most_parties)
   pub parties : All IsParty t.parties
   pub parties_rise : PartiesRise t.parties
-  pub section_count : (1 ≤ length t.sections) × (length t.sections ≤ 2000)
+  pub section_count : (1 ≤ length t.sections) × (length t.sections ≤ most_sections)
   pub sections : All IsSection t.sections
   pub sections_rise : SectionsRise t.sections
   pub digest : length t.digest ≡ 32

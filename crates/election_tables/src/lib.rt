@@ -8,6 +8,7 @@
 
 mod document;
 pub mod laws;
+mod limits;
 mod office;
 mod roll;
 mod rules;

@@ -2,6 +2,8 @@
 ghost use Rattle.std.specs.Prelude.{◌≡◌, ◌≤◌, IfSome};
 ghost use Rattle.election_tables.specs.Offices.{allows, code_digits, code_proportional, kinds_allow, most_seats, row_of};
 
+use crate::limits::PROPORTIONAL_SEATS;
+
 /// How an office is decided: in proportion to the votes of the parties, by the absolute majority (with a second
 /// turn), or by the simple majority.
 #[derive(Clone, Copy, Debug, PartialEq, Eq)]
@@ -47,11 +49,11 @@ fn row_of(code: u64) -> Option<OfficeRow>
         1 => (2, Kinds::EitherMajority, 1),
         3 => (2, Kinds::EitherMajority, 1),
         5 => (3, Kinds::SimpleMajority, 1),
-        6 => (4, Kinds::Proportional, 200),
-        7 => (5, Kinds::Proportional, 200),
-        8 => (5, Kinds::Proportional, 200),
+        6 => (4, Kinds::Proportional, PROPORTIONAL_SEATS),
+        7 => (5, Kinds::Proportional, PROPORTIONAL_SEATS),
+        8 => (5, Kinds::Proportional, PROPORTIONAL_SEATS),
         11 => (2, Kinds::EitherMajority, 1),
-        13 => (5, Kinds::Proportional, 200),
+        13 => (5, Kinds::Proportional, PROPORTIONAL_SEATS),
         _ => return None,
     };
     Some(OfficeRow {
@@ -100,7 +102,7 @@ pub(crate) fn digits_of_code(code: u64) -> Option<u8>
     }
 }
 
-/// Whether an office may be decided so (docs/FORMATS.md, "Election tables").
+/// Whether an office may be decided so. A code that no office has counts as one of either majority; rule 5 refuses it.
 pub(crate) fn allows(code: u64, kind: Kind) -> bool
     ensures { result ≡ allows code kind }
 {
@@ -110,7 +112,7 @@ pub(crate) fn allows(code: u64, kind: Kind) -> bool
     }
 }
 
-/// The most seats that an office may have.
+/// The most seats that an office may have; 1 for a code that no office has.
 pub(crate) fn most_seats(code: u64) -> u64
     ensures { result ≡ most_seats code }
 {

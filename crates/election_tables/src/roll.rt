@@ -1,17 +1,16 @@
 //! The roll of a section: the titles of its voters, one on each line, rising.
 ghost use Rattle.std.specs.Prelude.{◌≡◌, ◌≢◌, ◌∷◌, ◌^◌, ◌==◌, ◌<◌, ◌≤◌, ℕ, true, false, Some, Err, IsOk, IfOk, MatchResult, length, position, slice_get};
 ghost use Rattle.urna_base.specs.Lines.{lines_of};
+ghost use Rattle.election_tables.specs.Limits.{most_voters};
 ghost use Rattle.election_tables.specs.Roll.{HasBadLine, IsRoll, IsRollOf, IsRollText, has_count};
 ghost use Rattle.election_tables.specs.RollAnswer.{AreTitlesOn, IsFaultOn, title_below};
 
+use crate::limits::MOST_VOTERS;
 use sha2::{Digest, Sha256};
 use std::alloc::Global;
 use std::marker::Model;
 use thiserror::Error;
 use urna_base::{digits, split_line};
-
-/// The most voters that a section has.
-const MOST: usize = 600;
 
 /// Why some bytes are no roll.
 #[derive(Clone, Copy, Debug, PartialEq, Eq, Error)]
@@ -19,8 +18,8 @@ pub enum RollError {
     /// Memory ran out.
     #[error("out of memory")]
     Memory,
-    /// There aren't 1 to 600 lines.
-    #[error("the roll hasn't 1 to 600 lines")]
+    /// There aren't 1 to `MOST_VOTERS` lines.
+    #[error("the roll has no lines or too many")]
     Count,
     /// The first line, counted from 1, that isn't a title of 12 digits greater than the line before.
     #[error("line {0} of the roll is no title greater than the line before")]
@@ -73,7 +72,7 @@ fn title_below(before: Option<u64>, line: &[u8]) -> Option<u64>
 /// The titles on the lines of a text, or the first line at fault.
 #[tactic(auto, using(crate::proofs::RollLines::no_lines, std::proofs::lemmas::Grind::common_steps))]
 fn read_titles(alloc: Global, text: &[u8]) -> Result<Vec<u64>, RollError>
-    requires { length (lines_of text.now) ≤ 600 }
+    requires { length (lines_of text.now) ≤ most_voters }
     ensures { MatchResult result (λ v. AreTitlesOn (lines_of text.now) v.items) (IsFaultOn (lines_of text.now)) }
 {
     let mut rest = text;
@@ -96,8 +95,8 @@ fn read_titles(alloc: Global, text: &[u8]) -> Result<Vec<u64>, RollError>
 impl Roll {
     /// The roll in some bytes (docs/FORMATS.md, "Roll, keys and list").
     ///
-    /// Errors: `Count` where there aren't 1 to 600 lines, else `Line(k)` where line k is the first at fault, `Memory`
-    /// where memory ran out.
+    /// Errors: `Count` where there aren't 1 to `MOST_VOTERS` lines, else `Line(k)` where line k is the first at fault,
+    /// `Memory` where memory ran out.
     pub fn read(alloc: Global, bytes: &[u8]) -> Result<Roll, RollError>
         ensures ok { IfOk result (IsRollOf bytes.now) }
         ensures roll { IfOk result IsRoll }
@@ -111,7 +110,7 @@ impl Roll {
         ensures ok_there { result ≢ Err RollError.Memory → IsRollText bytes.now → IsOk result }
     {
         let lines = line_count(bytes);
-        if lines < 1 || MOST < lines {
+        if lines < 1 || MOST_VOTERS < lines as u64 {
             return Err(RollError::Count);
         }
         match read_titles(alloc, bytes) {

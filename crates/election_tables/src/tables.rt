@@ -3,6 +3,7 @@ ghost use Rattle.std.specs.Prelude.{◌≡◌, ◌≢◌, ◌<◌, ◌≤◌, �
 ghost use Rattle.toml.specs.View.{table_view};
 ghost use Rattle.election_tables.specs.Entries.{document_of};
 ghost use Rattle.election_tables.specs.Fields.{is_name};
+ghost use Rattle.election_tables.specs.Limits.{longest_name, most_candidates, most_voters};
 ghost use Rattle.election_tables.specs.Rules.{broken_rule, first_broken, typed_rules};
 ghost use Rattle.election_tables.specs.Tables.{AreTablesOf, BreaksFirst, IsNoDocument, IsReadAs, KeepsRules};
 ghost use Rattle.election_tables.specs.Verdict.{IsAnswerFor};
@@ -209,7 +210,7 @@ impl Tables {
     pub fn party_name(&self, number: u8) -> Option<&str>
         ensures name { option_copied result ≡ party_name number self.now.parties }
         ensures printable { IfSome result (λ name. IsTrue (is_name name.now)) }
-        ensures short { IfSome result (λ name. (1 ≤ length name.now) × (length name.now ≤ 70)) }
+        ensures short { IfSome result (λ name. (1 ≤ length name.now) × (length name.now ≤ longest_name)) }
     {
         self.parties.name_of(number)
     }
@@ -218,7 +219,7 @@ impl Tables {
     pub fn candidate_count(&self, panel: u32) -> u32
         requires { panel < length self.now.panels }
         ensures count { result ≡ length (candidates_at panel self.now) }
-        ensures few { result ≤ 4096 }
+        ensures few { result ≤ most_candidates }
     {
         let panel = &self.panels[panel as usize];
         panel.candidates.len() as u32
@@ -240,7 +241,7 @@ impl Tables {
     pub fn candidate_name(&self, panel: u32, number: u32) -> Option<&str>
         ensures name { option_copied result ≡ candidate_name number (candidates_at panel self.now) }
         ensures printable { IfSome result (λ name. IsTrue (is_name name.now)) }
-        ensures short { IfSome result (λ name. (1 ≤ length name.now) × (length name.now ≤ 70)) }
+        ensures short { IfSome result (λ name. (1 ≤ length name.now) × (length name.now ≤ longest_name)) }
     {
         match self.panels.get(panel as usize) {
             Some(panel) => panel.candidates.name_of(number),
@@ -260,7 +261,7 @@ impl Tables {
     pub fn section(&self, i: u32) -> Section
         requires { i < length self.now.sections }
         ensures section { slice_get self.now.sections i ≡ Some result }
-        ensures voters { (1 ≤ result.voters) × (result.voters ≤ 600) }
+        ensures voters { (1 ≤ result.voters) × (result.voters ≤ most_voters) }
     {
         self.sections.at(i as usize)
     }
@@ -269,7 +270,7 @@ impl Tables {
     pub fn find_section(&self, zone: u32, number: u32) -> Option<Section>
         ensures section { result ≡ section_with zone number self.now.sections }
         ensures tables { IsTables self.now }
-        ensures voters { IfSome result (λ s. (1 ≤ s.voters) × (s.voters ≤ 600)) }
+        ensures voters { IfSome result (λ s. (1 ≤ s.voters) × (s.voters ≤ most_voters)) }
     {
         self.sections.with(zone, number)
     }

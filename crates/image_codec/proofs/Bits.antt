@@ -7,6 +7,7 @@ use Rattle.std.proofs.lemmas.List.{get_or_past}
 use Rattle.std.proofs.lemmas.List.FromFn.{fill_by_all, get_or-map-range_with_len}
 use Rattle.std.proofs.lemmas.Nat.Bits.{same_from_bits_below}
 use Rattle.std.proofs.lemmas.Option.{unwrap_or-slice_get}
+use Rattle.election_tables.specs.Limits.{most_voters}
 use Rattle.turnout.specs.Turnout.{has_come}
 use Rattle.image_codec.specs.Encoding.{eight_places, turnout_bytes}
 use Rattle.image_codec.specs.Decoded.{is_marked, marks_in, has_no_more}
@@ -126,7 +127,7 @@ come_at : (came : List Bool) (place : ℕ) → has_come came place ≡ get_or ca
 come_at came place = unwrap_or-slice_get came place false
 
 -- what was written of the marks reads back
-pub marks_back : (came : List Bool) → length came ≤ 600 → marks_in (length came) (turnout_bytes came) ≡ came
+pub marks_back : (came : List Bool) → length came ≤ most_voters → marks_in (length came) (turnout_bytes came) ≡ came
 unfolding marks_in
 marks_back came few = sym (fill_by_all (is_marked (turnout_bytes came)) came (length came) false refl
     (λ k lt. sym (marked_back came k (omega arith) ∙ come_at came k)))
@@ -145,7 +146,7 @@ each_passes p a (suc n) all k ge lt =
       | inr below ↦ let same : a ≡ k = omega arith in sym (ap p same) ∙ parts.0
     ]
 
-pub no_more_back : (came : List Bool) → length came ≤ 600 → has_no_more (length came) (turnout_bytes came) ≡ true
+pub no_more_back : (came : List Bool) → length came ≤ most_voters → has_no_more (length came) (turnout_bytes came) ≡ true
 unfolding has_no_more
 no_more_back came few = pass_from (λ place. not (is_marked (turnout_bytes came) place)) (length came) (600 - length came)
     (λ k ge lt. ap not (marked_back came k (omega arith) ∙ come_at came k ∙ get_or_past came k false ge))

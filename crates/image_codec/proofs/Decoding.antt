@@ -4,6 +4,7 @@ use Rattle.std.specs.Int.{w32, w64, to_be_bytes}
 use Rattle.std.specs.List.{flat_map, AllByRecursion, list_all, range_with_len}
 use Rattle.std.proofs.lemmas.Bool.{eqb-true, eq-eqb, lt-ltb, and_from, and_parts}
 use Rattle.std.proofs.lemmas.List.{length-append, length-take, length-drop, length-replicate}
+use Rattle.election_tables.specs.Limits.{most_offices, most_voters}
 use Rattle.election_tables.specs.TablesData.{TablesData, IsTables, places_of}
 use Rattle.vote_kinds.specs.declared.choice.Choice.{Choice}
 use Rattle.vote_kinds.specs.declared.choice.Choice.TheVariants as choice
@@ -33,7 +34,7 @@ unfolding encode
 length-encode s fits = omega (arith, length-append (written s) (replicate (65536 - length (written s)) 0), length-replicate {A = ℕ} (65536 - length (written s)) 0)
 
 -- the room of a state of a poll
-pub room_of_state : (t : TablesData) (voters : ℕ) (s : State) → IsTables t → voters ≤ 600 → IsStateOf t voters s → length (written s) ≤ 24130
+pub room_of_state : (t : TablesData) (voters : ℕ) (s : State) → IsTables t → voters ≤ most_voters → IsStateOf t voters s → length (written s) ≤ 24130
 room_of_state t voters s is few of =
     fits_body t s of.valid.full of.places is.panel_count.1 (omega (arith, number_came-le-length s.came, of.roll))
 
@@ -52,7 +53,7 @@ encode_parts s =
     ap (λ (r : List ℕ). r ++ replicate (65536 - length (written s)) 0) (written_is s) ∙ append_assoc (head_bytes s) (flat_map bag_bytes s.bags) (replicate (65536 - length (written s)) 0)
 
 -- the bags of eight panels have room, with two votes of each of 600 voters
-pub room_for_bags : (panels n : ℕ) → panels ≤ 8 → n ≤ 600 → panels * (4 + 10 * n) ≤ 65536 - 98
+pub room_for_bags : (panels n : ℕ) → panels ≤ most_offices → n ≤ most_voters → panels * (4 + 10 * n) ≤ 65536 - 98
 room_for_bags panels n few most =
     let size : 4 + 10 * n ≤ 6004 = omega arith in
     let all : panels * (4 + 10 * n) ≤ panels * 6004 = grind arith in
@@ -93,7 +94,7 @@ read_text t voters bytes p bags are whole head body =
     ∙ ap (λ (r : List ℕ). head_bytes s ++ r) (body.text ∙ ap (λ (k : ℕ). flat_map bag_bytes bags ++ replicate k 0) zeros)
     ∙ sym (encode_parts s)
 
-pub decoded_takes : (t : TablesData) (voters : ℕ) (bytes : List ℕ) (s : State) → IsTables t → voters ≤ 600 → decoded t voters bytes ≡ Some s → IsEncoding t voters s bytes
+pub decoded_takes : (t : TablesData) (voters : ℕ) (bytes : List ℕ) (s : State) → IsTables t → voters ≤ most_voters → decoded t voters bytes ≡ Some s → IsEncoding t voters s bytes
 unfolding decoded
 decoded_takes t voters bytes s is few e =
     let marks : List Bool = marks_in voters (turnout_of bytes) in
@@ -163,7 +164,7 @@ phase_small phase.Ready = omega arith
 phase_small (phase.Polling opened) = omega arith
 phase_small (phase.Sealed opened closed) = omega arith
 
-encode_small : (s : State) → length s.bags ≤ 8 → ByteWise (encode s)
+encode_small : (s : State) → length s.bags ≤ most_offices → ByteWise (encode s)
 encode_small s few =
     let behind : List ℕ = flat_map bag_bytes s.bags ++ replicate (65536 - length (written s)) 0 in
     let zeros = join_bytes (flat_map bag_bytes s.bags) (replicate (65536 - length (written s)) 0) (bags_small s.bags) (zeros_small (65536 - length (written s))) in
@@ -186,12 +187,12 @@ state_found t voters bytes s e f =
     let of_parts : List Bool → List ℕ → State = λ m p. record { phase = s.phase; came = m; places = p; bags = s.bags } in
     ap (λ (m : List Bool). of_parts m (places_of t)) e ∙ ap (of_parts s.came) f
 
-pub decoded_back : (t : TablesData) (voters : ℕ) (bytes : List ℕ) (s : State) → IsTables t → voters ≤ 600 → IsEncoding t voters s bytes → decoded t voters bytes ≡ Some s
+pub decoded_back : (t : TablesData) (voters : ℕ) (bytes : List ℕ) (s : State) → IsTables t → voters ≤ most_voters → IsEncoding t voters s bytes → decoded t voters bytes ≡ Some s
 decoded_back t voters bytes s is few of =
     let st = of.state in
     let room = room_of_state t voters s is few st in
     let many = bag_for_each t s st.valid st.places in
-    let panels : length s.bags ≤ 8 = omega (arith, many, is.panel_count.1) in
+    let panels : length s.bags ≤ most_offices = omega (arith, many, is.panel_count.1) in
     let body : is_body (encode s) ≡ true =
     and_from (length (encode s) == 65536) (list_all (λ b. nat_lt b 256) (encode s)) (eq-eqb (length (encode s)) 65536 (length-encode s (omega arith))) (pass_small (encode s) (encode_small s panels)) in
     let behind : List ℕ = flat_map bag_bytes s.bags ++ replicate (65536 - length (written s)) 0 in
@@ -220,5 +221,5 @@ decoded_back t voters bytes s is few of =
     ∙ ap (λ (x : State). Some x) (state_found t voters (encode s) s came (sym st.places))
 
 -- where nothing is decoded no state has that encoding
-pub none_decoded : (t : TablesData) (voters : ℕ) (bytes : List ℕ) → IsTables t → voters ≤ 600 → decoded t voters bytes ≡ None → IsNoEncoding t voters bytes
+pub none_decoded : (t : TablesData) (voters : ℕ) (bytes : List ℕ) → IsTables t → voters ≤ most_voters → decoded t voters bytes ≡ None → IsNoEncoding t voters bytes
 none_decoded t voters bytes is few e s of = let found = decoded_back t voters bytes s is few of in absurd (cc)

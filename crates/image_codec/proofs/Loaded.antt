@@ -1,6 +1,7 @@
 -- A ready state that takes on what was read is the state of the encoding
 use Rattle.std.proofs.Common.{◌≡◌, ℕ, ◌*◌, ◌<◌, ◌≤◌, Bool, true, false, cond, List, [], ◌∷◌, length, drop, replicate, slice_index, unwrap_or, Option, Some, IsSome, is_some, option_map, refl, sym, ap, subst, ◌∙◌, arith}
 use Rattle.std.proofs.lemmas.List.Sums.{sum_by-cons}
+use Rattle.election_tables.specs.Limits.{most_voters}
 use Rattle.election_tables.specs.TablesData.{TablesData, IsTables, places_of, places_at}
 use Rattle.vote_kinds.specs.declared.choice.Choice.{Choice}
 use Rattle.vote_kinds.specs.Ballot.{lines_by_panel}
@@ -84,7 +85,7 @@ pub bags_read : (t : TablesData) (voters : ℕ) (bytes : List ℕ) (h : Head) (r
     → IsSome (bags_in (lines_by_panel t) h.came rest)
 bags_read t voters bytes h rest head behind = ap (λ (o : Option (List (List Choice))). is_some o) (is_read t voters bytes h rest head behind).bags_are
 
-pub read_encoding : (t : TablesData) (voters : ℕ) (bytes : List ℕ) (h : Head) (rest : List ℕ) (came : List Bool) (r after : RdvData) → IsTables t → voters ≤ 600
+pub read_encoding : (t : TablesData) (voters : ℕ) (bytes : List ℕ) (h : Head) (rest : List ℕ) (came : List Bool) (r after : RdvData) → IsTables t → voters ≤ most_voters
     → Some h ≡ option_map head_of (decoded t voters bytes) → rest ≡ drop 98 bytes → came ≡ marks_in voters (turnout_of bytes) → r.places ≡ places_of t
     → after ≡ record r { bags = unwrap_or (bags_in (lines_by_panel t) h.came rest) [] } → IsEncoding t voters (state_of h.phase came after) bytes
 read_encoding t voters bytes h rest came r after is few head behind marks places votes =

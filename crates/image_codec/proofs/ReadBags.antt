@@ -7,6 +7,7 @@ use Rattle.std.proofs.lemmas.Bool.{eqb-true, eq-eqb, le-leb, and_parts}
 use Rattle.std.proofs.lemmas.List.{drop-drop, drop_at, take-append-drop, length-drop, length-append}
 use Rattle.std.proofs.lemmas.Nat.{from_be_bytes-to_be_bytes_4}
 use Rattle.std.proofs.lemmas.Option.{cond_some}
+use Rattle.election_tables.specs.Limits.{most_voters}
 use Rattle.election_tables.specs.TablesData.{TablesData}
 use Rattle.election_tables.specs.declared.tables.panels.Panel.{Panel}
 use Rattle.vote_kinds.specs.declared.choice.Choice.{Choice}
@@ -138,7 +139,7 @@ bags_take (line ∷ lines) n bytes bags are few long e =
     })
 
 pub bags_back : (lines : List BallotLine) (n : ℕ) (bags : List (List Choice)) (k : ℕ) → AllByRecursion HasSmall lines → AreFew lines → AreVotes lines bags → AllByRecursion IsInOrder bags
-    → AllHaveVoted n (map (λ line. line.places) lines) bags → n ≤ 600
+    → AllHaveVoted n (map (λ line. line.places) lines) bags → n ≤ most_voters
     → bags_in lines n (flat_map bag_bytes bags ++ replicate k 0) ≡ Some bags
 unfolding bags_in
 bags_back [] n [] k small two votes order full few = ap (λ (b : Bool). cond {A = Option (List (List Choice))} b (Some []) None) (zeros_pass k)

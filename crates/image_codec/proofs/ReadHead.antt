@@ -8,6 +8,7 @@ use Rattle.std.proofs.lemmas.List.{drop_more, drop-drop, drop_at, take_at, get_o
 use Rattle.std.proofs.lemmas.Nat.{from_be_bytes-to_be_bytes_4, from_be_bytes-to_be_bytes_8}
 use Rattle.std.proofs.lemmas.Option.{cond_some}
 use Rattle.urna_base.specs.Moment.{is_moment, is_date, is_between}
+use Rattle.election_tables.specs.Limits.{most_voters}
 use Rattle.turnout.specs.Turnout.{number_came}
 use Rattle.turnout.specs.declared.phase.Phase.{Phase}
 use Rattle.turnout.specs.declared.phase.Phase.TheVariants as phase
@@ -164,7 +165,7 @@ head_takes voters panels bytes p are long e =
 
 -- What was written is read again
 
-module _ (voters panels : ℕ) (p : Phase) (came : List Bool) (rest : List ℕ) (roll : length came ≡ voters) (few : voters ≤ 600) (moments : HasMoments p) (started : IsStarted p (number_came came)) where
+module _ (voters panels : ℕ) (p : Phase) (came : List Bool) (rest : List ℕ) (roll : length came ≡ voters) (few : voters ≤ most_voters) (moments : HasMoments p) (started : IsStarted p (number_came came)) where
   pub head_of_state : List ℕ
   head_of_state = fields_of 1 (phase_byte p) (to_be_bytes w64 (opening_in p)) (to_be_bytes w64 (closing_in p)) (to_be_bytes w32 (number_came came)) (turnout_bytes came) panels rest
 

@@ -5,6 +5,7 @@ use Rattle.std.specs.List.{flat_map}
 use Rattle.std.proofs.lemmas.List.{take_all, take_more, drop_all, append-nil, length-take, length-drop, flat_map_more}
 use Rattle.std.proofs.lemmas.Option.{get_or_from_slice_get, slice_get-get_or, unwrap_or-slice_get}
 use Rattle.std.proofs.lemmas.List.FromFn.{length-map-range_with_len}
+use Rattle.election_tables.specs.Limits.{most_offices, most_voters}
 use Rattle.election_tables.specs.TablesData.{TablesData, places_in, places_of}
 use Rattle.election_tables.specs.declared.tables.panels.Panel.{Panel}
 use Rattle.vote_kinds.specs.declared.choice.Choice.{Choice}
@@ -98,7 +99,7 @@ length-written t s full places =
     omega (arith, written_parts s)
 
 -- eight panels of 600 votes have room
-few_written : (panels n : ℕ) → panels ≤ 8 → n ≤ 600 → 98 + panels * (4 + 5 * n) ≤ 24130
+few_written : (panels n : ℕ) → panels ≤ most_offices → n ≤ most_voters → 98 + panels * (4 + 5 * n) ≤ 24130
 few_written panels n few most =
     let size : 4 + 5 * n ≤ 3004 = omega arith in
     let all : panels * (4 + 5 * n) ≤ panels * 3004 = grind arith in
@@ -116,7 +117,7 @@ body_of s into front zeros end whole is text filled =
     ∙ ap (λ (t : List ℕ). written s ++ (zeros ++ t)) past ∙ ap (λ (t : List ℕ). written s ++ t) (append-nil zeros ∙ filled ∙ ap (λ (n : ℕ). replicate n 0) long)
 
 -- the room that a state of a poll needs
-pub fits_body : (t : TablesData) (s : State) → AllHaveVoted (number_came s.came) s.places s.bags → s.places ≡ places_of t → length t.panels ≤ 8 → number_came s.came ≤ 600
+pub fits_body : (t : TablesData) (s : State) → AllHaveVoted (number_came s.came) s.places s.bags → s.places ≡ places_of t → length t.panels ≤ most_offices → number_came s.came ≤ most_voters
     → length (written s) ≤ 24130
 fits_body t s full places few most =
     let size = length-written t s full places in

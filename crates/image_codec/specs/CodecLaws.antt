@@ -1,6 +1,7 @@
 -- What is so of all encodings
 use Rattle.std.specs.Prelude.{◌≡◌, ◌<◌, ◌≤◌, ◌*◌, ℕ, true, false, ◌↔◌, List, [], ◌∷◌, length, Some, IsPermutation}
 use Rattle.urna_base.specs.Moment.{is_moment}
+use Rattle.election_tables.specs.Limits.{most_voters}
 use Rattle.election_tables.specs.TablesData.{TablesData, IsTables, places_at}
 use Rattle.vote_kinds.specs.declared.choice.Choice.{Choice}
 use Rattle.vote_kinds.specs.Ballot.{BallotLine, ballot_lines, is_choice, line_of}
@@ -13,18 +14,18 @@ use Rattle.image_codec.specs.Decoded.{decoded}
 
 -- bytes are decoded as a state exactly where they are its encoding
 abbrev pub IsDecodedExactly : Type 0
-IsDecodedExactly = (t : TablesData) (voters : ℕ) (s : State) (bytes : List ℕ) → IsTables t → voters ≤ 600 → (decoded t voters bytes ≡ Some s) ↔ IsEncoding t voters s bytes
+IsDecodedExactly = (t : TablesData) (voters : ℕ) (s : State) (bytes : List ℕ) → IsTables t → voters ≤ most_voters → (decoded t voters bytes ≡ Some s) ↔ IsEncoding t voters s bytes
 
 -- two states of one encoding are one state
 abbrev pub IsOneState : Type 0
-IsOneState = (t : TablesData) (voters : ℕ) (s u : State) → IsTables t → voters ≤ 600 → IsStateOf t voters s → IsStateOf t voters u → encode s ≡ encode u → s ≡ u
+IsOneState = (t : TablesData) (voters : ℕ) (s u : State) → IsTables t → voters ≤ most_voters → IsStateOf t voters s → IsStateOf t voters u → encode s ≡ encode u → s ≡ u
 
 -- what is written of a state has room in a body
 abbrev pub HasRoomInBody : Type 0
-HasRoomInBody = (t : TablesData) (voters : ℕ) (s : State) → IsTables t → voters ≤ 600 → IsStateOf t voters s → length (written s) ≤ 24130
+HasRoomInBody = (t : TablesData) (voters : ℕ) (s : State) → IsTables t → voters ≤ most_voters → IsStateOf t voters s → length (written s) ≤ 24130
 
 abbrev pub IsBodyLong : Type 0
-IsBodyLong = (t : TablesData) (voters : ℕ) (s : State) → IsTables t → voters ≤ 600 → IsStateOf t voters s → length (encode s) ≡ 65536
+IsBodyLong = (t : TablesData) (voters : ℕ) (s : State) → IsTables t → voters ≤ most_voters → IsStateOf t voters s → length (encode s) ≡ 65536
 
 -- a state of some tables has a bag for each panel, and in it as many votes as voters came, times the places of the panel
 

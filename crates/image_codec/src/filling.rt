@@ -1,5 +1,6 @@
 //! A ready state takes on what was read. The bytes were tested before, by `checked`.
 ghost use Rattle.std.specs.Prelude.{◌≡◌, ◌+◌, ◌*◌, ◌<◌, ◌≤◌, ℕ, [], false, length, replicate, slice_set, unwrap_or, IsSome};
+ghost use Rattle.election_tables.specs.Limits.{most_voters, most_offices};
 ghost use Rattle.election_tables.specs.TablesData.{places_at};
 ghost use Rattle.vote_kinds.specs.Ballot.{lines_by_panel, line_of};
 ghost use Rattle.vote_record.specs.Bag.{bag_at};
@@ -27,10 +28,10 @@ pub(crate) fn fill_turnout(turnout: &mut Turnout, field: &[u8])
 /// Adds the votes of so many voters in all panels. The caller owes that the record has none yet and room for them, and
 /// that the bytes have the bags.
 pub(crate) fn fill_votes(votes: &mut Rdv, tables: &Tables, came: u32, bytes: &[u8])
-    requires few { came ≤ 600 }
+    requires few { came ≤ most_voters }
     requires none { votes.old.bags ≡ replicate (length tables.now.panels) [] }
     requires room { (panel : ℕ) → panel < length tables.now.panels → came * places_at tables.now panel ≤ room_at votes.old panel }
-    requires bytes { 8 * (4 + 10 * came) ≤ length bytes.now }
+    requires bytes { most_offices * (4 + 10 * came) ≤ length bytes.now }
     requires bags { IsSome (bags_in (lines_by_panel tables.now) came bytes.now) }
     ensures { votes.new ≡ record votes.old { bags = unwrap_or (bags_in (lines_by_panel tables.now) came bytes.now) [] } }
 {

@@ -2,6 +2,7 @@
 ghost use Rattle.std.specs.Prelude.{◌≡◌, ◌==◌, ◌+◌, ◌*◌, ◌<◌, ◌≤◌, length, slice_index, option_map, IfSome, IsSome, IsNone};
 ghost use Rattle.std.specs.List.{list_all};
 ghost use Rattle.std.specs.Option.{is_some};
+ghost use Rattle.election_tables.specs.Limits.{most_voters, most_offices};
 ghost use Rattle.election_tables.specs.TablesData.{IsTables};
 ghost use Rattle.turnout.specs.Turnout.{number_came};
 ghost use Rattle.vote_kinds.specs.Choice.{choice_with};
@@ -94,7 +95,7 @@ pub(crate) fn is_marked(field: &[u8], place: u32) -> bool
 #[tactic(auto, using(crate::proofs::ReadParts::marks_none, crate::proofs::ReadParts::count_more))]
 fn count_marks(field: &[u8], voters: u32) -> u32
     requires field { length field.now ≡ 75 }
-    requires few { voters ≤ 600 }
+    requires few { voters ≤ most_voters }
     ensures { result ≡ number_came (marks_in voters field.now) }
 {
     let mut count = 0;
@@ -110,7 +111,7 @@ fn count_marks(field: &[u8], voters: u32) -> u32
 #[tactic(auto, using(crate::proofs::ReadParts::no_more_from, crate::proofs::ReadParts::no_more_ends))]
 fn has_no_more(field: &[u8], voters: u32) -> bool
     requires field { length field.now ≡ 75 }
-    requires few { voters ≤ 600 }
+    requires few { voters ≤ most_voters }
     ensures { result ≡ has_no_more voters field.now }
 {
     for place in voters..600 {
@@ -168,8 +169,8 @@ fn has_bag(tables: &Tables, panel: u32, count: u32, bytes: &[u8]) -> bool
 
 // Whether a bag with the votes of so many voters is there for each panel, and zeros after them.
 fn has_bags(tables: &Tables, came: u32, bytes: &[u8]) -> bool
-    requires few { came ≤ 600 }
-    requires bytes { 8 * (4 + 10 * came) ≤ length bytes.now }
+    requires few { came ≤ most_voters }
+    requires bytes { most_offices * (4 + 10 * came) ≤ length bytes.now }
     ensures { result ≡ is_some (bags_in (lines_by_panel tables.now) came bytes.now) }
 {
     let mut rest = bytes;
@@ -192,7 +193,7 @@ fn is_zero(bytes: &[u8]) -> bool
 // Whether the version is 1, so many came, none of them past the roll, and there are so many panels.
 #[tactic(auto, unfolding(crate::specs::Decoded::has_counts))]
 fn has_counts(voters: u32, came: u32, panels: u32, bytes: &[u8]) -> bool
-    requires few { voters ≤ 600 }
+    requires few { voters ≤ most_voters }
     requires bytes { BAGS ≤ length bytes.now }
     ensures { result ≡ has_counts voters came panels bytes.now }
 {
@@ -205,7 +206,7 @@ fn has_counts(voters: u32, came: u32, panels: u32, bytes: &[u8]) -> bool
 // What stands before the bags, if all of it is as it is written.
 #[tactic(auto, unfolding(crate::specs::Decoded::phase_in))]
 fn head_in(voters: u32, panels: u32, bytes: &[u8]) -> Option<Head>
-    requires few { voters ≤ 600 }
+    requires few { voters ≤ most_voters }
     requires bytes { BAGS ≤ length bytes.now }
     ensures phase { option_map (λ h. h.phase) result ≡ phase_in voters panels bytes.now }
     ensures came { IfSome result (λ h. h.came ≡ number_came (marks_in voters (turnout_of bytes.now))) }
@@ -224,7 +225,7 @@ fn head_in(voters: u32, panels: u32, bytes: &[u8]) -> Option<Head>
 
 /// What stands before the bags, if the bytes are the encoding of a state of a poll of these tables and so many voters.
 pub(crate) fn checked(tables: &Tables, voters: u32, bytes: &[u8]) -> Option<Head>
-    requires { voters ≤ 600 }
+    requires { voters ≤ most_voters }
     ensures head { result ≡ option_map head_of (decoded tables.now voters bytes.now) }
     ensures few { IfSome result (λ h. h.came ≤ voters) }
     ensures body { IsSome result → length bytes.now ≡ 65536 }
@@ -245,7 +246,7 @@ pub(crate) fn checked(tables: &Tables, voters: u32, bytes: &[u8]) -> Option<Head
 /// The rank of the state whose encoding some bytes are, of a poll of these tables and so many voters, of whom there are at
 /// most 600; `None` exactly where no state has that encoding. Bytes of any length may be given. It takes no memory.
 pub fn rank_of(tables: &Tables, voters: u32, bytes: &[u8]) -> Option<u32>
-    requires { voters ≤ 600 }
+    requires { voters ≤ most_voters }
     ensures value { result ≡ rank_in tables.now voters bytes.now }
     ensures found { IfSome result (IsRankOf tables.now voters bytes.now) }
     ensures none { IsNone result → IsNoEncoding tables.now voters bytes.now }

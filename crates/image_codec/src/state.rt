@@ -1,5 +1,6 @@
 ghost use Rattle.std.specs.Prelude.{◌≡◌, ◌≤◌, true, false, length, IfOk, IfSome, IsNone};
 ghost use Rattle.urna_base.specs.Moment.{is_moment};
+ghost use Rattle.election_tables.specs.Limits.{most_voters};
 ghost use Rattle.election_tables.specs.TablesData.{places_of};
 ghost use Rattle.vote_kinds.specs.Ballot.{ballot_lines};
 ghost use Rattle.image_codec.specs.Encoding.{IsEncoding, IsNoEncoding};
@@ -43,7 +44,7 @@ impl State {
     /// The state of a section with so many voters before the poll: nobody came, and no panel has a vote. All its memory
     /// is taken here; `Memory` comes only where an allocation failed.
     pub fn ready(alloc: Global, tables: &Tables, voters: u32) -> Result<State, Memory>
-        requires { voters ≤ 600 }
+        requires { voters ≤ most_voters }
         ensures { IfOk result (λ s. s ≡ ready_state tables.now voters) }
     {
         let turnout = Turnout::new(alloc, voters)?;
@@ -154,7 +155,7 @@ pub fn decode(
     voters: u32,
     bytes: &[u8],
 ) -> Result<Option<State>, Memory>
-    requires { voters ≤ 600 }
+    requires { voters ≤ most_voters }
     ensures found { IfOk result (λ found. IfSome found (λ s. IsEncoding tables.now voters s bytes.now)) }
     ensures none { IfOk result (λ found. IsNone found → IsNoEncoding tables.now voters bytes.now) }
 {
@@ -168,7 +169,7 @@ pub fn decode(
 
 /// The rank of a state in this phase with so many who came.
 pub(crate) fn rank_with(phase: Phase, came: u32) -> u32
-    requires { came ≤ 600 }
+    requires { came ≤ most_voters }
     ensures { result ≡ rank_in phase came }
 {
     match phase {

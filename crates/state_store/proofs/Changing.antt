@@ -9,6 +9,7 @@ use Rattle.twin_image.specs.Held.{Outranks}
 use Rattle.twin_image.specs.Level.{CommitsTo, HasTokens, IsLevel, Stands, body_of}
 use Rattle.twin_image.specs.declared.level.Level.{Level}
 use Rattle.twin_image.specs.Slots.{SlotCourse}
+use Rattle.election_tables.specs.Limits.{most_voters}
 use Rattle.election_tables.specs.TablesData.{IsTables, TablesData}
 use Rattle.image_codec.specs.Decoded.{rank_in}
 use Rattle.image_codec.specs.Encoding.{IsEncoding, IsStateOf, encode}
@@ -44,7 +45,7 @@ outranks t voters s u s_known u_known below =
     }
 
 -- a commit of encodings is one of states
-pub commits : (t : TablesData) (voters : ℕ) (s u : State) (a b : Told) → IsTables t → voters ≤ 600 → IsKnown t voters s → IsKnown t voters u → Runs (CommitsTo a (rank_in t voters) body_size (encode s) (encode u)) a b → Runs (Commits t voters s u a) a b
+pub commits : (t : TablesData) (voters : ℕ) (s u : State) (a b : Told) → IsTables t → voters ≤ most_voters → IsKnown t voters s → IsKnown t voters u → Runs (CommitsTo a (rank_in t voters) body_size (encode s) (encode u)) a b → Runs (Commits t voters s u a) a b
 commits t voters s u a b tables few s_known u_known run = (
   run.0,
   run.1,
@@ -76,14 +77,14 @@ rests_after load u n P a b devices sized sized_b long framed run level =
 -- that rank them have names of their own.
 pub record IsFollowed (t tables : TablesData) (voters count : ℕ) (s u : State) (old new : List ℕ) : Type 0 where
   pub whole : IsTables t
-  pub few : count ≤ 600
+  pub few : count ≤ most_voters
   pub same : tables ≡ t
   pub as_many : count ≡ voters
   pub old_state : IsEncoding t voters s old
   pub new_state : IsEncoding t voters u new
 
 -- the state that a store keeps is followed by this one
-pub followed_by : (t tables : TablesData) (told : Told) (store : StoreData) (count : ℕ) (s u : State) (old new : List ℕ) → IsTables t → count ≤ 600 → tables ≡ t → count ≡ length u.came → IsStateOf t store.load.section.voters u → new ≡ encode u
+pub followed_by : (t tables : TablesData) (told : Told) (store : StoreData) (count : ℕ) (s u : State) (old new : List ℕ) → IsTables t → count ≤ most_voters → tables ≡ t → count ≡ length u.came → IsStateOf t store.load.section.voters u → new ≡ encode u
     → Keeps t told store s → old ≡ store.body → IsFollowed t tables store.load.section.voters count s u old new
 followed_by t tables told store count s u old new whole few same as_many state written kept holds =
     record {
@@ -96,7 +97,7 @@ followed_by t tables told store count s u old new whole few same as_many state w
     }
 
 module _ (t tables : TablesData) (voters count : ℕ) (s u : State) (old new : List ℕ) (is : IsFollowed t tables voters count s u old new) where
-  few_voters : voters ≤ 600
+  few_voters : voters ≤ most_voters
   few_voters = omega (arith, is.few, is.as_many)
 
   old_known : IsKnown t voters s

@@ -3,6 +3,7 @@ use Rattle.std.proofs.Common.{ℕ, ◌≤◌, List, ◌++◌, ap, ◌∙◌}
 use Rattle.urna_outside.specs.Flash.{Flashes}
 use Rattle.urna_outside.specs.declared.device.Dev.TheVariants.{Internal, External}
 use Rattle.twin_image.specs.Held.{NoneStands, bodies_on, held_body}
+use Rattle.election_tables.specs.Limits.{most_voters}
 use Rattle.election_tables.specs.TablesData.{IsTables, TablesData}
 use Rattle.image_codec.specs.Decoded.{rank_in}
 use Rattle.state_store.specs.Held.{HeldByNone, bodies_of_both}
@@ -10,7 +11,7 @@ use Rattle.state_store.specs.Rest.{body_size}
 use Rattle.state_store.proofs.Holding.{both_ranked, found_none}
 
 -- they hold no state
-pub none_held : (t : TablesData) (voters : ℕ) (flashes : Flashes) → IsTables t → voters ≤ 600 → NoneStands (rank_in t voters) body_size flashes
+pub none_held : (t : TablesData) (voters : ℕ) (flashes : Flashes) → IsTables t → voters ≤ most_voters → NoneStands (rank_in t voters) body_size flashes
     → HeldByNone t voters flashes.internal.content flashes.external.content
 none_held t voters flashes tables few none =
     let rank = rank_in t voters in

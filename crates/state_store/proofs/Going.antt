@@ -8,6 +8,7 @@ use Rattle.urna_outside.specs.Started.{clean_flashes}
 use Rattle.urna_outside.specs.Stop.{IsLeft, IsStop, Left}
 use Rattle.urna_outside.specs.declared.device.Dev.{Dev}
 use Rattle.urna_outside.specs.declared.device.Dev.TheVariants.{Internal, External}
+use Rattle.election_tables.specs.Limits.{most_voters}
 use Rattle.election_tables.specs.Roll.{RollData}
 use Rattle.election_tables.specs.TablesData.{IsSection, IsTables, TablesData}
 use Rattle.election_tables.specs.declared.tables.sections.Section.{Section}
@@ -49,7 +50,7 @@ pub foreign_once : ForeignOnce
 foreign_once t r internal external none (section, fits, frame, differs) = none section fits frame
 
 -- a poll that is found has at most 600 voters
-pub found_few : (t : TablesData) (r : RollData) (section : Section) (s : State) (flashes : Flashes) → IsTables t → AreFound t r section s flashes → length r.titles ≤ 600
+pub found_few : (t : TablesData) (r : RollData) (section : Section) (s : State) (flashes : Flashes) → IsTables t → AreFound t r section s flashes → length r.titles ≤ most_voters
 found_few t r section s flashes tables found =
     let is : IsSection section = All-contains IsSection t.sections section tables.sections found.loaded.section_fits.listed in
     omega (arith, is.voters.1, found.loaded.section_fits.voters)

@@ -3,6 +3,7 @@ use Rattle.std.proofs.Common.{◌≡◌, inl, inr, ℕ, ◌<◌, ◌≤◌, Bool
 use Rattle.std.proofs.lemmas.Bool.{cases_lt, lt-ltb, le-ltb}
 use Rattle.urna_outside.specs.Stop.{Left}
 use Rattle.gate_slot.specs.Slot.{gate_in, body_in}
+use Rattle.election_tables.specs.Limits.{most_voters}
 use Rattle.election_tables.specs.TablesData.{IsTables, TablesData}
 use Rattle.image_codec.specs.Decoded.{decoded, rank_in}
 use Rattle.image_codec.specs.Encoding.{IsEncoding, encode}
@@ -79,7 +80,7 @@ module _ (t : TablesData) (voters : ℕ) where
 
 -- ---- the state of the body of greatest rank
 
-module _ (t : TablesData) (voters : ℕ) (tables : IsTables t) (few : voters ≤ 600) where
+module _ (t : TablesData) (voters : ℕ) (tables : IsTables t) (few : voters ≤ most_voters) where
   -- two states of one encoding are one
   one_state : (s u : State) (body : List ℕ) → IsEncoding t voters s body → IsEncoding t voters u body → s ≡ u
   one_state s u body this that =
@@ -208,7 +209,7 @@ module _ (t : TablesData) (voters : ℕ) (tables : IsTables t) (few : voters ≤
 
 -- ---- the decoder's answer
 
-module _ (t : TablesData) (voters : ℕ) (tables : IsTables t) (few : voters ≤ 600) (bodies xs : List (List ℕ)) (same : xs ≡ ranked t voters bodies) where
+module _ (t : TablesData) (voters : ℕ) (tables : IsTables t) (few : voters ≤ most_voters) (bodies xs : List (List ℕ)) (same : xs ≡ ranked t voters bodies) where
   abbrev answer : Option State
   answer = option_and_then (decoded t voters) (held_body (rank_in t voters) xs)
 
@@ -242,7 +243,7 @@ held_decoded t voters internal external tables few = (
 abbrev pub IsKnown : TablesData → ℕ → State → Type 0
 IsKnown t voters s = decoded t voters (encode s) ≡ Some s
 
-module _ (t : TablesData) (voters : ℕ) (tables : IsTables t) (few : voters ≤ 600) (s u : State) (s_known : IsKnown t voters s) (u_known : IsKnown t voters u) where
+module _ (t : TablesData) (voters : ℕ) (tables : IsTables t) (few : voters ≤ most_voters) (s u : State) (s_known : IsKnown t voters s) (u_known : IsKnown t voters u) where
   either_held : (bodies xs : List (List ℕ)) → xs ≡ ranked t voters bodies → IsEitherBody (encode s) (encode u) (held_body (rank_in t voters) xs)
       → IsEither s u (Hold t voters bodies)
   either_held bodies xs same (inl is) = inl (found_held t voters tables few bodies xs same (encode s) s is s_known)

@@ -15,6 +15,7 @@ use Rattle.twin_image.specs.Heal.{Heals, IsHeal}
 use Rattle.twin_image.specs.Level.{IsLevel}
 use Rattle.twin_image.specs.Held.{HoldsBody, held_on}
 use Rattle.twin_image.specs.Slots.{AreClean}
+use Rattle.election_tables.specs.Limits.{most_voters}
 use Rattle.election_tables.specs.Roll.{IsRoll, RollData}
 use Rattle.election_tables.specs.TablesData.{IsTables, TablesData}
 use Rattle.election_tables.specs.declared.tables.sections.Section.{Section}
@@ -79,7 +80,7 @@ frames_before : (start : Flashes) (left : Left) → KeepFrames (after both_synce
 frames_before start left keeps Internal = keeps Internal
 frames_before start left keeps External = keeps External
 
-module _ (t : TablesData) (r : RollData) (section : Section) (tables : IsTables t) (few : length r.titles ≤ 600) (s : State) (body : List ℕ) (known : decoded t (length r.titles) body ≡ Some s) where
+module _ (t : TablesData) (r : RollData) (section : Section) (tables : IsTables t) (few : length r.titles ≤ most_voters) (s : State) (body : List ℕ) (known : decoded t (length r.titles) body ≡ Some s) where
   -- what is held as a body is held as a state
   held_state : (internal external : List ℕ) → held_on (rank_in t (length r.titles)) body_size internal external ≡ Some body
       → HeldByBoth t (length r.titles) internal external s

@@ -10,6 +10,7 @@ use Rattle.twin_image.specs.Twin.{HoldsEither}
 use Rattle.twin_image.proofs.Holding.{leaves_either}
 use Rattle.twin_image.proofs.Laid.{device_bodies, device_gates}
 use Rattle.twin_image.proofs.Renewing.{content_image}
+use Rattle.election_tables.specs.Limits.{most_voters}
 use Rattle.election_tables.specs.TablesData.{IsTables, TablesData}
 use Rattle.image_codec.specs.Decoded.{rank_in}
 use Rattle.image_codec.specs.Encoding.{encode}
@@ -24,7 +25,7 @@ use Rattle.twin_image.proofs.Framing.{stop_whole}
 -- a state that can stand in the slots of flashes of this load
 pub record IsStored (t : TablesData) (load : Load) (s : State) : Type 0 where
   pub tables : IsTables t
-  pub few : load.section.voters ≤ 600
+  pub few : load.section.voters ≤ most_voters
   pub known : IsKnown t load.section.voters s
   pub long : length (encode s) ≡ body_size
   pub headed : (d : Dev) → length (header load d) ≡ 512

@@ -4,6 +4,7 @@ use Rattle.std.specs.Prelude.{replicate}
 use Rattle.std.proofs.lemmas.List.{length-replicate}
 use Rattle.std.proofs.lemmas.List.Elements.{All-contains}
 use Rattle.urna_outside.specs.declared.device.Dev.{Dev}
+use Rattle.election_tables.specs.Limits.{most_voters}
 use Rattle.election_tables.specs.Roll.{RollData}
 use Rattle.election_tables.specs.TablesData.{IsSection, IsTables, TablesData}
 use Rattle.image_codec.specs.Encoding.{IsStateOf, encode}
@@ -17,7 +18,7 @@ use Rattle.state_store.proofs.Holding.{IsKnown}
 use Rattle.state_store.proofs.Resting.{IsStored}
 
 -- the section of a load has at most 600 voters
-pub few_voters : (t : TablesData) (r : RollData) (load : Load) → IsLoadedWith t r load → load.section.voters ≤ 600
+pub few_voters : (t : TablesData) (r : RollData) (load : Load) → IsLoadedWith t r load → load.section.voters ≤ most_voters
 few_voters t r load loaded =
     let is : IsSection load.section = All-contains IsSection t.sections load.section loaded.tables.sections loaded.section.listed in
     is.voters.1
@@ -35,10 +36,10 @@ header_long t r load d loaded =
     long_header load d (ap (λ (l : Load). length l.tables) loaded.same ∙ loaded.tables.digest) (ap (λ (l : Load). length l.roll) loaded.same ∙ loaded.roll.digest)
 
 -- reading the encoding of a state of a poll gives it back, and it fills a body
-pub known_state : (t : TablesData) (voters : ℕ) (s : State) → IsTables t → voters ≤ 600 → IsStateOf t voters s → IsKnown t voters s
+pub known_state : (t : TablesData) (voters : ℕ) (s : State) → IsTables t → voters ≤ most_voters → IsStateOf t voters s → IsKnown t voters s
 known_state t voters s tables few is = decoded_back t voters (encode s) s tables few (record { state = is; same = refl })
 
-pub long_state : (t : TablesData) (voters : ℕ) (s : State) → IsTables t → voters ≤ 600 → IsStateOf t voters s → length (encode s) ≡ body_size
+pub long_state : (t : TablesData) (voters : ℕ) (s : State) → IsTables t → voters ≤ most_voters → IsStateOf t voters s → length (encode s) ≡ body_size
 long_state t voters s tables few is = let room = room_of_state t voters s tables few is in length-encode s (omega (arith, room))
 
 pub stored : (t : TablesData) (r : RollData) (load : Load) (s : State) → IsLoadedWith t r load → IsStateOf t load.section.voters s → IsStored t load s

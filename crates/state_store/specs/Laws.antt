@@ -7,6 +7,7 @@ use Rattle.urna_outside.specs.Started.{clean_flashes}
 use Rattle.urna_outside.specs.Stop.{AtEachStop, IsLeft, IsStop, Left}
 use Rattle.urna_outside.specs.declared.device.Dev.{Dev}
 use Rattle.urna_outside.specs.declared.device.Dev.TheVariants.{Internal, External}
+use Rattle.election_tables.specs.Limits.{most_voters}
 use Rattle.election_tables.specs.Roll.{IsRoll, RollData}
 use Rattle.election_tables.specs.TablesData.{IsTables, TablesData}
 use Rattle.election_tables.specs.declared.tables.sections.Section.{Section}
@@ -78,14 +79,14 @@ IsDecodedFrom t voters bodies answer =
 
 abbrev pub HeldIsDecoded : Type 0
 HeldIsDecoded =
-    (t : TablesData) (voters : ℕ) (internal external : List ℕ) → IsTables t → voters ≤ 600
+    (t : TablesData) (voters : ℕ) (internal external : List ℕ) → IsTables t → voters ≤ most_voters
     → IsDecodedFrom t voters (bodies_of_both internal external) (option_and_then (decoded t voters) (held_on (rank_in t voters) body_size internal external))
     × IsDecodedFrom t voters (open_bodies internal) (option_and_then (decoded t voters) (body_alone (rank_in t voters) body_size internal))
 
 -- one state is held at most
 abbrev pub OneIsHeld : Type 0
 OneIsHeld =
-    (t : TablesData) (voters : ℕ) (bodies : List (List ℕ)) (s u : State) → IsTables t → voters ≤ 600
+    (t : TablesData) (voters : ℕ) (bodies : List (List ℕ)) (s u : State) → IsTables t → voters ≤ most_voters
     → Hold t voters bodies s → Hold t voters bodies u → s ≡ u
 
 -- Flashes at rest with a state of a poll are a poll that the next call finds: so is what a load leaves, and a session that is held.

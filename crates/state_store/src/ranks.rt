@@ -1,5 +1,6 @@
 //! The ranks of bodies of a poll.
 ghost use Rattle.std.specs.Prelude.{◌≡◌, ◌≤◌};
+ghost use Rattle.election_tables.specs.Limits.{most_voters};
 ghost use Rattle.election_tables.specs.TablesData.{IsTables};
 
 use election_tables::Tables;
@@ -11,13 +12,13 @@ use twin_image::Ranked;
 pub(crate) struct Ranks<'a> {
     tables: &'a Tables,
     voters: u32,
-    ghost few: { voters ≤ 600 },
+    ghost few: { voters ≤ most_voters },
 }
 
 impl<'a> Ranks<'a> {
     /// The ranks for so many voters, of whom there are at most 600.
     pub(crate) fn of(tables: &'a Tables, voters: u32) -> Ranks<'a>
-        requires { voters ≤ 600 }
+        requires { voters ≤ most_voters }
         ensures tables { result.tables.now ≡ tables.now }
         ensures voters { result.voters ≡ voters }
         ensures whole { IsTables tables.now }

@@ -1,5 +1,6 @@
 //! The memory of a store.
 ghost use Rattle.std.specs.Prelude.{◌≡◌, ◌≤◌, length, IfOk, vec_capacity};
+ghost use Rattle.election_tables.specs.Limits.{most_voters};
 ghost use Rattle.image_codec.specs.Valid.{ready_state};
 ghost use Rattle.state_store.specs.Store.{IsBuffer};
 
@@ -24,7 +25,7 @@ pub(crate) struct Room {
 impl Room {
     /// Room for a poll of these tables and so many voters, and its state before it begins.
     pub(crate) fn new(alloc: Global, tables: &Tables, voters: u32) -> Result<Room, Memory>
-        requires { voters ≤ 600 }
+        requires { voters ≤ most_voters }
         ensures { IfOk result (λ room. room.state ≡ ready_state tables.now voters) }
     {
         Ok(Room {

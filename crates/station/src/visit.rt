@@ -1,5 +1,6 @@
 //! The lines of a ballot in a visit.
 ghost use Rattle.std.specs.Prelude.{◌≡◌, ◌<◌, ◌≤◌, ◌-◌, ◌++◌, IfSome, length, option_map, replicate, slice_get};
+ghost use Rattle.election_tables.specs.Limits.{most_offices};
 ghost use Rattle.vote_kinds.specs.declared.choice.Choice.TheVariants.{Null};
 ghost use Rattle.vote_kinds.specs.Ballot.{ballot_lines, line_of};
 
@@ -14,7 +15,7 @@ pub type Choices = ArrayVec<Choice, 9>;
 #[tactic(auto, using(crate::proofs::Lines::found_line, crate::proofs::Lines::no_line))]
 pub(crate) fn panel_of_line(tables: &Tables, number: usize) -> Option<u32>
     ensures line { option_map (line_of tables.now) result ≡ slice_get (ballot_lines tables.now) number }
-    ensures panel { IfSome result (λ panel. (panel < length tables.now.panels) × (panel ≡ number) × (panel < 8)) }
+    ensures panel { IfSome result (λ panel. (panel < length tables.now.panels) × (panel ≡ number) × (panel < most_offices)) }
 {
     if number < tables.panels() as usize {
         Some(number as u32)

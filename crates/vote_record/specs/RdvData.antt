@@ -1,5 +1,6 @@
 -- What contracts see of the digital vote record
 use Rattle.std.specs.Prelude.{◌≡◌, ℕ, ◌*◌, ◌≤◌, true, List, [], length, replicate, map, slice_get, slice_index, IsSomeAnd}
+use Rattle.election_tables.specs.Limits.{most_voters}
 use Rattle.election_tables.specs.TablesData.{TablesData, places_of}
 use Rattle.vote_kinds.specs.declared.choice.Choice.{Choice}
 use Rattle.vote_kinds.specs.Ballot.{lines_by_panel, is_choice}
@@ -31,7 +32,7 @@ IsVote t panel c = IsSomeAnd (slice_get (lines_by_panel t) panel) (λ line. is_c
 -- Each bag has memory for just every vote that its panel can have, and so have the lists of the bags and of the places for what they
 -- have. So none is taken later. There are at most 600 voters.
 pub record AreReserved (bags : List BagData) (voters : ℕ) (places : List ℕ) (bags_room places_room : ℕ) : Type 0 where
-  pub few : voters ≤ 600
+  pub few : voters ≤ most_voters
   pub rooms : map (λ b. b.room) bags ≡ map (λ n. voters * n) places
   pub bags_reserved : bags_room ≡ length bags
   pub places_reserved : places_room ≡ length places

@@ -1,4 +1,5 @@
 ghost use Rattle.std.specs.Prelude.{◌≡◌, ◌<◌, ◌≤◌, length, IfOk, Some, slice_get};
+ghost use Rattle.election_tables.specs.Limits.{most_voters};
 ghost use Rattle.vote_record.specs.Bag.{IsInOrder, count_of, bag_at};
 ghost use Rattle.vote_record.specs.RdvData.{IsVote, empty_record, room_at, with_vote_in};
 
@@ -36,7 +37,7 @@ impl Rdv {
     /// for as many votes as all voters have there. All its memory is taken here; `Memory` comes only where an allocation
     /// failed.
     pub fn new(alloc: Global, tables: &Tables, voters: u32) -> Result<Rdv, Memory>
-        requires { voters ≤ 600 }
+        requires { voters ≤ most_voters }
         ensures { IfOk result (λ r. r ≡ empty_record tables.now voters) }
     {
         let panels = tables.panels();

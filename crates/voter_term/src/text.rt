@@ -1,4 +1,5 @@
 ghost use Rattle.std.specs.Prelude.{◌≡◌, ◌+◌, ◌<◌, ◌≤◌, ◌++◌, List, Option, None, length, take, drop};
+ghost use Rattle.election_tables.specs.Limits.{longest_name};
 ghost use Rattle.vote_kinds.specs.Ballot.{IsField, line_of};
 ghost use Rattle.voter_term.specs.Screen.{choice_text, field_text, screen_text, shown_choice};
 
@@ -67,9 +68,9 @@ fn push_field(line: &mut LineBuffer, field: Field)
 }
 
 fn push_choice(line: &mut LineBuffer, tables: &Tables, panel: u32, choice: Option<Choice>)
-    requires { length line.old ≤ 20 }
+    requires { length line.old + (11 + longest_name) ≤ 128 }
     ensures choice { line.new ≡ line.old ++ choice_text tables.now panel choice }
-    ensures short { length line.new ≤ length line.old + 81 }
+    ensures short { length line.new ≤ length line.old + (11 + longest_name) }
 {
     match choice {
         None => {}

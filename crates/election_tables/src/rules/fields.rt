@@ -5,6 +5,7 @@ ghost use Rattle.std.specs.Ordering.{int_eq};
 ghost use Rattle.election_tables.specs.Fields.{natural, is_within, is_valid_date, is_name, has_digits, first_two};
 
 use crate::document::Name;
+use crate::limits::LONGEST_NAME;
 
 /// The number, if it isn't negative.
 pub(crate) fn natural(z: i64) -> Option<u64>
@@ -34,12 +35,12 @@ pub(crate) fn is_valid_date(z: i64) -> bool
     }
 }
 
-/// Whether a text is a name: 1 to 70 bytes, none a control byte.
+/// Whether a text is a name: 1 to `LONGEST_NAME` bytes, none a control byte.
 pub(crate) fn is_name(name: &Name) -> bool
     ensures { result ≡ is_name name.now }
 {
     let bytes = name.as_str().as_bytes();
-    1 <= bytes.len() && bytes.len() <= 70 && is_printable(bytes)
+    1 <= bytes.len() && bytes.len() <= LONGEST_NAME && is_printable(bytes)
 }
 
 fn is_printable(bytes: &[u8]) -> bool

@@ -7,14 +7,18 @@ ghost use Rattle.election_tables.specs.Rules.{section_in_range, counts_in_range,
 use super::distinct::pairs_differ;
 use super::fields::{is_name, is_valid_date, is_within};
 use crate::document::{CandidateEntry, Document, PartyEntry, SectionEntry};
+use crate::limits::{
+    GREATEST_PLACE, GREATEST_PROCESS, MOST_CANDIDATES, MOST_OFFICES, MOST_PARTIES, MOST_SECTIONS,
+    MOST_VOTERS,
+};
 use std::alloc::{AllocError, Global};
 
 fn section_in_range(section: &SectionEntry) -> bool
     ensures { result ≡ section_in_range section.now }
 {
-    is_within(section.zone, 1, 9999)
-        && is_within(section.number, 1, 9999)
-        && is_within(section.voters, 1, 600)
+    is_within(section.zone, 1, GREATEST_PLACE)
+        && is_within(section.number, 1, GREATEST_PLACE)
+        && is_within(section.voters, 1, MOST_VOTERS)
 }
 
 fn sections_in_range(sections: &[SectionEntry]) -> bool
@@ -48,15 +52,16 @@ impl Document {
         let offices = self.offices.len();
         let parties = self.parties.len();
         let sections = self.sections.len();
-        (1 <= offices && offices <= 8)
-            && ((1 <= parties && parties <= 40)
-                && (self.candidates.len() <= 4096 && (1 <= sections && sections <= 2000)))
+        (1 <= offices && offices <= MOST_OFFICES)
+            && ((1 <= parties && parties <= MOST_PARTIES)
+                && (self.candidates.len() <= MOST_CANDIDATES
+                    && (1 <= sections && sections <= MOST_SECTIONS)))
     }
 
     fn head_in_range(&self) -> bool
         ensures { result ≡ head_in_range self.now }
     {
-        is_within(self.process, 1, 99999)
+        is_within(self.process, 1, GREATEST_PROCESS)
             && (is_valid_date(self.date) && is_within(self.turn, 1, 2))
     }
 

@@ -1,6 +1,7 @@
 use Rattle.std.proofs.Common.{ℕ, ◌≤◌, List, Option, Err, length, sym, ap, subst, ◌∙◌, arith}
 use Rattle.std.specs.Option.{ForSome}
 use Rattle.urna_outside.proofs.Faults.{faultless_trans}
+use Rattle.election_tables.specs.Limits.{most_voters}
 use Rattle.twin_image.specs.Found.{found_body}
 use Rattle.twin_image.specs.Held.{HoldsBody, NoneStands}
 use Rattle.state_store.specs.Rest.{body_size}
@@ -26,7 +27,7 @@ returns-in-Err-NoImage-clause-fails g c =
     let ranks = c.of-ranks.result in
     let rank = rank_named t ranks.tables.now voters ranks.voters c.of-ranks.ensures.tables (c.of-ranks.ensures.voters ∙ c.len.ensures.count) in
     let none = subst (λ (r : List ℕ → Option ℕ). ForSome (g.M.Machine.told c.args.m.now).flashes (NoneStands r body_size)) (sym rank) (looked _ _ _ c.in-Ok.ensures.done (c.in-Err-NoImage.ensures.none (ap (λ e. Err e) c.in-Err-NoImage.field-0-is))) in
-    let few : voters ≤ 600 = omega (arith, ranks.few, c.of-ranks.ensures.voters, c.len.ensures.count) in
+    let few : voters ≤ most_voters = omega (arith, ranks.few, c.of-ranks.ensures.voters, c.len.ensures.count) in
     let fine = rw c.in-Err-NoImage.field-0-is at c.in-Err-NoImage.ensures.fails in (
       faultless_trans _ _ _ c.in-Ok.ensures.fails fine,
       (

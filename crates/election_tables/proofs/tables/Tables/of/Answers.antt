@@ -1,5 +1,6 @@
 use Rattle.std.proofs.Common.{sym, subst, length, ◌≡◌, arith, rules}
 use Rattle.std.proofs.lemmas.Int.{ints}
+use Rattle.election_tables.specs.Limits.{greatest_process}
 use Rattle.election_tables.specs.Tables.{AreTablesOf}
 use Rattle.election_tables.proofs.Kept.{Kept, kept, process_in_range, date_fits, turn_in_range, offices_fit, candidates_fit, parties_fit, sections_in_range}
 use Rattle.election_tables.proofs.Signs.{within_low, within_high}
@@ -9,13 +10,13 @@ use Rattle.election_tables.proofs.tables.Tables.of.Goals as goal
 pub to_u32-requires-clause-low : goal.to_u32-requires-clause-low
 to_u32-requires-clause-low c =
     let k = subst Kept (sym c.document.view_is) (kept _ c.requires) in
-    let low = within_low 1 99999 c.document.inside.process (process_in_range _ k) in
+    let low = within_low 1 greatest_process c.document.inside.process (process_in_range _ k) in
     omega (arith, ints)
 
 pub to_u32-requires-clause-high : goal.to_u32-requires-clause-high
 to_u32-requires-clause-high c =
     let k = subst Kept (sym c.document.view_is) (kept _ c.requires) in
-    let high = within_high 1 99999 4294967296 c.document.inside.process (process_in_range _ k) (omega arith) in
+    let high = within_high 1 greatest_process 4294967296 c.document.inside.process (process_in_range _ k) (omega arith) in
     omega (arith, ints)
 
 pub to_u32-requires-2-clause-low : goal.to_u32-requires-2-clause-low
