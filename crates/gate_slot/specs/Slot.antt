@@ -4,19 +4,39 @@ use Rattle.urna_outside.specs.Flash.{Op, Put, Sync, Flash, Stably, part}
 use Rattle.urna_outside.specs.Confined.{AreWithin, IsInRange, count_puts, count_syncs}
 use Rattle.urna_outside.specs.declared.device.Dev.{Dev}
 
--- A device is a header of 512 bytes and two slots; a slot is a gate byte, 511 bytes of padding and a body of `size` bytes.
+-- the value of an open gate; every other value counts as shut
+abbrev pub open_gate : ℕ
+open_gate = 0xA5
+
+-- the value that an open gate is shut with
+abbrev pub shut_gate : ℕ
+shut_gate = 0x5A
+
+-- how many bytes a header has
+abbrev pub header_size : ℕ
+header_size = 512
+
+-- how many bytes of padding stand behind a gate
+abbrev pub padding_size : ℕ
+padding_size = 511
+
+-- how many bytes of a slot stand before its body: its gate, which is one byte, and its padding
+abbrev pub front_size : ℕ
+front_size = 1 + padding_size
+
+-- A device is a header and two slots; a slot is a gate, its padding and a body of `size` bytes.
 abbrev pub gate_place : ℕ → ℕ → ℕ
-gate_place size index = 512 + index * (512 + size)
+gate_place size index = header_size + index * (front_size + size)
 
 abbrev pub padding_place : ℕ → ℕ → ℕ
 padding_place size index = gate_place size index + 1
 
 abbrev pub body_place : ℕ → ℕ → ℕ
-body_place size index = gate_place size index + 512
+body_place size index = gate_place size index + front_size
 
 -- how many bytes the header and two slots take
 abbrev pub room : ℕ → ℕ
-room size = 512 + 2 * (512 + size)
+room size = header_size + 2 * (front_size + size)
 
 -- a place of the slot's gate, or of its body
 abbrev pub IsGate : ℕ → ℕ → ℕ → Type 0
@@ -32,13 +52,13 @@ gate_in size index content = slice_index content (gate_place size index)
 abbrev pub body_in : ℕ → ℕ → List ℕ → List ℕ
 body_in size index content = part content (body_place size index) size
 
--- the gate isn't 0xA5, in every image
+-- the gate isn't open, in every image
 abbrev pub IsGateShut : ℕ → ℕ → Flash → Type 0
-IsGateShut size index flash = (gate : ℕ) × (gate ≢ 0xA5) × Stably flash (gate_place size index) (gate ∷ [])
+IsGateShut size index flash = (gate : ℕ) × (gate ≢ open_gate) × Stably flash (gate_place size index) (gate ∷ [])
 
--- the gate is 0xA5, in every image
+-- the gate is open, in every image
 abbrev pub IsGateOpen : ℕ → ℕ → Flash → Type 0
-IsGateOpen size index flash = Stably flash (gate_place size index) (0xA5 ∷ [])
+IsGateOpen size index flash = Stably flash (gate_place size index) (open_gate ∷ [])
 
 -- these bytes are the slot's body, in every image
 abbrev pub HasBody : ℕ → ℕ → List ℕ → Flash → Type 0
@@ -59,10 +79,10 @@ pub record IsOneWrite (d : Dev) (In : ℕ → Type 0) (ops : List Op) : Type 0 w
 
 -- the whole steps: an open gate is shut, a body is written, a gate is opened, and each is synced
 abbrev pub shut_ops : ℕ → Dev → ℕ → List Op
-shut_ops size d index = Put d (gate_place size index) (0x5A ∷ []) ∷ Sync d ∷ []
+shut_ops size d index = Put d (gate_place size index) (shut_gate ∷ []) ∷ Sync d ∷ []
 
 abbrev pub fill_ops : ℕ → Dev → ℕ → List ℕ → List Op
 fill_ops size d index body = Put d (body_place size index) body ∷ Sync d ∷ []
 
 abbrev pub publish_ops : ℕ → Dev → ℕ → List Op
-publish_ops size d index = Put d (gate_place size index) (0xA5 ∷ []) ∷ Sync d ∷ []
+publish_ops size d index = Put d (gate_place size index) (open_gate ∷ []) ∷ Sync d ∷ []

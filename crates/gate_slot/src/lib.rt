@@ -14,4 +14,6 @@ mod tests;
 mod write;
 
 pub use law::facts_survive;
-pub use slot::{Filled, Live, Shut, Slot, Step, Torn, adopt};
+pub use slot::{
+    FRONT_SIZE, Filled, HEADER_SIZE, Live, OPEN, PADDING_SIZE, Shut, Slot, Step, Torn, adopt,
+};

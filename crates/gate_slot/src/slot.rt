@@ -6,18 +6,27 @@ ghost use Rattle.urna_outside.specs.Faults.{FailsAt};
 ghost use Rattle.urna_outside.specs.Told.{Does, Runs, size_of, port_of};
 ghost use Rattle.gate_slot.specs.Device.{OnFlash, KeepsRest};
 ghost use Rattle.gate_slot.specs.Front.{IsFrontOf};
-ghost use Rattle.gate_slot.specs.Slot.{room, IsGate, IsBody, IsGateShut, IsGateOpen, HasBody, IsFilled, IsOneWrite, gate_in, body_in, shut_ops, fill_ops, publish_ops};
+ghost use Rattle.gate_slot.specs.Slot.{room, IsGate, IsBody, IsGateShut, IsGateOpen, HasBody, IsFilled, IsOneWrite, open_gate, gate_in, body_in, shut_ops, fill_ops, publish_ops};
 ghost use Rattle.gate_slot.specs.Token.{slot_of_live, IsTornAt, torn_port};
 ghost use Rattle.gate_slot.specs.declared.slot.Step.TheVariants.{Shutting, Filling, Publishing};
 
 use crate::write::write_through;
 use urna_outside::{Dev, Machine};
 
-// The value of an open gate. Every other value counts as shut.
-const OPEN: u8 = 0xA5;
+/// The value of an open gate. Every other value counts as shut.
+pub const OPEN: u8 = 0xA5;
 
 // The value that an open gate is shut with. It differs from OPEN in every bit.
 const CLOSED: u8 = 0x5A;
+
+/// The bytes of a header, behind which slot 0 begins.
+pub const HEADER_SIZE: usize = 512;
+
+/// The bytes of padding behind a gate.
+pub const PADDING_SIZE: usize = 511;
+
+/// The bytes of a slot before its body: its gate and its padding.
+pub const FRONT_SIZE: usize = 1 + PADDING_SIZE;
 
 /// A slot of a device, 0 or 1, with a body of SIZE bytes. `specs/Slot.antt` says where its gate and body stand.
 #[derive(Clone, Copy, Debug, PartialEq, Eq)]
@@ -72,7 +81,7 @@ impl<const SIZE: usize> Slot<SIZE> {
         requires room { room SIZE ≤ size }
         ensures { result ≡ gate_place SIZE self.now.index }
     {
-        512 + u32::from(self.index) * (512 + SIZE as u32)
+        HEADER_SIZE as u32 + u32::from(self.index) * (FRONT_SIZE + SIZE) as u32
     }
 
     fn body(&self, size: u32) -> u32
@@ -80,10 +89,10 @@ impl<const SIZE: usize> Slot<SIZE> {
         requires room { room SIZE ≤ size }
         ensures { result ≡ body_place SIZE self.now.index }
     {
-        self.gate(size) + 512
+        self.gate(size) + FRONT_SIZE as u32
     }
 
-    /// Where the padding behind the slot's gate begins, on a device of that size: 511 bytes up to the body.
+    /// Where the padding behind the slot's gate begins, on a device of that size: PADDING_SIZE bytes up to the body.
     pub fn padding(&self, size: u32) -> u32
         requires index { self.now.index < 2 }
         requires room { room SIZE ≤ size }
@@ -117,7 +126,7 @@ impl<const SIZE: usize> Slot<SIZE> {
         requires into { length into.old ≡ SIZE }
 
         ensures gate { IfOk result (λ opened. OnFlash self.entry.dev
-            (λ flash. opened ≡ (gate_in SIZE self.entry.index flash.content == 0xA5)) (M.told m.old)) }
+            (λ flash. opened ≡ (gate_in SIZE self.entry.index flash.content == open_gate)) (M.told m.old)) }
         ensures body { IfOk result (λ opened. OnTrue opened (OnFlash self.entry.dev
             (λ flash. into.new ≡ body_in SIZE self.entry.index flash.content) (M.told m.old))) }
 
@@ -160,13 +169,13 @@ impl<const SIZE: usize> Slot<SIZE> {
 
         ensures ran { Runs (IsOneWrite self.entry.dev (IsGate SIZE self.entry.index)) (M.told m.old) (M.told m.new) }
         ensures exact { OnOk result (OnFlash self.entry.dev
-            (λ flash. gate_in SIZE self.entry.index flash.content ≡ 0xA5
+            (λ flash. gate_in SIZE self.entry.index flash.content ≡ open_gate
             → Does (shut_ops SIZE self.entry.dev self.entry.index) (M.told m.old) (M.told m.new))
             (M.told m.old)) }
         // Torn, a front of the step's operations was done.
         ensures cut { OnErr result (Runs (IsFrontOf (shut_ops SIZE self.entry.dev self.entry.index)) (M.told m.old) (M.told m.new)) }
         ensures idle { OnFlash self.entry.dev
-            (λ flash. gate_in SIZE self.entry.index flash.content ≢ 0xA5 → Does [] (M.told m.old) (M.told m.new))
+            (λ flash. gate_in SIZE self.entry.index flash.content ≢ open_gate → Does [] (M.told m.old) (M.told m.new))
             (M.told m.old) }
 
         // Ok or Torn, the body is as before, and every other byte but the gate.
@@ -313,7 +322,7 @@ pub fn adopt<M: Machine, const SIZE: usize>(
     ensures body { IfOk result (λ found. OnSome found (OnFlash slot.entry.dev
         (HasBody SIZE slot.entry.index body.now) (M.told m.old))) }
     ensures other { IfOk result (λ found. IfNone found (OnFlash slot.entry.dev
-        (λ flash. gate_in SIZE slot.entry.index flash.content ≡ 0xA5
+        (λ flash. gate_in SIZE slot.entry.index flash.content ≡ open_gate
         → body_in SIZE slot.entry.index flash.content ≢ body.now)
         (M.told m.old))) }
 

@@ -2,7 +2,7 @@
 use Rattle.std.proofs.Common.{◌≡◌, inl, inr, ℕ, ◌<◌, ◌≤◌, Bool, true, false, cond, eqb, Option, Some, None, List, [], ◌∷◌, ◌++◌, is_some, option_and_then, option_map, unwrap_or, refl, sym, ap, subst, ◌∙◌, arith}
 use Rattle.std.proofs.lemmas.Bool.{cases_lt, lt-ltb, le-ltb}
 use Rattle.urna_outside.specs.Stop.{Left}
-use Rattle.gate_slot.specs.Slot.{gate_in, body_in}
+use Rattle.gate_slot.specs.Slot.{open_gate, gate_in, body_in}
 use Rattle.election_tables.specs.Limits.{most_voters}
 use Rattle.election_tables.specs.TablesData.{IsTables, TablesData}
 use Rattle.image_codec.specs.Decoded.{decoded, rank_in}
@@ -59,7 +59,7 @@ module _ (t : TablesData) (voters : ℕ) where
       go false rest = rest
 
   slot_ranked : (index : ℕ) (image : List ℕ) → bodies_at rank body_size index image ≡ ranked (open_body index image)
-  slot_ranked index image = go (eqb (gate_in body_size index image) 0xA5) (body_in body_size index image)
+  slot_ranked index image = go (eqb (gate_in body_size index image) open_gate) (body_in body_size index image)
     where
       go : (opened : Bool) (body : List ℕ) → cond opened (cond (is_some (rank body)) (body ∷ []) []) [] ≡ ranked (cond opened (body ∷ []) [])
       go true body = refl

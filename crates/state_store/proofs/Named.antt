@@ -10,6 +10,7 @@ use Rattle.urna_outside.specs.declared.device.Dev.TheVariants.{Internal}
 use Rattle.election_tables.specs.Roll.{RollData}
 use Rattle.election_tables.specs.TablesData.{TablesData, IsSection, IsTables, section_with}
 use Rattle.election_tables.specs.declared.tables.sections.Section.{Section}
+use Rattle.gate_slot.specs.Slot.{header_size}
 use Rattle.state_store.specs.Held.{HasFrameOf}
 use Rattle.state_store.specs.Load.{IsSectionOf, header, load_of}
 use Rattle.state_store.proofs.Sections.{found_section}
@@ -20,7 +21,7 @@ names_place : (t : TablesData) (r : RollData) (s : Section)
 unfolding header
 names_place t r s = refl
 
-module _ (c h : List ℕ) (zone number : ℕ) (rest : List ℕ) (there : part c 0 512 ≡ h) (is : drop 9 h ≡ to_be_bytes w32 zone ++ (to_be_bytes w32 number ++ rest)) where
+module _ (c h : List ℕ) (zone number : ℕ) (rest : List ℕ) (there : part c 0 header_size ≡ h) (is : drop 9 h ≡ to_be_bytes w32 zone ++ (to_be_bytes w32 number ++ rest)) where
   behind : take 503 (drop 9 c) ≡ to_be_bytes w32 zone ++ (to_be_bytes w32 number ++ rest)
   behind = sym (drop-take 9 503 c) ∙ ap (drop 9) there ∙ is
 

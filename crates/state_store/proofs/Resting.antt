@@ -4,6 +4,7 @@ use Rattle.urna_outside.specs.Flash.{Op, Flash, Flashes, flash_of, after, shown_
 use Rattle.urna_outside.specs.Stop.{IsStop, Left, AtEachStop}
 use Rattle.urna_outside.specs.declared.device.Dev.{Dev}
 use Rattle.urna_outside.specs.declared.device.Dev.TheVariants.{Internal, External}
+use Rattle.gate_slot.specs.Slot.{header_size}
 use Rattle.twin_image.specs.Frame.{device_image}
 use Rattle.twin_image.specs.Slots.{AreClean, KeepsFrame}
 use Rattle.twin_image.specs.Twin.{HoldsEither}
@@ -28,12 +29,12 @@ pub record IsStored (t : TablesData) (load : Load) (s : State) : Type 0 where
   pub few : load.section.voters ≤ most_voters
   pub known : IsKnown t load.section.voters s
   pub long : length (encode s) ≡ body_size
-  pub headed : (d : Dev) → length (header load d) ≡ 512
+  pub headed : (d : Dev) → length (header load d) ≡ header_size
 
 -- The image of a device
 
 -- both slots of a whole device stand with its body
-whole_holds : (size : ℕ) (head body : List ℕ) → length head ≡ 512 → length body ≡ size → HoldsEither size body body (device_image size head body)
+whole_holds : (size : ℕ) (head body : List ℕ) → length head ≡ header_size → length body ≡ size → HoldsEither size body body (device_image size head body)
 whole_holds size head body head_long body_long =
     let gates = device_gates size head body head_long body_long in
     let bodies = device_bodies size head body head_long body_long in

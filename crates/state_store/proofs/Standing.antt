@@ -5,7 +5,7 @@ use Rattle.std.specs.Option.{ForSome}
 use Rattle.urna_outside.specs.Told.{Told, Sizes, AreSized}
 use Rattle.urna_outside.specs.declared.device.Dev.{Dev}
 use Rattle.urna_outside.proofs.Keeping.{stands_clean}
-use Rattle.gate_slot.specs.Slot.{gate_place, body_place, gate_in, body_in}
+use Rattle.gate_slot.specs.Slot.{open_gate, header_size, gate_place, body_place, gate_in, body_in}
 use Rattle.gate_slot.proofs.Images.{stands_one}
 use Rattle.twin_image.specs.Frame.{HasFrame, padding}
 use Rattle.twin_image.specs.Level.{HasTokens, IsLevel, Stands, body_of}
@@ -30,7 +30,7 @@ roomy sizes devices d = omega (arith, devices d)
 
 -- a live slot, from what reads of a clean device give
 live_read : (f : Flash) (index : ℕ) (body : List ℕ) → IsClean f → gate_place body_size index + 1 ≤ length f.content → body_place body_size index + length body ≤ length f.content
-    → length body ≡ body_size → gate_in body_size index f.content ≡ 0xA5 → body_in body_size index f.content ≡ body → IsLive body_size index body f
+    → length body ≡ body_size → gate_in body_size index f.content ≡ open_gate → body_in body_size index f.content ≡ body → IsLive body_size index body f
 live_read f index body clean gate_fits body_fits long gate there =
     record {
       gate = subst (λ (b : ℕ). Stably f (gate_place body_size index) (b ∷ [])) gate (stands_one f (gate_place body_size index) clean gate_fits);
@@ -42,11 +42,11 @@ module _ (load : Load) (s : State) (sizes : Sizes) (flashes : Flashes) (devices 
   long_content d = sized.content d ∙ devices d
 
   -- a header is what is left of a device
-  header_fits : AreAtRest load s flashes → (d : Dev) → length (header load d) ≡ 512
+  header_fits : AreAtRest load s flashes → (d : Dev) → length (header load d) ≡ header_size
   header_fits rest d =
       let head = header load d in
       let body = encode s in
-      let gate : List ℕ = 0xA5 ∷ padding in
+      let gate : List ℕ = open_gate ∷ padding in
       omega (arith, long_content d, ap length (rest.content d), long, length-padding, length-append (head ++ gate ++ body ++ gate) body, length-append (head ++ gate ++ body) gate, length-append (head ++ gate) body, length-append head gate)
 
   pub rest_framed : AreAtRest load s flashes → AreFramed load flashes

@@ -7,6 +7,7 @@ use Rattle.urna_outside.specs.declared.device.Dev.{Dev}
 use Rattle.election_tables.specs.Limits.{most_voters}
 use Rattle.election_tables.specs.Roll.{RollData}
 use Rattle.election_tables.specs.TablesData.{IsSection, IsTables, TablesData}
+use Rattle.gate_slot.specs.Slot.{header_size}
 use Rattle.image_codec.specs.Encoding.{IsStateOf, encode}
 use Rattle.image_codec.specs.State.{State}
 use Rattle.image_codec.proofs.Decoding.{decoded_back, length-encode, room_of_state}
@@ -23,15 +24,15 @@ few_voters t r load loaded =
     let is : IsSection load.section = All-contains IsSection t.sections load.section loaded.tables.sections loaded.section.listed in
     is.voters.1
 
--- a header has 512 bytes
-long_header : (load : Load) (d : Dev) → length load.tables ≡ 32 → length load.roll ≡ 32 → length (header load d) ≡ 512
+-- how long a header is
+long_header : (load : Load) (d : Dev) → length load.tables ≡ 32 → length load.roll ≡ 32 → length (header load d) ≡ header_size
 unfolding header
 long_header load d tables roll =
     let zeros : List ℕ = replicate 427 0 in
     let few : length zeros ≡ 427 = length-replicate {A = ℕ} 427 0 in
     omega (arith, tables, roll, length-append (load.tables ++ load.roll) zeros, length-append load.tables load.roll, few)
 
-pub header_long : (t : TablesData) (r : RollData) (load : Load) (d : Dev) → IsLoadedWith t r load → length (header load d) ≡ 512
+pub header_long : (t : TablesData) (r : RollData) (load : Load) (d : Dev) → IsLoadedWith t r load → length (header load d) ≡ header_size
 header_long t r load d loaded =
     long_header load d (ap (λ (l : Load). length l.tables) loaded.same ∙ loaded.tables.digest) (ap (λ (l : Load). length l.roll) loaded.same ∙ loaded.roll.digest)
 

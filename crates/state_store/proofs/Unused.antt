@@ -1,7 +1,7 @@
 -- Loading makes no device one in use.
 use Rattle.std.proofs.Common.{◌≡◌, ◌⊎◌, inl, inr, ℕ, List, get_or, take, sym, ap, ◌∙◌, arith, lit≤}
 use Rattle.std.proofs.lemmas.List.{take-take}
-use Rattle.gate_slot.specs.Slot.{body_in}
+use Rattle.gate_slot.specs.Slot.{header_size, body_in}
 use Rattle.twin_image.specs.Lay.{IsEarly, IsLate, IsPublished, LeavesLaid}
 use Rattle.twin_image.specs.Twin.{WasOpen}
 use Rattle.state_store.specs.Rest.{IsInUse, IsUsed, body_size}
@@ -21,7 +21,7 @@ used_before index before image was used =
 early_before : (before image : List ℕ) → IsEarly body_size before image → IsInUse image → IsInUse before
 early_before before image early busy =
     record {
-      begins = sym (take-take 8 512 before (lit≤ tt)) ∙ ap (take 8) (sym early.header) ∙ take-take 8 512 image (lit≤ tt) ∙ busy.begins;
+      begins = sym (take-take 8 header_size before (lit≤ tt)) ∙ ap (take 8) (sym early.header) ∙ take-take 8 header_size image (lit≤ tt) ∙ busy.begins;
       used = either busy.used;
     }
   where

@@ -6,7 +6,7 @@ use Rattle.urna_outside.specs.declared.device.Dev.TheVariants.{Internal, Externa
 use Rattle.election_tables.specs.Roll.{RollData}
 use Rattle.election_tables.specs.TablesData.{TablesData}
 use Rattle.election_tables.specs.declared.tables.sections.Section.{Section}
-use Rattle.gate_slot.specs.Slot.{gate_in, body_in}
+use Rattle.gate_slot.specs.Slot.{open_gate, gate_in, body_in}
 use Rattle.twin_image.specs.Frame.{HasFrame}
 use Rattle.image_codec.specs.Encoding.{IsEncoding, IsNoEncoding}
 use Rattle.image_codec.specs.State.{State, rank_of}
@@ -37,7 +37,7 @@ IsForeign t r External internal external =
 
 -- the body of a slot, if its gate is open
 abbrev pub open_body : ℕ → List ℕ → List (List ℕ)
-open_body index image = if gate_in body_size index image == 0xA5 then body_in body_size index image ∷ [] else []
+open_body index image = if gate_in body_size index image == open_gate then body_in body_size index image ∷ [] else []
 
 -- the bodies of the open slots of an image, in order
 unfoldable pub open_bodies : List ℕ → List (List ℕ)

@@ -24,7 +24,7 @@ abbrev pub device_byte : Dev → ℕ
 device_byte Internal = 1
 device_byte External = 2
 
--- the 512 bytes of a header
+-- the bytes of a header
 unfoldable pub header : Load → Dev → List ℕ
 header load d =
     magic ++ device_byte d ∷ (to_be_bytes w32 load.section.zone ++ to_be_bytes w32 load.section.number ++ to_be_bytes w32 load.section.voters

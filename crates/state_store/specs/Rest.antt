@@ -2,7 +2,7 @@
 use Rattle.std.specs.Prelude.{◌≡◌, ◌⊎◌, ℕ, List, take, slice_index}
 use Rattle.urna_outside.specs.Flash.{Flashes, flash_of, IsClean}
 use Rattle.urna_outside.specs.declared.device.Dev.{Dev}
-use Rattle.gate_slot.specs.Slot.{gate_in, body_in}
+use Rattle.gate_slot.specs.Slot.{open_gate, gate_in, body_in}
 use Rattle.twin_image.specs.Frame.{device_image}
 use Rattle.image_codec.specs.State.{State}
 use Rattle.image_codec.specs.Encoding.{encode}
@@ -28,7 +28,7 @@ pub record AreAtRest (load : Load) (s : State) (flashes : Flashes) : Type 0 wher
 -- the slot is open, and its phase byte is that of a poll that was opened or sealed
 abbrev pub IsUsed : ℕ → List ℕ → Type 0
 IsUsed index content =
-    (gate_in body_size index content ≡ 0xA5)
+    (gate_in body_size index content ≡ open_gate)
     × ((slice_index (body_in body_size index content) 1 ≡ 1) ⊎ (slice_index (body_in body_size index content) 1 ≡ 2))
 
 -- a device in use: it begins with the magic, and one of its slots is used

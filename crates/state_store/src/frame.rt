@@ -7,6 +7,7 @@ ghost use Rattle.urna_outside.specs.Flash.{flash_of, part};
 ghost use Rattle.urna_outside.specs.Told.{Does, port_of, size_of};
 ghost use Rattle.urna_outside.specs.declared.device.Dev.TheVariants as dev;
 ghost use Rattle.election_tables.specs.TablesData.{IsTables, section_with};
+ghost use Rattle.gate_slot.specs.Slot.{header_size};
 ghost use Rattle.twin_image.specs.Frame.{HasFrame};
 ghost use Rattle.urna_outside.specs.declared.device.Dev.{Dev};
 ghost use Rattle.state_store.specs.Held.{AreLoaded, HasFrameOf, HasNoFrame, IsForeign};
@@ -14,25 +15,22 @@ ghost use Rattle.state_store.specs.Looking.{EndsLooking};
 ghost use Rattle.state_store.specs.Load.{IsSectionOf};
 ghost use Rattle.state_store.specs.Rest.{body_size, device_size};
 
-use crate::load::{HEADER_SIZE, header};
+use crate::layout::{FIRST_PADDING, SECOND_PADDING};
+use crate::load::header;
 use election_tables::{Roll, Section, Tables};
+use gate_slot::{HEADER_SIZE, PADDING_SIZE};
 use urna_base::be32;
 use urna_outside::{Dev, Machine};
 
-const PADDING: [u8; 511] = [0; 511];
-
-/// Where the padding behind the gate of slot 0 begins, and that of slot 1.
-const FIRST_PADDING: u32 = 513;
-
-const SECOND_PADDING: u32 = 66_561;
+const PADDING: [u8; PADDING_SIZE] = [0; PADDING_SIZE];
 
 /// Where the zone and the section stand in a header, in four bytes each.
 const ZONE: u32 = 9;
 
-/// Whether these bytes, of which there are at most 512, stand on a device from a place on. It reads and does nothing else.
+/// Whether these bytes, at most as many as a header has, stand on a device from a place on. It reads and does nothing else.
 pub(crate) fn stand_at<M: Machine>(m: &mut M, dev: Dev, at: u32, bytes: &[u8]) -> Result<bool, Dev>
     requires range { at + length bytes.now ≤ size_of dev (M.told m.old).sizes }
-    requires short { length bytes.now ≤ 512 }
+    requires short { length bytes.now ≤ header_size }
     ensures stand { IfOk result (λ stand. ForSome (M.told m.old).flashes
         (λ flashes. IsTrue stand ↔ (part (flash_of dev flashes).content at (length bytes.now) ≡ bytes.now))) }
     ensures dev { IfErr result (λ failed. failed ≡ dev) }
@@ -49,7 +47,7 @@ pub(crate) fn stand_at<M: Machine>(m: &mut M, dev: Dev, at: u32, bytes: &[u8]) -
 
 /// Whether a device has this header, and zeros behind both gates. It reads and does nothing else.
 #[tactic(auto, using(crate::proofs::Looking::looked, crate::proofs::Looking::looked_twice, urna_outside::proofs::Faults::fails_later))]
-fn has_frame<M: Machine>(m: &mut M, dev: Dev, header: &[u8; 512]) -> Result<bool, Dev>
+fn has_frame<M: Machine>(m: &mut M, dev: Dev, header: &[u8; HEADER_SIZE]) -> Result<bool, Dev>
     requires { size_of dev (M.told m.old).sizes ≡ device_size }
     ensures frame { IfOk result (λ has. ForSome (M.told m.old).flashes
         (λ flashes. IsTrue has ↔ HasFrame body_size header.now (flash_of dev flashes).content)) }

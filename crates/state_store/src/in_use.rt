@@ -10,19 +10,11 @@ ghost use Rattle.state_store.specs.Store.{AreDevices};
 ghost use Rattle.state_store.specs.Rest.{IsInUse, IsUsed, device_size};
 
 use crate::frame::stand_at;
+use crate::layout::{FIRST_GATE, PHASE, SLOT_SIZE};
 use crate::load::MAGIC;
 use crate::store::LoadError;
+use gate_slot::OPEN;
 use urna_outside::{Dev, Machine};
-
-const OPEN: u8 = 0xA5;
-
-/// Where the gate of slot 0 stands, and how far behind it that of slot 1.
-const FIRST_GATE: u32 = 512;
-
-const SLOT_SIZE: u32 = 66_048;
-
-/// How far behind a gate the phase byte of its slot's body stands.
-const PHASE: u32 = 513;
 
 /// The byte of a device at a place.
 #[tactic(auto, using(crate::proofs::Bytes::only_byte))]

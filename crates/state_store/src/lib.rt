@@ -10,6 +10,7 @@ mod find;
 mod frame;
 mod in_use;
 pub mod laws;
+mod layout;
 mod load;
 mod ranks;
 mod room;

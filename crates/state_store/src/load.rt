@@ -4,11 +4,9 @@ ghost use Rattle.state_store.specs.Load.{device_byte, header, load_of, magic};
 
 use arrayvec::ArrayVec;
 use election_tables::{Roll, Section, Tables};
+use gate_slot::HEADER_SIZE;
 use urna_base::put_be32;
 use urna_outside::Dev;
-
-/// The bytes of a header.
-pub(crate) const HEADER_SIZE: usize = 512;
 
 /// The eight bytes with which each header begins.
 pub(crate) const MAGIC: [u8; 8] = *b"URNAU1\0\0";
@@ -35,10 +33,10 @@ impl Load {
 
     /// The header of a device with this load (docs/FORMATS.md, "Flash layout").
     #[tactic(auto, unfolding(crate::specs::Load::header))]
-    pub(crate) fn header(&self, dev: Dev) -> [u8; 512]
+    pub(crate) fn header(&self, dev: Dev) -> [u8; HEADER_SIZE]
         ensures { result ≡ header self.now dev }
     {
-        let mut bytes = ArrayVec::<u8, 512>::new();
+        let mut bytes = ArrayVec::<u8, HEADER_SIZE>::new();
         bytes.try_extend_from_slice(&MAGIC).unwrap();
         bytes.try_push(device_byte(dev)).unwrap();
         bytes
@@ -58,7 +56,7 @@ impl Load {
 }
 
 /// The header of a device that is loaded with these tables and this roll for a section.
-pub fn header(tables: &Tables, roll: &Roll, section: Section, dev: Dev) -> [u8; 512]
+pub fn header(tables: &Tables, roll: &Roll, section: Section, dev: Dev) -> [u8; HEADER_SIZE]
     ensures { result ≡ header (load_of tables.now roll.now section) dev }
 {
     Load::of(tables, roll, section).header(dev)

@@ -6,14 +6,14 @@ use Rattle.urna_outside.specs.Stop.{Left, left_on}
 use Rattle.urna_outside.specs.Told.{Told}
 use Rattle.urna_outside.specs.declared.device.Dev.{Dev}
 use Rattle.urna_outside.specs.declared.device.Dev.TheVariants.{Internal, External}
-use Rattle.gate_slot.specs.Slot.{gate_in, body_in}
+use Rattle.gate_slot.specs.Slot.{open_gate, gate_in, body_in}
 use Rattle.twin_image.specs.Held.{HoldsBody, held_by_both}
 use Rattle.twin_image.specs.Slots.{SlotCourse}
 use Rattle.twin_image.specs.Twin.{IsOfSlot, IsOfTwin, TurnsTo, turning_ops}
 
 -- A slot that was open with this body is so in this image. Any other is brought to the body.
 pub record MendsTo (size index : ℕ) (body before image : List ℕ) : Type 0 where
-  pub live : gate_in size index before ≡ 0xA5 → body_in size index before ≡ body → (gate_in size index image ≡ 0xA5) × (body_in size index image ≡ body)
+  pub live : gate_in size index before ≡ open_gate → body_in size index before ≡ body → (gate_in size index image ≡ open_gate) × (body_in size index image ≡ body)
   pub turns : TurnsTo size index body before image
 
 -- what a call does that mends one slot
@@ -24,8 +24,8 @@ Mends told d size index body =
 -- All that mending a slot does over this content: nothing where it is open with the body, else a turn.
 abbrev pub IsMend : ℕ → Dev → ℕ → List ℕ → List ℕ → List Op → Type 0
 IsMend size d index body content ops =
-    ((gate_in size index content ≡ 0xA5) × (body_in size index content ≡ body) × (ops ≡ []))
-    ⊎ ((gate_in size index content ≡ 0xA5 → body_in size index content ≢ body) × (ops ≡ turning_ops size d index body content))
+    ((gate_in size index content ≡ open_gate) × (body_in size index content ≡ body) × (ops ≡ []))
+    ⊎ ((gate_in size index content ≡ open_gate → body_in size index content ≢ body) × (ops ≡ turning_ops size d index body content))
 
 -- slot 0 is mended, and then slot 1
 pub record AreMends (size : ℕ) (d : Dev) (body content : List ℕ) (ops : List Op) : Type 0 where

@@ -4,12 +4,12 @@ use Rattle.std.specs.List.{AllByRecursion}
 use Rattle.urna_outside.specs.Flash.{Flashes, flash_of}
 use Rattle.urna_outside.specs.Stop.{Left}
 use Rattle.urna_outside.specs.declared.device.Dev.{Dev}
-use Rattle.gate_slot.specs.Slot.{gate_in, body_in}
+use Rattle.gate_slot.specs.Slot.{open_gate, gate_in, body_in}
 
 -- the body of a slot, if the slot stands: its gate is open, and its body has a rank
 abbrev pub bodies_at : (List ℕ → Option ℕ) → ℕ → ℕ → List ℕ → List (List ℕ)
 bodies_at rank size index image =
-    if gate_in size index image == 0xA5 then (if is_some (rank (body_in size index image)) then body_in size index image ∷ [] else []) else []
+    if gate_in size index image == open_gate then (if is_some (rank (body_in size index image)) then body_in size index image ∷ [] else []) else []
 
 -- the bodies of the slots that stand in an image
 abbrev pub bodies_on : (List ℕ → Option ℕ) → ℕ → List ℕ → List (List ℕ)

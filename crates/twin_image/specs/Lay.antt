@@ -7,7 +7,7 @@ use Rattle.urna_outside.specs.Stop.{left_on}
 use Rattle.urna_outside.specs.Told.{Told, Sizes, size_of}
 use Rattle.urna_outside.specs.declared.device.Dev.{Dev}
 use Rattle.urna_outside.specs.declared.device.Dev.TheVariants.{Internal, External}
-use Rattle.gate_slot.specs.Slot.{room, IsGate, IsBody, gate_in, body_in, padding_place, fill_ops, publish_ops}
+use Rattle.gate_slot.specs.Slot.{room, open_gate, header_size, IsGate, IsBody, gate_in, body_in, padding_place, fill_ops, publish_ops}
 use Rattle.twin_image.specs.Frame.{HasFrame, device_image, padding}
 use Rattle.twin_image.specs.Twin.{WasOpen, shutting_ops}
 
@@ -57,14 +57,14 @@ pub record WritesOnly (d : Dev) (In : ℕ → Type 0) (most : ℕ) (ops : List O
 
 -- the header is as before, and no slot is open that wasn't
 pub record IsEarly (size : ℕ) (before image : List ℕ) : Type 0 where
-  pub header : part image 0 512 ≡ part before 0 512
+  pub header : part image 0 header_size ≡ part before 0 header_size
   pub first : WasOpen size 0 before image
   pub second : WasOpen size 1 before image
 
 -- if the slot is open in this image, it has the body, and the frame is whole
 abbrev pub IsPublished : ℕ → ℕ → List ℕ → List ℕ → List ℕ → Type 0
 IsPublished size index header body image =
-    gate_in size index image ≡ 0xA5 → (body_in size index image ≡ body) × HasFrame size header image
+    gate_in size index image ≡ open_gate → (body_in size index image ≡ body) × HasFrame size header image
 
 pub record IsLate (size : ℕ) (header body image : List ℕ) : Type 0 where
   pub first : IsPublished size 0 header body image

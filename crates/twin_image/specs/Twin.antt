@@ -5,7 +5,7 @@ use Rattle.urna_outside.specs.Stage.{Stage}
 use Rattle.urna_outside.specs.Stop.{left_on}
 use Rattle.urna_outside.specs.Told.{Told}
 use Rattle.urna_outside.specs.declared.device.Dev.{Dev}
-use Rattle.gate_slot.specs.Slot.{IsGate, IsBody, IsGateOpen, IsGateShut, HasBody, gate_in, body_in, shut_ops, fill_ops, publish_ops}
+use Rattle.gate_slot.specs.Slot.{open_gate, IsGate, IsBody, IsGateOpen, IsGateShut, HasBody, gate_in, body_in, shut_ops, fill_ops, publish_ops}
 use Rattle.gate_slot.specs.declared.slot.Step.{Step}
 use Rattle.gate_slot.specs.declared.slot.Step.TheVariants.{Shutting, Filling, Publishing}
 
@@ -29,7 +29,7 @@ pub record IsTwin (size : ℕ) (body : List ℕ) (flash : Flash) : Type 0 where
 
 -- over this content: an open gate is shut, and any other is left alone
 abbrev pub shutting_ops : ℕ → Dev → ℕ → List ℕ → List Op
-shutting_ops size d index content = if gate_in size index content == 0xA5 then shut_ops size d index else []
+shutting_ops size d index content = if gate_in size index content == open_gate then shut_ops size d index else []
 
 -- and the slot is filled and published
 abbrev pub turning_ops : ℕ → Dev → ℕ → List ℕ → List ℕ → List Op
@@ -45,12 +45,12 @@ StepLeaves Publishing size index old new flash = HasBody size index new flash
 -- if the slot is open in this image, it was open before and has the body that it had
 abbrev pub WasOpen : ℕ → ℕ → List ℕ → List ℕ → Type 0
 WasOpen size index before image =
-    gate_in size index image ≡ 0xA5 → (body_in size index image ≡ body_in size index before) × (gate_in size index before ≡ 0xA5)
+    gate_in size index image ≡ open_gate → (body_in size index image ≡ body_in size index before) × (gate_in size index before ≡ open_gate)
 
 -- if the slot is open in this image, it has the new body, or was open before and has the body that it had
 abbrev pub TurnsTo : ℕ → ℕ → List ℕ → List ℕ → List ℕ → Type 0
 TurnsTo size index new before image =
-    gate_in size index image ≡ 0xA5 → (body_in size index image ≡ new) ⊎ ((body_in size index image ≡ body_in size index before) × (gate_in size index before ≡ 0xA5))
+    gate_in size index image ≡ open_gate → (body_in size index image ≡ new) ⊎ ((body_in size index image ≡ body_in size index before) × (gate_in size index before ≡ open_gate))
 
 -- what a call does that brings one slot to a new body
 abbrev pub Turns : Told → Dev → ℕ → ℕ → List ℕ → List Op → Type 0
@@ -60,13 +60,13 @@ Turns told d size index new =
 -- the slot is shut in this image, or has one of these bodies
 abbrev pub IsOldOrNew : ℕ → ℕ → List ℕ → List ℕ → List ℕ → Type 0
 IsOldOrNew size index old new image =
-    gate_in size index image ≡ 0xA5 → (body_in size index image ≡ old) ⊎ (body_in size index image ≡ new)
+    gate_in size index image ≡ open_gate → (body_in size index image ≡ old) ⊎ (body_in size index image ≡ new)
 
 -- each slot is so, and one is open at least
 pub record HoldsEither (size : ℕ) (old new image : List ℕ) : Type 0 where
   pub first : IsOldOrNew size 0 old new image
   pub second : IsOldOrNew size 1 old new image
-  pub open_one : (gate_in size 0 image ≡ 0xA5) ⊎ (gate_in size 1 image ≡ 0xA5)
+  pub open_one : (gate_in size 0 image ≡ open_gate) ⊎ (gate_in size 1 image ≡ open_gate)
 
 -- what a call does that renews the twins of a device
 abbrev pub Renews : Told → Dev → ℕ → List ℕ → List ℕ → List Op → Type 0

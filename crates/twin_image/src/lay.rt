@@ -7,14 +7,14 @@ ghost use Rattle.urna_outside.specs.Stop.{left_on};
 ghost use Rattle.urna_outside.specs.Told.{Does, Runs, port_of, size_of};
 ghost use Rattle.gate_slot.specs.Device.{OnFlash};
 ghost use Rattle.gate_slot.specs.Front.{IsFrontOf};
-ghost use Rattle.gate_slot.specs.Slot.{fill_ops, publish_ops, room};
+ghost use Rattle.gate_slot.specs.Slot.{fill_ops, header_size, publish_ops, room};
 ghost use Rattle.gate_slot.specs.Token.{slot_of_shut, slot_of_filled, torn_port};
 ghost use Rattle.twin_image.specs.Frame.{FrameStands, IsOfFrame, padding};
 ghost use Rattle.twin_image.specs.Lay.{IsEarly, IsOfBodies, IsOfGates, LaysOn, WritesOnly, frame_ops, lay_ops};
 ghost use Rattle.twin_image.specs.Pair.{AreFilled, AreOf, AreOpen, AreShut, AreSlots, HaveBody};
 ghost use Rattle.twin_image.specs.Twin.{IsOfTwin, IsTwin, shutting_ops};
 
-use gate_slot::{Filled, Live, Shut, Slot, Torn};
+use gate_slot::{Filled, Live, PADDING_SIZE, Shut, Slot, Torn};
 use urna_outside::{Dev, Failed, Machine};
 
 // Shuts both slots of a device.
@@ -77,10 +77,10 @@ fn fill_both<M: Machine, const SIZE: usize>(
 }
 
 // The bytes behind a gate.
-fn zeros() -> [u8; 511]
+fn zeros() -> [u8; PADDING_SIZE]
     ensures { result ≡ padding }
 {
-    [0; 511]
+    [0; PADDING_SIZE]
 }
 
 // Writes the frame of a device and syncs it.
@@ -90,7 +90,7 @@ fn write_frame<M: Machine, const SIZE: usize>(
     header: &[u8],
 ) -> Result<(), Failed>
     requires room { room SIZE ≤ size_of dev (M.told m.old).sizes }
-    requires header { length header.now ≡ 512 }
+    requires header { length header.now ≡ header_size }
 
     ensures stands { OnOk result (OnFlash dev (FrameStands SIZE header.now) (M.told m.new)) }
     ensures exact { OnOk result (Does (frame_ops SIZE dev header.now) (M.told m.old) (M.told m.new)) }
@@ -142,7 +142,7 @@ pub(crate) fn lay_on<M: Machine, const SIZE: usize>(
 ) -> Result<(Live<SIZE>, Live<SIZE>), Dev>
     requires room { room SIZE ≤ size_of dev (M.told m.old).sizes }
     requires clean { OnFlash dev IsClean (M.told m.old) }
-    requires header { length header.now ≡ 512 }
+    requires header { length header.now ≡ header_size }
     requires body { length body.now ≡ SIZE }
 
     ensures pair { IfOk result (λ lives. AreOf dev lives.0 lives.1) }

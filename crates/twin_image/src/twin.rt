@@ -25,6 +25,7 @@ impl<const SIZE: usize> Twin<SIZE> {
     ghost use Rattle.urna_outside.specs.Faults.{FailsAt};
     ghost use Rattle.urna_outside.specs.Told.{Does, Runs, port_of};
     ghost use Rattle.gate_slot.specs.Front.{IsFrontOf};
+    ghost use Rattle.gate_slot.specs.Slot.{header_size};
     ghost use Rattle.twin_image.specs.Found.{found_body};
     ghost use Rattle.twin_image.specs.Held.{HoldsBody, NoneStands};
     ghost use Rattle.twin_image.specs.Lay.{AreFull, AreLaid, Lays, load_ops};
@@ -79,7 +80,7 @@ impl<const SIZE: usize> Twin<SIZE> {
         }
     }
 
-    /// Loads both devices, internal first, each with its header of 512 bytes: both slots are shut, both are filled
+    /// Loads both devices, internal first, each with its header of HEADER_SIZE bytes: both slots are shut, both are filled
     /// with the body, the header and the zeros behind the gates are written and synced, and both slots are published.
     ///
     /// The caller owes that nothing is dirty, that each device is just a header and two slots, and that the body has
@@ -94,8 +95,8 @@ impl<const SIZE: usize> Twin<SIZE> {
     ) -> Result<Level<SIZE>, Dev>
         requires full { AreFull SIZE (M.told m.old).sizes }
         requires clean { ForSome (M.told m.old).flashes AreClean }
-        requires internal { length internal.now ≡ 512 }
-        requires external { length external.now ≡ 512 }
+        requires internal { length internal.now ≡ header_size }
+        requires external { length external.now ≡ header_size }
         requires body { length body.now ≡ SIZE }
 
         ensures level { IfOk result (λ level. Stands (M.told m.new) level) }
