@@ -7,6 +7,7 @@ use Rattle.vote_kinds.specs.declared.choice.Choice.{Choice}
 use Rattle.vote_kinds.specs.Ballot.{BallotLine, ballot_lines, is_choice, line_of}
 use Rattle.vote_record.specs.Bag.{bag_at, count_of}
 use Rattle.turnout.specs.Turnout.{has_come, number_came}
+use Rattle.image_codec.specs.Layout.{body_size}
 use Rattle.image_codec.specs.State.{State, opened_at, with_ballot, sealed_at, MayVote, IsBallot}
 use Rattle.image_codec.specs.Valid.{ready_state, MayClose}
 use Rattle.image_codec.specs.Encoding.{IsStateOf, IsEncoding, encode, written}
@@ -25,7 +26,7 @@ abbrev pub HasRoomInBody : Type 0
 HasRoomInBody = (t : TablesData) (voters : ℕ) (s : State) → IsTables t → voters ≤ most_voters → IsStateOf t voters s → length (written s) ≤ 24130
 
 abbrev pub IsBodyLong : Type 0
-IsBodyLong = (t : TablesData) (voters : ℕ) (s : State) → IsTables t → voters ≤ most_voters → IsStateOf t voters s → length (encode s) ≡ 65536
+IsBodyLong = (t : TablesData) (voters : ℕ) (s : State) → IsTables t → voters ≤ most_voters → IsStateOf t voters s → length (encode s) ≡ body_size
 
 -- a state of some tables has a bag for each panel, and in it as many votes as voters came, times the places of the panel
 

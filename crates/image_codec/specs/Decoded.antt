@@ -13,6 +13,7 @@ use Rattle.vote_kinds.specs.Choice.{choice_le, choice_with}
 use Rattle.turnout.specs.Turnout.{number_came}
 use Rattle.turnout.specs.declared.phase.Phase.{Phase}
 use Rattle.turnout.specs.declared.phase.Phase.TheVariants as phase
+use Rattle.image_codec.specs.Layout.{body_size, closing_place, count_place, head_size, opening_place, panels_place, phase_place, turnout_place, turnout_size, version}
 use Rattle.image_codec.specs.State.{State, rank_of}
 
 -- the numbers that four and eight bytes from a place on write
@@ -54,7 +55,7 @@ has_no_more voters field = list_all (λ place. not (is_marked field place)) (ran
 
 -- the bytes of the turnout
 abbrev pub turnout_of : List ℕ → List ℕ
-turnout_of bytes = take 75 (drop 22 bytes)
+turnout_of bytes = take turnout_size (drop turnout_place bytes)
 
 -- The votes
 
@@ -81,29 +82,29 @@ bags_in (line ∷ lines) n bytes =
 
 -- The whole body
 
--- the version is 1, so many came, none of them past the roll, and there are so many panels
+-- the version is that of the image, so many came, none of them past the roll, and there are so many panels
 unfoldable pub has_counts : ℕ → ℕ → ℕ → List ℕ → Bool
 has_counts voters n panels bytes =
-    slice_index bytes 0 == 1 && number4_at bytes 18 == n && has_no_more voters (turnout_of bytes) && slice_index bytes 97 == panels
+    slice_index bytes 0 == version && number4_at bytes count_place == n && has_no_more voters (turnout_of bytes) && slice_index bytes panels_place == panels
 
 -- the phase, if all that stands before the bags is as it is written
 unfoldable pub phase_in : ℕ → ℕ → List ℕ → Option Phase
 phase_in voters panels bytes =
     let n : ℕ = number_came (marks_in voters (turnout_of bytes)) in
     if has_counts voters n panels bytes
-    then option_and_then (λ p. if is_started p n then Some p else None) (phase_with (slice_index bytes 1) (number8_at bytes 2) (number8_at bytes 10))
+    then option_and_then (λ p. if is_started p n then Some p else None) (phase_with (slice_index bytes phase_place) (number8_at bytes opening_place) (number8_at bytes closing_place))
     else None
 
--- 65,536 bytes
+-- as many bytes as a body has
 abbrev pub is_body : List ℕ → Bool
-is_body bytes = length bytes == 65536 && list_all (λ b. nat_lt b 256) bytes
+is_body bytes = length bytes == body_size && list_all (λ b. nat_lt b 256) bytes
 
 -- the state of a poll of these tables and so many voters that has this encoding
 unfoldable pub decoded : TablesData → ℕ → List ℕ → Option State
 decoded t voters bytes =
     let came : List Bool = marks_in voters (turnout_of bytes) in
     if is_body bytes
-    then option_and_then (λ p. option_map (λ bags. record { phase = p; came = came; places = places_of t; bags = bags }) (bags_in (lines_by_panel t) (number_came came) (drop 98 bytes)))
+    then option_and_then (λ p. option_map (λ bags. record { phase = p; came = came; places = places_of t; bags = bags }) (bags_in (lines_by_panel t) (number_came came) (drop head_size bytes)))
     (phase_in voters (length t.panels) bytes)
     else None
 

@@ -9,6 +9,7 @@ use Rattle.vote_kinds.specs.Choice.{kind_of, number_of}
 use Rattle.turnout.specs.Turnout.{has_come, number_came}
 use Rattle.turnout.specs.declared.phase.Phase.{Phase}
 use Rattle.turnout.specs.declared.phase.Phase.TheVariants as phase
+use Rattle.image_codec.specs.Layout.{body_size, turnout_size, version}
 use Rattle.image_codec.specs.State.{State, rank_of}
 use Rattle.image_codec.specs.Valid.{IsValid, HasChoices}
 
@@ -54,14 +55,14 @@ eight_places came p =
     bit_at came p 128 + bit_at came (p + 1) 64 + bit_at came (p + 2) 32 + bit_at came (p + 3) 16 + bit_at came (p + 4) 8
     + bit_at came (p + 5) 4 + bit_at came (p + 6) 2 + bit_at came (p + 7) 1
 
--- who came: 75 bytes, for 600 places; the bits of places past the roll are 0
+-- who came: a bit for each of 600 places; the bits of places past the roll are 0
 unfoldable pub turnout_bytes : List Bool → List ℕ
-turnout_bytes came = map (λ k. eight_places came (8 * k)) (range_with_len 0 75)
+turnout_bytes came = map (λ k. eight_places came (8 * k)) (range_with_len 0 turnout_size)
 
 -- the version, the phase, the two moments, how many came, who came, and how many panels there are
 abbrev pub head_bytes : State → List ℕ
 head_bytes s =
-    1 ∷ phase_byte s.phase ∷ (to_be_bytes w64 (opening_in s.phase) ++ to_be_bytes w64 (closing_in s.phase)
+    version ∷ phase_byte s.phase ∷ (to_be_bytes w64 (opening_in s.phase) ++ to_be_bytes w64 (closing_in s.phase)
     ++ to_be_bytes w32 (number_came s.came) ++ turnout_bytes s.came ++ length s.bags ∷ [])
 
 -- all that is written of a state
@@ -70,7 +71,7 @@ written s = head_bytes s ++ flat_map bag_bytes s.bags
 
 -- the body of a slot: what is written, and zeros
 unfoldable pub encode : State → List ℕ
-encode s = written s ++ replicate (65536 - length (written s)) 0
+encode s = written s ++ replicate (body_size - length (written s)) 0
 
 -- these bytes are the encoding of a state of a poll of these tables
 pub record IsEncoding (t : TablesData) (voters : ℕ) (s : State) (bytes : List ℕ) : Type 0 where

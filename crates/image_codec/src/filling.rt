@@ -6,16 +6,17 @@ ghost use Rattle.vote_kinds.specs.Ballot.{lines_by_panel, line_of};
 ghost use Rattle.vote_record.specs.Bag.{bag_at};
 ghost use Rattle.vote_record.specs.RdvData.{room_at};
 ghost use Rattle.image_codec.specs.Decoded.{marks_in, bag_in, bags_in};
+ghost use Rattle.image_codec.specs.Layout.{turnout_size};
 
 use crate::reading::{is_marked, vote_at};
 use election_tables::Tables;
 use turnout::Turnout;
 use vote_record::Rdv;
 
-/// Marks whom the 75 bytes of the turnout mark. The caller owes that nobody came yet.
+/// Marks whom the bytes of the turnout mark. The caller owes that nobody came yet.
 pub(crate) fn fill_turnout(turnout: &mut Turnout, field: &[u8])
     requires nobody { turnout.old ≡ replicate (length turnout.old) false }
-    requires field { length field.now ≡ 75 }
+    requires field { length field.now ≡ turnout_size }
     ensures { turnout.new ≡ marks_in (length turnout.old) field.now }
 {
     for place in 0..turnout.voters() {

@@ -6,15 +6,18 @@
 //! what is so of every state, and `laws` that ballots may come in any order.
 //!
 //! `encode_into` writes a state, `rank_of`, `State::load` and `decode` read one. `specs/Encoding.antt` says how a state is
-//! written; the reading calls accept exactly that, and `laws` that no two states have one encoding.
+//! written, and `specs/Layout.antt` where each field stands; the reading calls accept exactly that, and `laws` that no two
+//! states have one encoding.
 #![tactic(auto)]
 
 mod filling;
 pub mod laws;
+mod layout;
 mod reading;
 mod state;
 mod writing;
 
+pub use layout::{BODY_SIZE, PHASE_PLACE};
 pub use reading::rank_of;
 pub use state::{State, decode};
 pub use writing::encode_into;

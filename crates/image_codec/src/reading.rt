@@ -10,21 +10,17 @@ ghost use Rattle.vote_kinds.specs.Ballot.{lines_by_panel, line_of};
 ghost use Rattle.image_codec.specs.Decoded.{number4_at, number8_at, phase_with, is_started, is_marked, marks_in, has_no_more, turnout_of, has_counts, vote_in, votes_in, bag_in, bags_in, phase_in, decoded, rank_in};
 ghost use Rattle.image_codec.specs.Encoding.{IsRankOf, IsNoEncoding};
 ghost use Rattle.image_codec.specs.Head.{head_of};
+ghost use Rattle.image_codec.specs.Layout.{body_size, head_size, turnout_size};
 
+use crate::layout::{
+    BODY_SIZE, CLOSING_PLACE, COUNT_PLACE, HEAD_SIZE, OPENING_PLACE, PANELS_PLACE, PHASE_PLACE,
+    TURNOUT_PLACE, VERSION,
+};
 use crate::state::rank_with;
 use election_tables::Tables;
 use turnout::Phase;
 use urna_base::{be32, be64, moment_ok};
 use vote_kinds::{Choice, is_choice};
-
-// How long a body is.
-const BODY: usize = 65_536;
-
-// The version of the image.
-pub(crate) const VERSION: u8 = 1;
-
-// Where the bags begin.
-pub(crate) const BAGS: usize = 98;
 
 /// What stands before the bags.
 #[derive(Clone, Copy, Debug, PartialEq, Eq)]
@@ -82,9 +78,9 @@ fn is_started(phase: Phase, came: u32) -> bool
     }
 }
 
-/// Whether a place is marked, in the 75 bytes of the turnout.
+/// Whether a place is marked, in the bytes of the turnout.
 pub(crate) fn is_marked(field: &[u8], place: u32) -> bool
-    requires field { length field.now ≡ 75 }
+    requires field { length field.now ≡ turnout_size }
     requires place { place < 600 }
     ensures { result ≡ is_marked field.now place }
 {
@@ -94,7 +90,7 @@ pub(crate) fn is_marked(field: &[u8], place: u32) -> bool
 // How many voters of the roll are marked.
 #[tactic(auto, using(crate::proofs::ReadParts::marks_none, crate::proofs::ReadParts::count_more))]
 fn count_marks(field: &[u8], voters: u32) -> u32
-    requires field { length field.now ≡ 75 }
+    requires field { length field.now ≡ turnout_size }
     requires few { voters ≤ most_voters }
     ensures { result ≡ number_came (marks_in voters field.now) }
 {
@@ -110,7 +106,7 @@ fn count_marks(field: &[u8], voters: u32) -> u32
 // Whether no place past the roll is marked.
 #[tactic(auto, using(crate::proofs::ReadParts::no_more_from, crate::proofs::ReadParts::no_more_ends))]
 fn has_no_more(field: &[u8], voters: u32) -> bool
-    requires field { length field.now ≡ 75 }
+    requires field { length field.now ≡ turnout_size }
     requires few { voters ≤ most_voters }
     ensures { result ≡ has_no_more voters field.now }
 {
@@ -190,32 +186,36 @@ fn is_zero(bytes: &[u8]) -> bool
     bytes.iter().all(|byte| *byte == 0)
 }
 
-// Whether the version is 1, so many came, none of them past the roll, and there are so many panels.
+// Whether the version is that of the image, so many came, none of them past the roll, and there are so many panels.
 #[tactic(auto, unfolding(crate::specs::Decoded::has_counts))]
 fn has_counts(voters: u32, came: u32, panels: u32, bytes: &[u8]) -> bool
     requires few { voters ≤ most_voters }
-    requires bytes { BAGS ≤ length bytes.now }
+    requires bytes { head_size ≤ length bytes.now }
     ensures { result ≡ has_counts voters came panels bytes.now }
 {
     bytes[0] == VERSION
-        && number4_at(bytes, 18) == came
-        && has_no_more(&bytes[22..97], voters)
-        && u32::from(bytes[97]) == panels
+        && number4_at(bytes, COUNT_PLACE) == came
+        && has_no_more(&bytes[TURNOUT_PLACE..PANELS_PLACE], voters)
+        && u32::from(bytes[PANELS_PLACE]) == panels
 }
 
 // What stands before the bags, if all of it is as it is written.
 #[tactic(auto, unfolding(crate::specs::Decoded::phase_in))]
 fn head_in(voters: u32, panels: u32, bytes: &[u8]) -> Option<Head>
     requires few { voters ≤ most_voters }
-    requires bytes { BAGS ≤ length bytes.now }
+    requires bytes { head_size ≤ length bytes.now }
     ensures phase { option_map (λ h. h.phase) result ≡ phase_in voters panels bytes.now }
     ensures came { IfSome result (λ h. h.came ≡ number_came (marks_in voters (turnout_of bytes.now))) }
 {
-    let came = count_marks(&bytes[22..97], voters);
+    let came = count_marks(&bytes[TURNOUT_PLACE..PANELS_PLACE], voters);
     if !has_counts(voters, came, panels, bytes) {
         return None;
     }
-    let phase = phase_with(bytes[1], number8_at(bytes, 2), number8_at(bytes, 10))?;
+    let phase = phase_with(
+        bytes[PHASE_PLACE],
+        number8_at(bytes, OPENING_PLACE),
+        number8_at(bytes, CLOSING_PLACE),
+    )?;
     if is_started(phase, came) {
         Some(Head { phase, came })
     } else {
@@ -228,15 +228,15 @@ pub(crate) fn checked(tables: &Tables, voters: u32, bytes: &[u8]) -> Option<Head
     requires { voters ≤ most_voters }
     ensures head { result ≡ option_map head_of (decoded tables.now voters bytes.now) }
     ensures few { IfSome result (λ h. h.came ≤ voters) }
-    ensures body { IsSome result → length bytes.now ≡ 65536 }
+    ensures body { IsSome result → length bytes.now ≡ body_size }
     ensures tables { IsTables tables.now }
 {
     let panels = tables.panels();
-    if bytes.len() != BODY {
+    if bytes.len() != BODY_SIZE {
         return None;
     }
     let head = head_in(voters, panels, bytes)?;
-    if has_bags(tables, head.came, bytes.split_at(BAGS).1) {
+    if has_bags(tables, head.came, bytes.split_at(HEAD_SIZE).1) {
         Some(head)
     } else {
         None

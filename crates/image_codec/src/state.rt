@@ -8,7 +8,8 @@ ghost use Rattle.image_codec.specs.State.{opened_at, with_ballot, with_votes, se
 ghost use Rattle.image_codec.specs.Valid.{ready_state, IsValid, HasRoomForVoter, MayClose};
 
 use crate::filling::{fill_turnout, fill_votes};
-use crate::reading::{BAGS, checked};
+use crate::layout::{HEAD_SIZE, PANELS_PLACE, TURNOUT_PLACE};
+use crate::reading::checked;
 use election_tables::Tables;
 use std::alloc::Global;
 use std::marker::Model;
@@ -124,8 +125,13 @@ impl State {
     {
         match checked(tables, self.turnout.voters(), bytes) {
             Some(head) => {
-                fill_turnout(&mut self.turnout, &bytes[22..97]);
-                fill_votes(&mut self.votes, tables, head.came, bytes.split_at(BAGS).1);
+                fill_turnout(&mut self.turnout, &bytes[TURNOUT_PLACE..PANELS_PLACE]);
+                fill_votes(
+                    &mut self.votes,
+                    tables,
+                    head.came,
+                    bytes.split_at(HEAD_SIZE).1,
+                );
                 self.phase = head.phase;
                 true
             }

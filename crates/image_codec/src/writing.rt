@@ -3,9 +3,10 @@ ghost use Rattle.std.specs.Prelude.{◌≡◌, ◌+◌, ◌<◌, ◌≤◌, ◌+
 ghost use Rattle.std.specs.List.{flat_map};
 ghost use Rattle.turnout.specs.Turnout.{number_came};
 ghost use Rattle.vote_record.specs.Bag.{bag_at};
+ghost use Rattle.image_codec.specs.Layout.{body_size, head_size};
 ghost use Rattle.image_codec.specs.Encoding.{IsStateOf, encode, head_bytes, bag_bytes, vote_bytes, bit_at, eight_places, turnout_bytes};
 
-use crate::reading::VERSION;
+use crate::layout::{TURNOUT_SIZE, VERSION};
 use crate::state::State;
 use election_tables::Tables;
 use turnout::{Phase, Turnout};
@@ -13,15 +14,12 @@ use urna_base::{put_be32, put_be64};
 use vote_kinds::Choice;
 use vote_record::Rdv;
 
-// The bytes of the marks of 600 voters.
-const TURNOUT_BYTES: usize = 75;
-
 /// Writes the body of a slot (docs/FORMATS.md, "The body"): the encoding of the state, and zeros after it. It takes no
 /// memory, and time for what is written and for the zeros.
 ///
-/// The caller owes a whole body of 65,536 bytes, and that the state is one of a poll of these tables.
+/// The caller owes a whole body of BODY_SIZE bytes, and that the state is one of a poll of these tables.
 pub fn encode_into(state: &State, tables: &Tables, into: &mut [u8])
-    requires body { length into.old ≡ 65536 }
+    requires body { length into.old ≡ body_size }
     requires state { IsStateOf tables.now (length state.now.came) state.now }
     ensures { into.new ≡ encode state.now }
 {
@@ -36,8 +34,8 @@ pub fn encode_into(state: &State, tables: &Tables, into: &mut [u8])
 fn put_head(state: &State, came: u32, panels: u8, into: &mut [u8]) -> usize
     requires came { came ≡ number_came state.now.came }
     requires panels { panels ≡ length state.now.bags }
-    requires room { 98 ≤ length into.old }
-    ensures end { result ≡ 98 }
+    requires room { head_size ≤ length into.old }
+    ensures end { result ≡ head_size }
     ensures text { take result into.new ≡ head_bytes state.now }
 {
     let (code, opened, closed) = match state.phase() {
@@ -100,11 +98,11 @@ fn vote_bytes(choice: Choice) -> [u8; 5]
     [choice.kind(), a, b, c, d]
 }
 
-fn turnout_bytes(turnout: &Turnout) -> [u8; TURNOUT_BYTES]
+fn turnout_bytes(turnout: &Turnout) -> [u8; TURNOUT_SIZE]
     ensures { result ≡ turnout_bytes turnout.now }
 {
-    let mut bytes = [0; TURNOUT_BYTES];
-    for k in 0..TURNOUT_BYTES {
+    let mut bytes = [0; TURNOUT_SIZE];
+    for k in 0..TURNOUT_SIZE {
         bytes[k] = eight_places(turnout, 8 * k as u32);
     }
     bytes

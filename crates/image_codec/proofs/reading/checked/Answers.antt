@@ -6,9 +6,9 @@ use Rattle.image_codec.proofs.ReadParts.{few_marked}
 use Rattle.image_codec.proofs.WholeBody.{body_is, decoded_short, decoded_no_phase, decoded_no_bags, decoded_head, same_bags, head_is}
 use Rattle.image_codec.proofs.reading.checked.Goals as goal
 
-pub returns-then-bytes-ne-BODY-clause-head : goal.returns-then-bytes-ne-BODY-clause-head
-returns-then-bytes-ne-BODY-clause-head c =
-    sym (ap (option_map head_of) (decoded_short c.args.tables.now c.args.voters c.args.bytes.now c.if-bytes-ne-BODY.true))
+pub returns-then-bytes-ne-BODY_SIZE-clause-head : goal.returns-then-bytes-ne-BODY_SIZE-clause-head
+returns-then-bytes-ne-BODY_SIZE-clause-head c =
+    sym (ap (option_map head_of) (decoded_short c.args.tables.now c.args.voters c.args.bytes.now c.if-bytes-ne-BODY_SIZE.true))
 
 pub returns-in_err-head-clause-head : goal.returns-in_err-head-clause-head
 returns-in_err-head-clause-head c =
