@@ -4,12 +4,13 @@ use Rattle.urna_outside.specs.Counters.{no_faults}
 use Rattle.urna_outside.specs.Told.{Told, silent_told, size_of}
 use Rattle.urna_outside.specs.declared.device.Dev.{Dev}
 use Rattle.urna_outside.specs.declared.device.Dev.TheVariants.{Internal, External}
+use Rattle.state_store.specs.Rest.{device_size}
 use Rattle.state_store.specs.Store.{AreDevices}
 use Rattle.day_bench.specs.declared.bank.Bank.{Bank}
 
 -- its sizes, and that no port has failed
 abbrev pub bank_told : Bank → Told
-bank_told bank = silent_told (record { internal = 132608; external = 132608 }) no_faults
+bank_told bank = silent_told (record { internal = device_size; external = device_size }) no_faults
 
 -- devices of this size have fewer than 2^32 bytes
 pub bank_bounded : (bank : Bank) (d : Dev) → size_of d (bank_told bank).sizes < 2 ^ 32

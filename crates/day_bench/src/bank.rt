@@ -1,11 +1,13 @@
 // Two flashes in memory that count what is put on them.
 ghost use Rattle.std.specs.Prelude.{◌≡◌, ◌+◌, ◌<◌, ◌≤◌, ◌^◌, length};
 ghost use Rattle.urna_outside.specs.MachineLaws.{none_sized};
+ghost use Rattle.state_store.specs.Rest.{device_size};
 
+use state_store::DEVICE_SIZE;
 use std::alloc::{AllocError, Global};
 use urna_outside::{Dev, Failed, Machine};
 
-const SIZE: usize = 132_608;
+const SIZE: usize = DEVICE_SIZE as usize;
 
 // A machine that never fails and drops what it is given to show.
 #[derive(Drop)]
@@ -14,9 +16,9 @@ pub(crate) struct Bank {
     external: Vec<u8>,
     put: u64,
     syncs: u64,
-    ghost internal_size: { length internal.items ≡ 132608 },
-    ghost external_size: { length external.items ≡ 132608 },
-    ghost bounded: { 132608 < 2 ^ 32 },
+    ghost internal_size: { length internal.items ≡ device_size },
+    ghost external_size: { length external.items ≡ device_size },
+    ghost bounded: { device_size < 2 ^ 32 },
 }
 
 impl Bank {
@@ -41,7 +43,7 @@ impl Bank {
     }
 
     fn content(&self, dev: Dev) -> &[u8]
-        ensures { length result.now ≡ 132608 }
+        ensures { length result.now ≡ device_size }
     {
         match dev {
             Dev::Internal => &self.internal,
@@ -50,7 +52,7 @@ impl Bank {
     }
 
     fn put_at(&mut self, dev: Dev, at: u32, bytes: &[u8])
-        requires { at + length bytes.now ≤ 132608 }
+        requires { at + length bytes.now ≤ device_size }
     {
         let from = at as usize;
         let end = from + bytes.len();
@@ -71,7 +73,7 @@ impl Machine for Bank {
     ghost bounded = { bank_bounded };
 
     fn size(&self, _dev: Dev) -> u32 {
-        SIZE as u32
+        DEVICE_SIZE
     }
 
     fn read(&mut self, dev: Dev, at: u32, into: &mut [u8]) -> Result<(), Failed> {

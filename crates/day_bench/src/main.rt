@@ -15,7 +15,8 @@ mod bank;
 
 use bank::Bank;
 use election_tables::{Roll, Section, Tables};
-use image_codec::{State, decode, encode_into};
+use gate_slot::{FRONT_SIZE, HEADER_SIZE};
+use image_codec::{BODY_SIZE, State, decode, encode_into};
 use key_script::Script;
 use state_store::Store;
 use station::Station;
@@ -26,9 +27,7 @@ use urna_base::decimal;
 use urna_outside::{Dev, Machine};
 
 /// The first body of a flash begins behind its header and a gate with its padding.
-const FIRST_BODY: u32 = 1024;
-
-const BODY: usize = 65_536;
+const FIRST_BODY: u32 = (HEADER_SIZE + FRONT_SIZE) as u32;
 
 /// The longest keys that are read.
 const LONGEST_KEYS: usize = 16_777_216;
@@ -110,7 +109,7 @@ fn day(
     }
 }
 
-fn encode_all(state: &State, tables: &Tables, body: &mut [u8; BODY], times: u64)
+fn encode_all(state: &State, tables: &Tables, body: &mut [u8; BODY_SIZE], times: u64)
     requires { IsStateOf tables.now (length state.now.came) state.now }
 {
     for _ in 0..times {
@@ -118,7 +117,13 @@ fn encode_all(state: &State, tables: &Tables, body: &mut [u8; BODY], times: u64)
     }
 }
 
-fn all_decoded(alloc: Global, tables: &Tables, voters: u32, body: &[u8; BODY], times: u64) -> bool
+fn all_decoded(
+    alloc: Global,
+    tables: &Tables,
+    voters: u32,
+    body: &[u8; BODY_SIZE],
+    times: u64,
+) -> bool
     requires { voters ≤ 600 }
 {
     for _ in 0..times {
@@ -130,14 +135,14 @@ fn all_decoded(alloc: Global, tables: &Tables, voters: u32, body: &[u8; BODY], t
 }
 
 /// Each copy is of bytes that the one before it changed, and a byte of the last is answered, so that none can be left out.
-fn copy_all(body: &mut [u8; BODY], times: u64) -> u64 {
-    let mut into = [0; BODY];
+fn copy_all(body: &mut [u8; BODY_SIZE], times: u64) -> u64 {
+    let mut into = [0; BODY_SIZE];
     for time in 0..times {
         into.copy_from_slice(body);
-        let at = time as usize % BODY;
-        body[at] = into[BODY - 1 - at].wrapping_add(1);
+        let at = time as usize % BODY_SIZE;
+        body[at] = into[BODY_SIZE - 1 - at].wrapping_add(1);
     }
-    u64::from(into[times as usize % BODY])
+    u64::from(into[times as usize % BODY_SIZE])
 }
 
 /// Writes, reads or copies the body that the flashes hold.
@@ -151,7 +156,7 @@ fn use_body(
 ) -> Option<u64>
     requires { voters ≤ 600 }
 {
-    let mut body = [0; BODY];
+    let mut body = [0; BODY_SIZE];
     bank.read(Dev::Internal, FIRST_BODY, &mut body).ok()?;
     let state = decode(alloc, tables, voters, &body).ok()??;
     match work {

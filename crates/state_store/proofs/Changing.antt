@@ -14,9 +14,10 @@ use Rattle.election_tables.specs.TablesData.{IsTables, TablesData}
 use Rattle.image_codec.specs.Decoded.{rank_in}
 use Rattle.image_codec.specs.Encoding.{IsEncoding, IsStateOf, encode}
 use Rattle.image_codec.specs.State.{State, rank_of}
+use Rattle.image_codec.specs.Layout.{body_size}
 use Rattle.state_store.specs.Calls.{Commits}
 use Rattle.state_store.specs.Load.{header}
-use Rattle.state_store.specs.Rest.{AreAtRest, body_size}
+use Rattle.state_store.specs.Rest.{AreAtRest}
 use Rattle.state_store.specs.Store.{AreDevices, Keeps, StoreData}
 use Rattle.state_store.specs.declared.load.Load.{Load}
 use Rattle.state_store.proofs.Holding.{IsKnown, hold_either}

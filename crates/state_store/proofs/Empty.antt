@@ -6,8 +6,8 @@ use Rattle.twin_image.specs.Held.{NoneStands, bodies_on, held_body}
 use Rattle.election_tables.specs.Limits.{most_voters}
 use Rattle.election_tables.specs.TablesData.{IsTables, TablesData}
 use Rattle.image_codec.specs.Decoded.{rank_in}
+use Rattle.image_codec.specs.Layout.{body_size}
 use Rattle.state_store.specs.Held.{HeldByNone, bodies_of_both}
-use Rattle.state_store.specs.Rest.{body_size}
 use Rattle.state_store.proofs.Holding.{both_ranked, found_none}
 
 -- they hold no state

@@ -13,10 +13,11 @@ use Rattle.twin_image.specs.Lay.{AreLaid, Lays, header_for}
 use Rattle.twin_image.specs.Level.{IsLevel}
 use Rattle.image_codec.specs.Encoding.{encode}
 use Rattle.image_codec.specs.State.{State}
+use Rattle.image_codec.specs.Layout.{body_size}
 use Rattle.state_store.specs.Calls.{AreFree, FailsToLoad, IsBusy, IsSynced, Loads, both_synced}
 use Rattle.state_store.specs.Finding.{EndsTesting}
 use Rattle.state_store.specs.Load.{header}
-use Rattle.state_store.specs.Rest.{AreAtRest, body_size, rest}
+use Rattle.state_store.specs.Rest.{AreAtRest, rest}
 use Rattle.state_store.specs.declared.load.Load.{Load}
 use Rattle.state_store.specs.declared.store.LoadError.{LoadError}
 use Rattle.state_store.specs.declared.store.LoadError.TheVariants as load

@@ -14,12 +14,12 @@ use Rattle.election_tables.specs.TablesData.{IsSection, IsTables, TablesData}
 use Rattle.election_tables.specs.declared.tables.sections.Section.{Section}
 use Rattle.image_codec.specs.State.{State}
 use Rattle.twin_image.proofs.Laid.{frame_kept}
+use Rattle.image_codec.specs.Layout.{body_size}
 use Rattle.state_store.specs.Calls.{AreFound, KeepFrames, both_synced}
 use Rattle.state_store.specs.Held.{HasFrameOf, HeldByBoth, bodies_of_both}
 use Rattle.state_store.specs.Laws.{AreWhole, EndGoesOn, ForeignOnce, IsPollOf, LoadedOnce, LoadedOrForeign, RecoveryGoesOn, SessionGoesOn, SyncsLeaveNoMore}
 use Rattle.state_store.specs.Load.{IsSectionOf, header, load_of}
 use Rattle.state_store.specs.Played.{IsStateOrNext, Survives}
-use Rattle.state_store.specs.Rest.{body_size}
 use Rattle.state_store.specs.Steps.{commits_in}
 use Rattle.state_store.proofs.Holding.{one_held}
 use Rattle.state_store.proofs.Named.{named_there}

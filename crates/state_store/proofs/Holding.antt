@@ -13,10 +13,10 @@ use Rattle.twin_image.specs.Held.{LeavesEither, better_of, bodies_at, bodies_on,
 use Rattle.twin_image.specs.Held.{IsEither as IsEitherBody}
 use Rattle.twin_image.specs.Held.{bodies_of_both as ranked_of_both}
 use Rattle.twin_image.specs.Held.{rank_in as worth_in}
+use Rattle.image_codec.specs.Layout.{body_size}
 use Rattle.state_store.specs.Calls.{HoldEither, IsEither}
 use Rattle.state_store.specs.Held.{HaveUpTo, Hold, HoldNone, bodies_of_both, open_bodies, open_body}
 use Rattle.state_store.specs.Laws.{HeldIsDecoded, IsDecodedFrom}
-use Rattle.state_store.specs.Rest.{body_size}
 
 -- ---- the relation
 

@@ -19,3 +19,4 @@ pub mod Formatting
 pub mod Going
 pub mod Loaded
 mod Costs
+mod Rows

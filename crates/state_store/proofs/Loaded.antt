@@ -12,11 +12,12 @@ use Rattle.twin_image.proofs.Laid.{device_frame, length-device_image}
 use Rattle.twin_image.proofs.Renewing.{content_image}
 use Rattle.image_codec.specs.Encoding.{IsStateOf, encode}
 use Rattle.image_codec.specs.State.{State}
+use Rattle.image_codec.specs.Layout.{body_size}
 use Rattle.state_store.specs.Calls.{AreFound, IsEither}
 use Rattle.state_store.specs.Held.{HeldByBoth}
 use Rattle.state_store.specs.Laws.{AreWhole, RestIsFound}
 use Rattle.state_store.specs.Load.{IsSectionOf, header, load_of}
-use Rattle.state_store.specs.Rest.{AreAtRest, body_size}
+use Rattle.state_store.specs.Rest.{AreAtRest}
 use Rattle.state_store.specs.Store.{IsLoadedWith}
 use Rattle.state_store.specs.declared.load.Load.{Load}
 use Rattle.state_store.proofs.Resting.{IsStored, rest_holds}

@@ -11,10 +11,10 @@ use Rattle.twin_image.specs.Lay.{load_ops}
 use Rattle.twin_image.proofs.Loading.{load_none}
 use Rattle.image_codec.specs.Encoding.{encode}
 use Rattle.image_codec.specs.State.{State}
+use Rattle.image_codec.specs.Layout.{body_size}
 use Rattle.state_store.specs.Calls.{IsWithinSyncs, both_synced}
 use Rattle.state_store.specs.Load.{header}
 use Rattle.state_store.specs.Order.{IsLoad}
-use Rattle.state_store.specs.Rest.{body_size}
 use Rattle.state_store.specs.declared.load.Load.{Load}
 
 -- what is done behind the syncs

@@ -23,11 +23,12 @@ use Rattle.image_codec.specs.Decoded.{decoded, rank_in}
 use Rattle.image_codec.specs.Encoding.{IsEncoding, encode}
 use Rattle.image_codec.specs.State.{State, rank_of}
 use Rattle.image_codec.proofs.Decoding.{decoded_back}
+use Rattle.image_codec.specs.Layout.{body_size}
 use Rattle.state_store.specs.Calls.{FailsToRecover, IsRecovery, IsSynced, KeepFrames, Recovers, both_synced}
 use Rattle.state_store.specs.Finding.{EndsFinding}
 use Rattle.state_store.specs.Held.{AreLoaded, HeldByBoth, HeldByNone, IsForeign, bodies_of_both}
 use Rattle.state_store.specs.Load.{IsSectionOf, load_of}
-use Rattle.state_store.specs.Rest.{AreAtRest, body_size}
+use Rattle.state_store.specs.Rest.{AreAtRest}
 use Rattle.state_store.specs.Store.{AreDevices}
 use Rattle.state_store.specs.declared.store.StoreError.{StoreError}
 use Rattle.state_store.specs.declared.store.StoreError.TheVariants as store

@@ -10,8 +10,8 @@ use Rattle.urna_outside.specs.declared.device.Dev.{Dev}
 use Rattle.urna_outside.proofs.Showing.{after_shows}
 use Rattle.urna_outside.proofs.ShowingLines.{shows_lines}
 use Rattle.twin_image.specs.Twin.{IsOfTwin}
+use Rattle.image_codec.specs.Layout.{body_size}
 use Rattle.state_store.specs.Played.{IsOfSession, shows_in}
-use Rattle.state_store.specs.Rest.{body_size}
 
 -- The shows among operations
 

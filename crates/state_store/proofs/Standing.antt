@@ -14,8 +14,9 @@ use Rattle.twin_image.specs.Slots.{HaveRoom}
 use Rattle.twin_image.specs.Twin.{IsLive, IsTwin}
 use Rattle.image_codec.specs.Encoding.{encode}
 use Rattle.image_codec.specs.State.{State}
+use Rattle.image_codec.specs.Layout.{body_size}
 use Rattle.state_store.specs.Load.{header}
-use Rattle.state_store.specs.Rest.{AreAtRest, body_size, device_size}
+use Rattle.state_store.specs.Rest.{AreAtRest, device_size}
 use Rattle.state_store.specs.Store.{AreDevices}
 use Rattle.state_store.specs.declared.load.Load.{Load}
 use Rattle.twin_image.proofs.Laid.{device_bodies, device_frame, device_gates, length-padding, twin_whole}

@@ -11,10 +11,10 @@ use Rattle.gate_slot.specs.Slot.{header_size}
 use Rattle.image_codec.specs.Encoding.{IsStateOf, encode}
 use Rattle.image_codec.specs.State.{State}
 use Rattle.image_codec.proofs.Decoding.{decoded_back, length-encode, room_of_state}
+use Rattle.image_codec.specs.Layout.{body_size}
 use Rattle.state_store.specs.Load.{header}
 use Rattle.state_store.specs.Store.{IsLoadedWith}
 use Rattle.state_store.specs.declared.load.Load.{Load}
-use Rattle.state_store.specs.Rest.{body_size}
 use Rattle.state_store.proofs.Holding.{IsKnown}
 use Rattle.state_store.proofs.Resting.{IsStored}
 

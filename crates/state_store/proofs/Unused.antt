@@ -4,7 +4,8 @@ use Rattle.std.proofs.lemmas.List.{take-take}
 use Rattle.gate_slot.specs.Slot.{header_size, body_in}
 use Rattle.twin_image.specs.Lay.{IsEarly, IsLate, IsPublished, LeavesLaid}
 use Rattle.twin_image.specs.Twin.{WasOpen}
-use Rattle.state_store.specs.Rest.{IsInUse, IsUsed, body_size}
+use Rattle.image_codec.specs.Layout.{body_size}
+use Rattle.state_store.specs.Rest.{IsInUse, IsUsed}
 
 -- a slot that was open with this body was used as now
 used_before : (index : ℕ) (before image : List ℕ) → WasOpen body_size index before image → IsUsed index image → IsUsed index before

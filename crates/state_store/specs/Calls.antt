@@ -16,9 +16,10 @@ use Rattle.image_codec.specs.State.{State}
 use Rattle.twin_image.specs.Heal.{IsHeal}
 use Rattle.twin_image.specs.Slots.{KeepsFrame}
 use Rattle.twin_image.specs.Twin.{IsOfTwin}
+use Rattle.image_codec.specs.Layout.{body_size}
 use Rattle.state_store.specs.Held.{AreLoaded, IsForeign, HeldAlone, HeldByBoth, HeldByNone}
 use Rattle.state_store.specs.Load.{IsSectionOf}
-use Rattle.state_store.specs.Rest.{IsInUse, body_size, device_size}
+use Rattle.state_store.specs.Rest.{IsInUse, device_size}
 use Rattle.state_store.specs.declared.store.StoreError.{StoreError}
 use Rattle.state_store.specs.declared.store.StoreError.TheVariants as store
 use Rattle.state_store.specs.declared.store.LoadError.{LoadError}

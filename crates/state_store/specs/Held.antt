@@ -10,8 +10,8 @@ use Rattle.gate_slot.specs.Slot.{open_gate, gate_in, body_in}
 use Rattle.twin_image.specs.Frame.{HasFrame}
 use Rattle.image_codec.specs.Encoding.{IsEncoding, IsNoEncoding}
 use Rattle.image_codec.specs.State.{State, rank_of}
+use Rattle.image_codec.specs.Layout.{body_size}
 use Rattle.state_store.specs.Load.{IsSectionOf, header, load_of}
-use Rattle.state_store.specs.Rest.{body_size}
 
 -- the device has the frame of this section's load: its header, and zeros behind both gates
 abbrev pub HasFrameOf : TablesData → RollData → Section → Dev → List ℕ → Type 0

@@ -16,11 +16,12 @@ use Rattle.image_codec.specs.Encoding.{IsStateOf}
 use Rattle.image_codec.specs.State.{State}
 use Rattle.twin_image.specs.Held.{held_on}
 use Rattle.twin_image.specs.Held.{held_alone as body_alone}
+use Rattle.image_codec.specs.Layout.{body_size}
 use Rattle.state_store.specs.Calls.{AreFound, KeepFrames, both_synced}
 use Rattle.state_store.specs.Held.{AreLoaded, HeldByBoth, Hold, HoldNone, IsForeign, bodies_of_both, open_bodies}
 use Rattle.state_store.specs.Load.{IsSectionOf, load_of}
 use Rattle.state_store.specs.Played.{AreInOrder, AreInOrderTo, Survives, shows_in}
-use Rattle.state_store.specs.Rest.{AreAtRest, body_size, device_size}
+use Rattle.state_store.specs.Rest.{AreAtRest, device_size}
 use Rattle.state_store.specs.Steps.{Step, commits_in}
 
 -- two flashes are loaded for one section at most

@@ -6,9 +6,9 @@ use Rattle.image_codec.specs.Encoding.{encode}
 use Rattle.image_codec.specs.State.{State}
 use Rattle.twin_image.specs.Lay.{load_ops}
 use Rattle.twin_image.specs.Order.{AreRenewals}
+use Rattle.image_codec.specs.Layout.{body_size}
 use Rattle.state_store.specs.Calls.{both_synced}
 use Rattle.state_store.specs.Load.{header}
-use Rattle.state_store.specs.Rest.{body_size}
 use Rattle.state_store.specs.declared.load.Load.{Load}
 
 -- All that a commit does over flashes at rest with a state: internal 0, internal 1, external 0 and external 1 are brought to the

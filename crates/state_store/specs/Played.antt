@@ -13,9 +13,10 @@ use Rattle.urna_outside.specs.declared.device.Port.TheVariants as port
 use Rattle.election_tables.specs.TablesData.{TablesData}
 use Rattle.image_codec.specs.State.{State}
 use Rattle.twin_image.specs.Twin.{IsOfTwin}
+use Rattle.image_codec.specs.Layout.{body_size}
 use Rattle.state_store.specs.Calls.{KeepFrames, both_synced}
 use Rattle.state_store.specs.Held.{HeldAlone, HeldByBoth}
-use Rattle.state_store.specs.Rest.{AreAtRest, body_size}
+use Rattle.state_store.specs.Rest.{AreAtRest}
 use Rattle.state_store.specs.Steps.{Step, commits_in, commits_reached, lines_in, state_after, text_in}
 use Rattle.state_store.specs.declared.load.Load.{Load}
 

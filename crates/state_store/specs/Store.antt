@@ -7,8 +7,9 @@ use Rattle.election_tables.specs.Roll.{IsRoll, RollData}
 use Rattle.election_tables.specs.TablesData.{IsTables, TablesData}
 use Rattle.image_codec.specs.Encoding.{IsEncoding}
 use Rattle.image_codec.specs.State.{State, rank_of}
+use Rattle.image_codec.specs.Layout.{body_size}
 use Rattle.state_store.specs.Load.{IsSectionOf, load_of}
-use Rattle.state_store.specs.Rest.{AreAtRest, body_size, device_size}
+use Rattle.state_store.specs.Rest.{AreAtRest, device_size}
 use Rattle.state_store.specs.declared.load.Load.{Load}
 
 -- what the flashes are loaded with, and the body of their slots

@@ -9,17 +9,17 @@ ghost use Rattle.image_codec.specs.Decoded.{rank_in};
 ghost use Rattle.twin_image.specs.Found.{found_body};
 ghost use Rattle.twin_image.specs.Held.{HoldsBody};
 ghost use Rattle.twin_image.specs.Slots.{AreClean};
+ghost use Rattle.image_codec.specs.Layout.{body_size};
 ghost use Rattle.state_store.specs.Finding.{EndsFinding};
 ghost use Rattle.state_store.specs.Held.{AreLoaded};
 ghost use Rattle.state_store.specs.Load.{IsSectionOf};
-ghost use Rattle.state_store.specs.Rest.{body_size};
 ghost use Rattle.state_store.specs.Store.{AreDevices};
 
 use crate::frame::{FrameError, loaded_section};
 use crate::ranks::Ranks;
-use crate::room::BODY_SIZE;
 use crate::store::StoreError;
 use election_tables::{Roll, Section, Tables};
+use image_codec::BODY_SIZE;
 use twin_image::{Found, SurveyError, Twin};
 use urna_outside::Machine;
 

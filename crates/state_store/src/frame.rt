@@ -10,10 +10,11 @@ ghost use Rattle.election_tables.specs.TablesData.{IsTables, section_with};
 ghost use Rattle.gate_slot.specs.Slot.{header_size};
 ghost use Rattle.twin_image.specs.Frame.{HasFrame};
 ghost use Rattle.urna_outside.specs.declared.device.Dev.{Dev};
+ghost use Rattle.image_codec.specs.Layout.{body_size};
 ghost use Rattle.state_store.specs.Held.{AreLoaded, HasFrameOf, HasNoFrame, IsForeign};
 ghost use Rattle.state_store.specs.Looking.{EndsLooking};
 ghost use Rattle.state_store.specs.Load.{IsSectionOf};
-ghost use Rattle.state_store.specs.Rest.{body_size, device_size};
+ghost use Rattle.state_store.specs.Rest.{device_size};
 
 use crate::layout::{FIRST_PADDING, SECOND_PADDING};
 use crate::load::header;

@@ -17,5 +17,6 @@ mod room;
 mod store;
 mod sync;
 
+pub use layout::DEVICE_SIZE;
 pub use load::header;
 pub use store::{LoadError, Store, StoreError};

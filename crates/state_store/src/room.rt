@@ -5,13 +5,10 @@ ghost use Rattle.image_codec.specs.Valid.{ready_state};
 ghost use Rattle.state_store.specs.Store.{IsBuffer};
 
 use election_tables::Tables;
-use image_codec::State;
+use image_codec::{BODY_SIZE, State};
 use std::alloc::Global;
 use twin_image::Twin;
 use urna_base::{Memory, zeros};
-
-/// The bytes of a body.
-pub(crate) const BODY_SIZE: usize = 65_536;
 
 /// All the memory that a store and its state take: the buffers of a survey, a state, and where a next body is written.
 #[derive(Drop)]

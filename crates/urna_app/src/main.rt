@@ -28,6 +28,7 @@ mod words;
 use carga::carga;
 use command::{carga_words, vota_words};
 use fault::tell_fault;
+use state_store::DEVICE_SIZE;
 use status::Status;
 use std::alloc::Global;
 use std::process::ExitCode;
@@ -35,13 +36,10 @@ use urna_outside::{Cabinet, FileMachine, FolderCabinet, Machine};
 use vota::vota;
 use words::words;
 
-/// The bytes of each flash: a header of 512, and two slots of a gate with its padding, 512, and a body of 65,536.
-const DEVICE_SIZE: u32 = 132_608;
-
 /// The status where the program's words can't be had, which no command has.
 const NO_WORDS: u8 = 40;
 
-/// One command: the words after the program's name, over a machine with two flashes of 132,608 bytes and a cabinet.
+/// One command: the words after the program's name, over a machine with two flashes of DEVICE_SIZE bytes and a cabinet.
 ///
 /// `carga TABLES ROLL ZONE SECTION` loads both flashes for a section of the tables. `vota TABLES ROLL KEYS OUT` takes the three files,
 /// recovers the poll that the flashes hold, and runs the session of the keys over it; the word OUT is not used. Where the command was

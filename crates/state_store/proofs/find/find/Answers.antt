@@ -4,7 +4,7 @@ use Rattle.urna_outside.proofs.Faults.{faultless_trans}
 use Rattle.election_tables.specs.Limits.{most_voters}
 use Rattle.twin_image.specs.Found.{found_body}
 use Rattle.twin_image.specs.Held.{HoldsBody, NoneStands}
-use Rattle.state_store.specs.Rest.{body_size}
+use Rattle.image_codec.specs.Layout.{body_size}
 use Rattle.state_store.proofs.Changing.{rank_named}
 use Rattle.state_store.proofs.Empty.{none_held}
 use Rattle.state_store.proofs.Looking.{looked}

@@ -2,7 +2,7 @@ use Rattle.std.proofs.Common.{◌≡◌, ◌↔◌, ℕ, Bool, true, IsTrue, Lis
 use Rattle.urna_outside.specs.Flash.{flash_of, part}
 use Rattle.gate_slot.specs.Slot.{header_size, padding_place, padding_size}
 use Rattle.twin_image.specs.Frame.{HasFrame, padding}
-use Rattle.state_store.specs.Rest.{body_size}
+use Rattle.image_codec.specs.Layout.{body_size}
 use Rattle.state_store.proofs.Looking.{looked, looked_twice, unlike, alike}
 use Rattle.state_store.proofs.frame.has_frame.Goals as goal
 

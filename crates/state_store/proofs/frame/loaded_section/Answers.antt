@@ -5,9 +5,9 @@ use Rattle.twin_image.specs.Frame.{HasFrame}
 use Rattle.election_tables.specs.Roll.{RollData}
 use Rattle.election_tables.specs.TablesData.{TablesData}
 use Rattle.election_tables.specs.declared.tables.sections.Section.{Section}
+use Rattle.image_codec.specs.Layout.{body_size}
 use Rattle.state_store.specs.Held.{HasFrameOf, IsForeign}
 use Rattle.state_store.specs.Load.{IsSectionOf}
-use Rattle.state_store.specs.Rest.{body_size}
 use Rattle.state_store.specs.declared.frame.FrameError.TheVariants.{Foreign}
 use Rattle.state_store.proofs.Looking.{looked}
 use Rattle.state_store.proofs.frame.loaded_section.Goals as goal

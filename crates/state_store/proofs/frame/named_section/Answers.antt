@@ -1,9 +1,9 @@
 use Rattle.std.proofs.Common.{◌≡◌, ℕ, true, false, List, Option, Some, sym, ap, subst, ◌∙◌}
 use Rattle.urna_outside.specs.declared.device.Dev.TheVariants.{Internal}
 use Rattle.election_tables.specs.declared.tables.sections.Section.{Section}
+use Rattle.image_codec.specs.Layout.{body_size}
 use Rattle.state_store.specs.Held.{HasFrameOf}
 use Rattle.twin_image.specs.Frame.{HasFrame}
-use Rattle.state_store.specs.Rest.{body_size}
 use Rattle.state_store.proofs.Looking.{looked}
 use Rattle.state_store.proofs.Named.{named_there}
 use Rattle.state_store.proofs.Sections.{found_listed}

@@ -6,7 +6,7 @@ use Rattle.twin_image.specs.Order.{AreRenewals}
 use Rattle.image_codec.specs.Encoding.{encode}
 use Rattle.twin_image.specs.Level.{IsLevel, body_of}
 use Rattle.twin_image.proofs.Looking.{refilled}
-use Rattle.state_store.specs.Rest.{body_size}
+use Rattle.image_codec.specs.Layout.{body_size}
 use Rattle.state_store.specs.Store.{Keeps, StoreData}
 use Rattle.state_store.specs.declared.load.Load.{Load}
 use Rattle.state_store.proofs.Changing.{followed_as, followed_by, followed_commits, followed_fills, followed_outranks, followed_rests, followed_stands}

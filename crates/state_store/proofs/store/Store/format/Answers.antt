@@ -8,8 +8,8 @@ use Rattle.image_codec.specs.Valid.{ready_state}
 use Rattle.twin_image.specs.Level.{IsLevel}
 use Rattle.twin_image.specs.Slots.{AreClean}
 use Rattle.twin_image.proofs.Looking.{refilled}
+use Rattle.image_codec.specs.Layout.{body_size}
 use Rattle.state_store.specs.Load.{header, load_of}
-use Rattle.state_store.specs.Rest.{body_size}
 use Rattle.state_store.specs.Store.{AreDevices}
 use Rattle.state_store.specs.declared.load.Load.{Load}
 use Rattle.state_store.proofs.Formatting.{fails_laying, fails_testing, laid_rests, loaded}

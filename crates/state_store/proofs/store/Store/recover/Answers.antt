@@ -9,10 +9,10 @@ use Rattle.image_codec.proofs.Decoding.{decoded_takes}
 use Rattle.twin_image.specs.Found.{found_body}
 use Rattle.twin_image.specs.Level.{IsLevel, body_of}
 use Rattle.twin_image.specs.Slots.{AreClean}
+use Rattle.image_codec.specs.Layout.{body_size}
 use Rattle.state_store.specs.Calls.{Recovers, both_synced}
 use Rattle.state_store.specs.Held.{AreLoaded}
 use Rattle.state_store.specs.Load.{load_of}
-use Rattle.state_store.specs.Rest.{body_size}
 use Rattle.state_store.specs.Store.{AreDevices, Keeps, StoreData}
 use Rattle.state_store.specs.declared.load.Load.{Load}
 use Rattle.state_store.proofs.Ready.{ready_places}
