@@ -5,7 +5,7 @@ use Rattle.std.proofs.lemmas.Bool.{false_from_ne_true}
 use Rattle.std.proofs.lemmas.Slice.Eq.{bytes_eq-Decides}
 use Rattle.urna_outside.specs.Cabinet.{Holds, IsPut, Lacks, file_at}
 use Rattle.urna_outside.specs.Items.{files_of, is_named, IsFirstNamed}
-use Rattle.urna_outside.specs.declared.items.Item.{Item}
+use Rattle.urna_outside.specs.declared.memory.items.Item.{Item}
 
 -- where no item has the name there is no file of it
 pub lacks_unnamed : (name : List ℕ) (items : List Item) → ((k : ℕ) (d : Item) → k < length items → is_named name (get_or items k d) ≡ false) → Lacks name (files_of items)

@@ -6,8 +6,8 @@ use Rattle.std.proofs.lemmas.List.Elements.{All-push, All-same}
 use Rattle.urna_outside.specs.Flash.{Op, Put, Sync, Show}
 use Rattle.urna_outside.specs.Kept.{end_of, kept_op, kept_ops, put_length, put_total, shown_length, shown_total}
 use Rattle.urna_outside.specs.declared.device.Dev.{Dev}
-use Rattle.urna_outside.specs.declared.tape.Operation.{Operation}
-use Rattle.urna_outside.specs.declared.tape.Operation.TheVariants as kept
+use Rattle.urna_outside.specs.declared.memory.tape.Operation.{Operation}
+use Rattle.urna_outside.specs.declared.memory.tape.Operation.TheVariants as kept
 
 pub put_total-append : (ops more : List Operation) → put_total (ops ++ more) ≡ put_total ops + put_total more
 put_total-append [] more = omega arith

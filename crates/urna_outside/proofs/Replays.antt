@@ -8,9 +8,9 @@ use Rattle.urna_outside.specs.Kept.{end_of, kept_op, kept_ops, put_length, put_t
 use Rattle.urna_outside.specs.Tape.{taped_ops, size_on, start_on}
 use Rattle.urna_outside.specs.declared.device.Dev.{Dev}
 use Rattle.urna_outside.specs.declared.device.Dev.TheVariants.{Internal, External}
-use Rattle.urna_outside.specs.declared.tape.Operation.{Operation}
-use Rattle.urna_outside.specs.declared.tape.Operation.TheVariants as kept
-use Rattle.urna_outside.specs.declared.tape.Tape.{Tape}
+use Rattle.urna_outside.specs.declared.memory.tape.Operation.{Operation}
+use Rattle.urna_outside.specs.declared.memory.tape.Operation.TheVariants as kept
+use Rattle.urna_outside.specs.declared.memory.tape.Tape.{Tape}
 use Rattle.urna_outside.proofs.Doing.{after-append}
 use Rattle.urna_outside.proofs.KeptLemmas.{kept_ops-append, length-kept_ops, put_total-append}
 

@@ -8,8 +8,8 @@ use Rattle.urna_outside.specs.Tear.{torn}
 use Rattle.urna_outside.specs.Told.{calls_after, one_more}
 use Rattle.urna_outside.specs.Cabinet.{file_at}
 use Rattle.urna_outside.specs.declared.device.Dev.TheVariants.{Internal, External}
-use Rattle.urna_outside.specs.declared.tape.Operation.TheVariants as kept
-use Rattle.urna_outside.specs.declared.tear.Tear.TheVariants.{Byte}
+use Rattle.urna_outside.specs.declared.memory.tape.Operation.TheVariants as kept
+use Rattle.urna_outside.specs.declared.memory.tear.Tear.TheVariants.{Byte}
 
 -- two bytes put from place 1 on
 put_row : put 1 (7 ∷ 8 ∷ []) (clean_flash (0 ∷ 0 ∷ 0 ∷ 0 ∷ [])) ≡ record { content = 0 ∷ 7 ∷ 8 ∷ 0 ∷ []; dirty = false ∷ true ∷ true ∷ false ∷ [] }

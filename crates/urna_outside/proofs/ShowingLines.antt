@@ -11,16 +11,19 @@ use Rattle.urna_outside.proofs.Doing.{does-append, does_nothing}
 use Rattle.urna_outside.proofs.Calling.{without_fault_none, without_fault_one, without_fault_trans, stops_one, stops_later}
 use Rattle.urna_outside.proofs.Showing.{shows_text-append, shows_text_none, shows_text_one, shows_front-append, shows_front_longer, shows_front_torn}
 
-shows_of-append : (xs ys : List (List ℕ)) → shows (xs ++ ys) ≡ shows xs ++ shows ys
+-- shown lines, one after another
+pub shows_of-append : (xs ys : List (List ℕ)) → shows (xs ++ ys) ≡ shows xs ++ shows ys
 shows_of-append [] ys = refl
 shows_of-append (x ∷ xs) ys = ap (λ (ops : List Op). Show x ∷ ops) (shows_of-append xs ys)
 
-cut_longer : (xs ys : List (List ℕ)) (ops : List Op) → IsCutShort xs ops → IsCutShort (xs ++ ys) ops
+-- a cut in the first lines is one in all
+pub cut_longer : (xs ys : List (List ℕ)) (ops : List Op) → IsCutShort xs ops → IsCutShort (xs ++ ys) ops
 cut_longer [] ys ops h = absurd h
 cut_longer (x ∷ xs) ys ops (inl torn) = inl torn
 cut_longer (x ∷ xs) ys ops (inr more) = inr (more.0, more.1, cut_longer xs ys more.0 more.2)
 
-cut_later : (xs ys : List (List ℕ)) (ops : List Op) → IsCutShort ys ops → IsCutShort (xs ++ ys) (shows xs ++ ops)
+-- and so is one in those behind them
+pub cut_later : (xs ys : List (List ℕ)) (ops : List Op) → IsCutShort ys ops → IsCutShort (xs ++ ys) (shows xs ++ ops)
 cut_later [] ys ops h = h
 cut_later (x ∷ xs) ys ops h = inr (shows xs ++ ops, refl, cut_later xs ys ops h)
 

@@ -3,8 +3,8 @@ use Rattle.std.proofs.Common.{◌≡◌, ℕ, zero, suc, Bool, false, if◌then�
 use Rattle.std.specs.List.{zip}
 use Rattle.urna_outside.specs.Flash.{Flash, IsImage}
 use Rattle.urna_outside.specs.Tear.{torn}
-use Rattle.urna_outside.specs.declared.tear.Tear.{Tear}
-use Rattle.urna_outside.specs.declared.tear.Tear.TheVariants.{AsPut, Byte}
+use Rattle.urna_outside.specs.declared.memory.tear.Tear.{Tear}
+use Rattle.urna_outside.specs.declared.memory.tear.Tear.TheVariants.{AsPut, Byte}
 
 length-torn : (b : ℕ) (xs : List ℕ) (marks : List Bool) → length marks ≡ length xs → length (map (λ (p : ℕ × Bool). if p.1 then b else p.0) (zip xs marks)) ≡ length xs
 length-torn b [] marks same = refl

@@ -1,6 +1,6 @@
 -- A device in memory as a flash.
 use Rattle.urna_outside.specs.Flash.{Flash}
-use Rattle.urna_outside.specs.declared.chip.Chip.{Chip}
+use Rattle.urna_outside.specs.declared.memory.chip.Chip.{Chip}
 
 -- its bytes, and its marks of dirty ones
 abbrev pub flash : Chip → Flash

@@ -3,7 +3,7 @@ use Rattle.std.specs.Prelude.{length}
 use Rattle.urna_outside.specs.Flash.{Flashes}
 use Rattle.urna_outside.specs.Told.{Sizes}
 use Rattle.urna_outside.specs.Chip.{flash}
-use Rattle.urna_outside.specs.declared.chips.Chips.{Chips}
+use Rattle.urna_outside.specs.declared.memory.chips.Chips.{Chips}
 
 -- as two flashes
 abbrev pub flashes_in : Chips → Flashes

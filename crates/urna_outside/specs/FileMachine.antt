@@ -4,7 +4,7 @@ use Rattle.std.specs.declared.io.traits.Write.{Ghosts as Writes}
 use Rattle.std.specs.declared.io.traits.Seek.{Ghosts as Seeks}
 use Rattle.urna_outside.specs.Told.{Told, silent_told}
 use Rattle.urna_outside.specs.Counters.{faults_in}
-use Rattle.urna_outside.specs.declared.file_machine.FileMachine.{FileMachine}
+use Rattle.urna_outside.specs.declared.files.file_machine.FileMachine.{FileMachine}
 
 -- both devices have the one size
 abbrev pub file_told : {R F D : Type 0} {r : Reads F} {w : Writes F} {s : Seeks F} {d : Reads D} → FileMachine R F D r w s d → Told

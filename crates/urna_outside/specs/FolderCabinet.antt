@@ -2,7 +2,7 @@
 use Rattle.std.specs.Prelude.{None}
 use Rattle.urna_outside.specs.Cabinet.{CabinetTold}
 use Rattle.urna_outside.specs.TakeCounts.{tally_of}
-use Rattle.urna_outside.specs.declared.folder_cabinet.FolderCabinet.{FolderCabinet}
+use Rattle.urna_outside.specs.declared.files.folder_cabinet.FolderCabinet.{FolderCabinet}
 
 -- neither files nor calls
 abbrev pub folder_told : {R : Type 0} → FolderCabinet R → CabinetTold

@@ -2,7 +2,7 @@
 use Rattle.std.specs.Prelude.{◌≡◌, ◌<◌, ℕ, Bool, true, false, List, length, map, slice_index_or, string_bytes}
 use Rattle.std.specs.Str.{bytes_eq}
 use Rattle.urna_outside.specs.Cabinet.{Entry, Files}
-use Rattle.urna_outside.specs.declared.items.Item.{Item}
+use Rattle.urna_outside.specs.declared.memory.items.Item.{Item}
 
 -- an item as a file
 abbrev pub entry_of : Item → Entry

@@ -1,8 +1,8 @@
 -- Operations as a recorder keeps them: the bytes of all puts stand in one row and those of all shows in another, in order.
 use Rattle.std.specs.Prelude.{ℕ, ◌+◌, List, [], ◌∷◌, take, drop}
 use Rattle.urna_outside.specs.Flash.{Op, Put, Sync, Show}
-use Rattle.urna_outside.specs.declared.tape.Operation.{Operation}
-use Rattle.urna_outside.specs.declared.tape.Operation.TheVariants as kept
+use Rattle.urna_outside.specs.declared.memory.tape.Operation.{Operation}
+use Rattle.urna_outside.specs.declared.memory.tape.Operation.TheVariants as kept
 
 -- how many bytes an operation has in the row of puts
 abbrev pub put_length : Operation → ℕ

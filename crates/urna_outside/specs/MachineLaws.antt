@@ -10,13 +10,13 @@ use Rattle.urna_outside.specs.Told.{Sizes, AreSized, size_of}
 use Rattle.urna_outside.specs.Recorder.{recorder_told}
 use Rattle.urna_outside.specs.FileMachine.{file_told}
 use Rattle.urna_outside.specs.Steady.{steady_told}
-use Rattle.urna_outside.specs.declared.chips.Chips.{Chips}
-use Rattle.urna_outside.specs.declared.steady.Steady.{Steady}
-use Rattle.urna_outside.specs.declared.file_machine.FileMachine.{FileMachine}
+use Rattle.urna_outside.specs.declared.memory.chips.Chips.{Chips}
+use Rattle.urna_outside.specs.declared.memory.steady.Steady.{Steady}
+use Rattle.urna_outside.specs.declared.files.file_machine.FileMachine.{FileMachine}
 use Rattle.urna_outside.specs.Chips.{flashes_in, sizes_in}
 use Rattle.urna_outside.specs.declared.device.Dev.{Dev}
 use Rattle.urna_outside.specs.declared.device.Dev.TheVariants.{Internal, External}
-use Rattle.urna_outside.specs.declared.recorder.Recorder.{Recorder}
+use Rattle.urna_outside.specs.declared.memory.recorder.Recorder.{Recorder}
 
 -- contents and marks of devices in memory are as long as the devices
 chips_sized : (chips : Chips) (flashes : Flashes) → Some (flashes_in chips) ≡ Some flashes → AreSized (sizes_in chips) flashes

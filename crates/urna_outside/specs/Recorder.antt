@@ -7,7 +7,7 @@ use Rattle.urna_outside.specs.Counters.{faults_in, calls_in}
 use Rattle.urna_outside.specs.Room.{Room, HasRoom, put_of, show_of, torn_part}
 use Rattle.urna_outside.specs.Tape.{taped_ops, room_on, start_on}
 use Rattle.urna_outside.specs.declared.device.Dev.{Dev}
-use Rattle.urna_outside.specs.declared.recorder.Recorder.{Recorder}
+use Rattle.urna_outside.specs.declared.memory.recorder.Recorder.{Recorder}
 
 -- the operations that were done
 abbrev pub trail_of : Recorder → List Op

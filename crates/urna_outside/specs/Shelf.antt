@@ -3,7 +3,7 @@ use Rattle.std.specs.Prelude.{ℕ, List, [], Some, Contains}
 use Rattle.urna_outside.specs.Cabinet.{CabinetTold, Files}
 use Rattle.urna_outside.specs.Items.{files_of}
 use Rattle.urna_outside.specs.TakeCounts.{tally_of, no_tally}
-use Rattle.urna_outside.specs.declared.shelf.Shelf.{Shelf}
+use Rattle.urna_outside.specs.declared.memory.shelf.Shelf.{Shelf}
 
 -- the files, each under its name
 abbrev pub files_on : Shelf → Files

@@ -4,7 +4,7 @@ use Rattle.urna_outside.specs.Flash.{Flashes}
 use Rattle.urna_outside.specs.Told.{Told, Sizes, silent_told}
 use Rattle.urna_outside.specs.Chips.{flashes_in, sizes_in}
 use Rattle.urna_outside.specs.Counters.{no_faults}
-use Rattle.urna_outside.specs.declared.steady.Steady.{Steady}
+use Rattle.urna_outside.specs.declared.memory.steady.Steady.{Steady}
 
 -- its sizes, counts that are 0, and its flashes
 abbrev pub flashes_told : Sizes → Flashes → Told

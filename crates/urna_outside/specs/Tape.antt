@@ -4,7 +4,7 @@ use Rattle.urna_outside.specs.Flash.{Op, Flashes}
 use Rattle.urna_outside.specs.Kept.{kept_ops}
 use Rattle.urna_outside.specs.Room.{Room}
 use Rattle.urna_outside.specs.Started.{clean_flashes}
-use Rattle.urna_outside.specs.declared.tape.Tape.{Tape}
+use Rattle.urna_outside.specs.declared.memory.tape.Tape.{Tape}
 
 -- what the devices held at the start
 abbrev pub start_on : Tape → Flashes

@@ -2,8 +2,8 @@
 use Rattle.std.specs.Prelude.{ℕ, List, Bool, if◌then◌else◌, map}
 use Rattle.std.specs.List.{zip}
 use Rattle.urna_outside.specs.Flash.{Flash}
-use Rattle.urna_outside.specs.declared.tear.Tear.{Tear}
-use Rattle.urna_outside.specs.declared.tear.Tear.TheVariants.{AsPut, Byte}
+use Rattle.urna_outside.specs.declared.memory.tear.Tear.{Tear}
+use Rattle.urna_outside.specs.declared.memory.tear.Tear.TheVariants.{AsPut, Byte}
 
 -- bytes with this one in the place of each that has a mark
 abbrev pub with_byte : ℕ → List ℕ → List Bool → List ℕ

@@ -1,10 +1,10 @@
-// Counts of faults and of calls. At its last value a count stands.
+//! Counts of faults and of calls. At its last value a count stands.
 ghost use Rattle.std.specs.Prelude.{◌≡◌, IsErr, is_ok};
 ghost use Rattle.urna_outside.specs.Told.{Counts, calls_after, faults_after};
 
 use crate::{Failed, Port};
 
-// How often each port has failed.
+/// How often each port has failed.
 #[derive(Clone, Copy, Debug, PartialEq, Eq)]
 pub(crate) struct Counters {
     internal: u64,
@@ -25,7 +25,7 @@ impl Counters {
         }
     }
 
-    // Counts a failure of a port, and answers it.
+    /// Counts a failure of a port, and answers it.
     pub(crate) fn fail(&mut self, port: Port) -> Result<(), Failed>
         ensures failed { IsErr result }
         ensures after { faults_in self.new ≡ faults_after port (faults_in self.old) }
@@ -39,7 +39,7 @@ impl Counters {
         Err(Failed)
     }
 
-    // Counts a failure where that came of a call, and answers whether it did.
+    /// Counts a failure where that came of a call, and answers whether it did.
     pub(crate) fn count<E: Drop>(
         &mut self,
         port: Port,
@@ -55,7 +55,7 @@ impl Counters {
     }
 }
 
-// The calls that were made and that failed.
+/// The calls that were made and that failed.
 #[derive(Clone, Copy, Debug, PartialEq, Eq)]
 pub(crate) struct CallCounts {
     made: u64,
@@ -76,14 +76,14 @@ impl CallCounts {
         }
     }
 
-    // The number of the next call.
+    /// The number of the next call.
     pub(crate) fn next(&self) -> u64
         ensures { result ≡ (calls_in self.now).made }
     {
         self.made
     }
 
-    // Counts a call that ended well or failed.
+    /// Counts a call that ended well or failed.
     pub(crate) fn count(&mut self, ok: bool)
         ensures { calls_in self.new ≡ calls_after ok (calls_in self.old) }
     {

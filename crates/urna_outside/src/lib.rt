@@ -5,46 +5,23 @@
 //! does on one device or both are in `specs/Confined.antt` and `specs/Stage.antt`, for where it fails in
 //! `specs/Faults.antt`.
 //!
-//! `FileMachine` and `FolderCabinet` are those of a real run. `Recorder` and `Shelf` are in memory, tell everything
-//! and fail where they are told to; a `Recorder` also gives the image of a device at any stop. `Steady` is in memory
-//! and never fails.
+//! `files` has those of a real run, `FileMachine` and `FolderCabinet`. `memory` has those of tests and benchmarks:
+//! `Recorder` and `Shelf` tell everything and fail where they are told to; a `Recorder` also gives the image of a
+//! device at any stop. `Steady` never fails. What both folders need stands beside them.
 #![tactic(auto)]
 
 mod cabinet;
-mod chip;
-mod chips;
 mod counters;
 mod device;
-mod file_lock;
-mod file_machine;
-#[cfg(test)]
-mod file_tests;
-mod flash_file;
-mod flash_files;
-mod folder_cabinet;
-mod items;
+mod files;
 mod machine;
-mod recorder;
-mod replay;
-mod shelf;
+mod memory;
 mod show;
-mod steady;
 mod take_counts;
-mod tape;
-mod tear;
-#[cfg(test)]
-mod tests;
-#[cfg(test)]
-mod watched;
 
 pub use cabinet::{Cabinet, CabinetError};
 pub use device::{Dev, Failed, Port};
-pub use file_lock::FileLock;
-pub use file_machine::FileMachine;
-pub use folder_cabinet::FolderCabinet;
+pub use files::{FileLock, FileMachine, FolderCabinet};
 pub use machine::Machine;
-pub use recorder::Recorder;
-pub use shelf::Shelf;
+pub use memory::{Recorder, Shelf, Steady, Tear};
 pub use show::{lines_show_their_text, show_line};
-pub use steady::Steady;
-pub use tear::Tear;

@@ -1,4 +1,4 @@
-// The three counts of a cabinet. At its last value a count stands.
+//! The three counts of a cabinet. At its last value a count stands.
 ghost use Rattle.std.specs.Prelude.{◌≡◌};
 ghost use Rattle.urna_outside.specs.Cabinet.{CountsFault, CountsMissing, CountsTooLong};
 
@@ -24,7 +24,7 @@ impl TakeCounts {
         }
     }
 
-    // Counts why a file was not taken. Want of memory isn't counted.
+    /// Counts why a file was not taken. Want of memory isn't counted.
     pub(crate) fn count(&mut self, error: CabinetError)
         ensures memory { error ≡ CabinetError.Memory → tally_of self.new ≡ tally_of self.old }
         ensures failed { error ≡ CabinetError.Failed →

@@ -1,0 +1,80 @@
+//! Calls of a machine and of a cabinet as rows of a table.
+use std::alloc::Global;
+use std::process::Abort;
+use urna_outside::{Cabinet, CabinetError, Dev, Failed, Machine};
+
+#[derive(Clone, Copy, Debug)]
+pub(crate) enum Call<'a> {
+    // Of so many bytes from a place on, which are these where it ends well.
+    Read(Dev, u32, &'a [u8]),
+    Write(Dev, u32, &'a [u8]),
+    Sync(Dev),
+    Show(&'a [u8]),
+}
+
+/// A read that fails leaves what was there.
+fn read<M: Machine>(
+    rt: &impl Abort,
+    m: &mut M,
+    dev: Dev,
+    at: u32,
+    bytes: &[u8],
+) -> Result<(), Failed> {
+    let len = bytes.len();
+    let before = [99; 16];
+    let mut into = before;
+    assert!(rt; len <= 16);
+    assert!(rt; u64::from(at) + len as u64 <= u64::from(m.size(dev)));
+    let answer = m.read(dev, at, &mut into[..len]);
+    let wanted = if answer.is_ok() {
+        bytes
+    } else {
+        &before[..len]
+    };
+    assert_eq!(rt; &into[..len], wanted, "at {dev:?} {at}");
+    answer
+}
+
+fn write<M: Machine>(
+    rt: &impl Abort,
+    m: &mut M,
+    dev: Dev,
+    at: u32,
+    bytes: &[u8],
+) -> Result<(), Failed> {
+    assert!(rt; bytes.len() <= 16);
+    assert!(rt; u64::from(at) + bytes.len() as u64 <= u64::from(m.size(dev)));
+    m.write(dev, at, bytes)
+}
+
+pub(crate) fn make<M: Machine>(rt: &impl Abort, m: &mut M, call: Call<'_>) -> Result<(), Failed> {
+    match call {
+        Call::Read(dev, at, bytes) => read(rt, m, dev, at, bytes),
+        Call::Write(dev, at, bytes) => write(rt, m, dev, at, bytes),
+        Call::Sync(dev) => m.sync(dev),
+        Call::Show(bytes) => m.show(bytes),
+    }
+}
+
+/// Makes one call after the other. Each ends well or not, as its row says.
+pub(crate) fn make_all<M: Machine>(rt: &impl Abort, m: &mut M, calls: &[(Call<'_>, bool)]) {
+    for (call, is_ok) in calls {
+        let answer = make(rt, m, *call);
+        assert_eq!(rt; answer.is_ok(), *is_ok, "at {call:?}");
+    }
+}
+
+/// What is taken: a file's bytes, or why it isn't.
+pub(crate) fn check_take<C: Cabinet>(
+    rt: &impl Abort,
+    alloc: Global,
+    cabinet: &mut C,
+    name: &str,
+    limit: u32,
+    taken: Result<&[u8], CabinetError>,
+) {
+    match cabinet.take(alloc, name, limit) {
+        Ok(bytes) => assert_eq!(rt; Ok(bytes.as_slice()), taken, "at {name:?} {limit}"),
+        Err(error) => assert_eq!(rt; Err(error), taken, "at {name:?} {limit}"),
+    }
+}

@@ -1,0 +1,440 @@
+//! What is done to real files, and what is left of them.
+use crate::calls::{Call, check_take, make_all};
+use crate::watched::{Fault, Step, Watch, Watched};
+use std::alloc::Global;
+use std::fs;
+use std::io::ErrorKind;
+use std::os::unix::fs::symlink;
+use std::process::Abort;
+use std::test::Fail;
+use urna_outside::{CabinetError, Dev, FileMachine, FolderCabinet, Machine};
+
+const FILES: [&str; 4] = [
+    "internal.flash",
+    "external.flash",
+    "internal.flash.new",
+    "external.flash.new",
+];
+
+/// Whether a name is there, a link that leads nowhere included.
+fn is_there(rt: &HostRuntime, name: &str) -> bool {
+    fs::symlink_metadata(rt, name).is_ok()
+}
+
+/// Which of the files are there.
+fn there(rt: &HostRuntime) -> [bool; 4] {
+    [
+        is_there(rt, FILES[0]),
+        is_there(rt, FILES[1]),
+        is_there(rt, FILES[2]),
+        is_there(rt, FILES[3]),
+    ]
+}
+
+fn remove_files(rt: &HostRuntime) {
+    for name in FILES {
+        let _ = fs::remove_file(rt, name);
+    }
+}
+
+fn place(abort: &impl Abort, rt: &HostRuntime, name: &str, bytes: &[u8]) {
+    assert!(abort; fs::write(rt, name, bytes).is_ok(), "{name}");
+}
+
+fn check_left(abort: &impl Abort, rt: &HostRuntime, name: &str, bytes: &[u8]) {
+    match fs::read(rt, name) {
+        Ok(left) => assert_eq!(abort; left.as_slice(), bytes, "{name}"),
+        Err(error) => assert_eq!(abort; Some(error.kind()), None, "{name}"),
+    }
+}
+
+fn check_steps(abort: &impl Abort, alloc: Global, watch: &Watch, steps: &[Step]) {
+    match watch.take_steps(alloc) {
+        Ok(taken) => assert_eq!(abort; taken.as_slice(), steps),
+        Err(error) => assert_eq!(abort; Some(error.kind()), None),
+    }
+}
+
+/// Makes calls on a machine over two flashes of so many bytes. It ends here, and its locks with it.
+fn run(abort: &impl Abort, rt: &HostRuntime, size: u32, calls: &[(Call<'_>, bool)]) {
+    let mut m = FileMachine::new(rt, size);
+    make_all(abort, &mut m, calls);
+}
+
+/// A call, whether it ends well, and what it does to the files.
+type Row<'a> = (Call<'a>, bool, &'a [Step]);
+
+fn make_rows<M: Machine>(
+    abort: &impl Abort,
+    alloc: Global,
+    watch: &Watch,
+    m: &mut M,
+    rows: &[Row<'_>],
+) {
+    for (call, is_ok, steps) in rows {
+        make_all(abort, m, &[(*call, *is_ok)]);
+        check_steps(abort, alloc, watch, steps);
+    }
+}
+
+/// The same over watched files.
+fn run_watched(abort: &impl Abort, rt: &HostRuntime, fault: Fault, rows: &[Row<'_>]) {
+    let watch = Watch::new(rt.alloc(), fault);
+    let watched = Watched { rt, watch: &watch };
+    let mut m = FileMachine::new(&watched, 16);
+    make_rows(abort, rt.alloc(), &watch, &mut m, rows);
+}
+
+/// What a first write does where nothing has the name of the flash.
+const MADE: [Step; 9] = [
+    Step::Open,
+    Step::Create,
+    Step::Lock,
+    Step::Duplicate,
+    Step::Write,
+    Step::SyncAll,
+    Step::Link,
+    Step::Remove,
+    Step::Write,
+];
+
+#[test]
+fn a_flash_is_whole_on_the_disk_before_it_has_its_name(rt: HostRuntime) {
+    let opened = [Step::Open, Step::Lock, Step::Duplicate, Step::Write];
+    let making = [(Call::Write(Dev::External, 3, &[7]), true, MADE.as_slice())];
+    run_watched(&rt, &rt, Fault::Nothing, &making);
+    assert_eq!(rt; there(&rt), [false, true, false, false]);
+    let opening = [(Call::Write(Dev::External, 4, &[8]), true, opened.as_slice())];
+    run_watched(&rt, &rt, Fault::Nothing, &opening);
+    let left = [0, 0, 0, 7, 8, 0, 0, 0, 0, 0, 0, 0, 0, 0, 0, 0];
+    check_left(&rt, &rt, "external.flash", &left);
+    remove_files(&rt);
+}
+
+#[test]
+fn a_sync_syncs_the_file_and_at_first_the_folder(rt: HostRuntime) {
+    let first = [Step::SyncData, Step::OpenFolder, Step::SyncFolder];
+    let rows = [
+        (Call::Write(Dev::Internal, 0, &[1]), true, MADE.as_slice()),
+        (Call::Write(Dev::External, 0, &[1]), true, MADE.as_slice()),
+        (Call::Sync(Dev::Internal), true, first.as_slice()),
+        (Call::Sync(Dev::External), true, first.as_slice()),
+        (Call::Sync(Dev::Internal), true, [Step::SyncData].as_slice()),
+    ];
+    run_watched(&rt, &rt, Fault::Nothing, &rows);
+    remove_files(&rt);
+}
+
+#[test]
+fn a_sync_fails_where_a_part_of_it_does(rt: HostRuntime) {
+    let steps = [
+        Step::Open,
+        Step::Lock,
+        Step::Duplicate,
+        Step::SyncData,
+        Step::OpenFolder,
+        Step::SyncFolder,
+    ];
+    place(&rt, &rt, "internal.flash", &[0; 16]);
+    for (failing, done) in [
+        (Step::SyncData, 4),
+        (Step::OpenFolder, 5),
+        (Step::SyncFolder, 6),
+    ] {
+        let rows = [(Call::Sync(Dev::Internal), false, &steps[..done])];
+        run_watched(&rt, &rt, Fault::Kind(failing), &rows);
+    }
+    remove_files(&rt);
+}
+
+#[test]
+fn a_making_that_fails_leaves_no_file(rt: HostRuntime) {
+    for (failing, steps) in [
+        (Step::Create, [Step::Open, Step::Create].as_slice()),
+        (
+            Step::Duplicate,
+            [
+                Step::Open,
+                Step::Create,
+                Step::Lock,
+                Step::Duplicate,
+                Step::Remove,
+            ]
+            .as_slice(),
+        ),
+        (
+            Step::Write,
+            [
+                Step::Open,
+                Step::Create,
+                Step::Lock,
+                Step::Duplicate,
+                Step::Write,
+                Step::Remove,
+            ]
+            .as_slice(),
+        ),
+        (
+            Step::SyncAll,
+            [
+                Step::Open,
+                Step::Create,
+                Step::Lock,
+                Step::Duplicate,
+                Step::Write,
+                Step::SyncAll,
+                Step::Remove,
+            ]
+            .as_slice(),
+        ),
+        (Step::Link, &MADE[..8]),
+    ] {
+        let rows = [(Call::Read(Dev::Internal, 0, &[0]), false, steps)];
+        run_watched(&rt, &rt, Fault::Kind(failing), &rows);
+        assert_eq!(rt; there(&rt), [false; 4], "at {failing:?}");
+    }
+}
+
+/// Whoever has it locked, or has removed it, goes on with it.
+#[test]
+fn a_new_file_that_is_not_locked_stays(rt: HostRuntime) {
+    let rows = [(
+        Call::Sync(Dev::Internal),
+        false,
+        [Step::Open, Step::Create, Step::Lock].as_slice(),
+    )];
+    run_watched(&rt, &rt, Fault::Kind(Step::Lock), &rows);
+    assert_eq!(rt; there(&rt), [false, false, true, false]);
+    run(&rt, &rt, 16, &[(Call::Sync(Dev::Internal), true)]);
+    assert_eq!(rt; there(&rt), [true, false, false, false]);
+    remove_files(&rt);
+}
+
+#[test]
+fn one_run_at_a_time_has_a_flash(rt: HostRuntime) {
+    place(&rt, &rt, "internal.flash", &[0; 4]);
+    place(&rt, &rt, "external.flash", &[0; 4]);
+    let mut second = FileMachine::new(&rt, 4);
+    {
+        let mut first = FileMachine::new(&rt, 4);
+        let began = [(Call::Write(Dev::Internal, 0, &[1, 2]), true)];
+        make_all(&rt, &mut first, &began);
+        let refused = [
+            (Call::Read(Dev::Internal, 0, &[0]), false),
+            (Call::Write(Dev::Internal, 1, &[9]), false),
+            (Call::Sync(Dev::Internal), false),
+            (Call::Write(Dev::External, 0, &[5]), true),
+        ];
+        make_all(&rt, &mut second, &refused);
+        let went_on = [
+            (Call::Write(Dev::Internal, 2, &[3]), true),
+            (Call::Sync(Dev::External), false),
+        ];
+        make_all(&rt, &mut first, &went_on);
+    }
+    let after = [(Call::Write(Dev::Internal, 3, &[4]), true)];
+    make_all(&rt, &mut second, &after);
+    check_left(&rt, &rt, "internal.flash", &[1, 2, 3, 4]);
+    check_left(&rt, &rt, "external.flash", &[5, 0, 0, 0]);
+    remove_files(&rt);
+}
+
+#[test]
+fn one_run_at_a_time_makes_a_flash(rt: HostRuntime) -> Result<(), Fail> {
+    // Another run has made its file and fills it.
+    place(&rt, &rt, "internal.flash.new", b"0");
+    let other = fs::open(&rt, "internal.flash.new")?;
+    other.lock()?;
+    let mut m = FileMachine::new(&rt, 4);
+    make_all(&rt, &mut m, &[(Call::Sync(Dev::Internal), false)]);
+    assert_eq!(rt; there(&rt), [false, false, true, false]);
+    // That run is killed.
+    other.unlock()?;
+    let after = [(Call::Write(Dev::Internal, 3, &[1]), true)];
+    make_all(&rt, &mut m, &after);
+    assert_eq!(rt; there(&rt), [true, false, false, false]);
+    check_left(&rt, &rt, "internal.flash", &[0, 0, 0, 1]);
+    remove_files(&rt);
+    Ok(())
+}
+
+#[test]
+fn one_file_under_both_names_is_a_fault(rt: HostRuntime) {
+    for is_link in [false, true] {
+        place(&rt, &rt, "internal.flash", &[7; 4]);
+        let linked = if is_link {
+            symlink(&rt, "internal.flash", "external.flash")
+        } else {
+            fs::hard_link(&rt, "internal.flash", "external.flash")
+        };
+        assert!(rt; linked.is_ok());
+        let calls = [
+            (Call::Sync(Dev::Internal), true),
+            (Call::Sync(Dev::External), false),
+            (Call::Write(Dev::External, 0, &[1]), false),
+        ];
+        run(&rt, &rt, 4, &calls);
+        check_left(&rt, &rt, "internal.flash", &[7; 4]);
+        remove_files(&rt);
+    }
+}
+
+#[test]
+fn a_link_that_leads_nowhere_stays(rt: HostRuntime) -> Result<(), Fail> {
+    symlink(&rt, "card/e", "external.flash")?;
+    let calls = [
+        (Call::Sync(Dev::External), false),
+        (Call::Read(Dev::External, 0, &[0]), false),
+        (Call::Write(Dev::External, 0, &[1]), false),
+    ];
+    run(&rt, &rt, 4, &calls);
+    assert_eq!(rt; there(&rt), [false, true, false, false]);
+    assert_eq!(rt; fs::read_link(&rt, "external.flash")?.as_str(), "card/e");
+    remove_files(&rt);
+    Ok(())
+}
+
+#[test]
+fn what_a_leftover_leads_to_stays(rt: HostRuntime) -> Result<(), Fail> {
+    place(&rt, &rt, "kept.tmp", b"kept");
+    symlink(&rt, "kept.tmp", "internal.flash.new")?;
+    fs::hard_link(&rt, "kept.tmp", "external.flash.new")?;
+    let calls = [
+        (Call::Write(Dev::Internal, 0, &[1]), true),
+        (Call::Write(Dev::External, 0, &[2]), true),
+    ];
+    run(&rt, &rt, 2, &calls);
+    assert_eq!(rt; there(&rt), [true, true, false, false]);
+    check_left(&rt, &rt, "kept.tmp", b"kept");
+    check_left(&rt, &rt, "internal.flash", &[1, 0]);
+    check_left(&rt, &rt, "external.flash", &[2, 0]);
+    fs::remove_file(&rt, "kept.tmp")?;
+    remove_files(&rt);
+    Ok(())
+}
+
+#[test]
+fn a_file_machine_makes_no_file_before_an_operation_on_it(rt: HostRuntime) {
+    let mut m = FileMachine::new(&rt, 16);
+    assert_eq!(rt; m.size(Dev::Internal), 16);
+    make_all(&rt, &mut m, &[(Call::Show(b"URNA PRONTA 0\n"), true)]);
+    assert_eq!(rt; there(&rt), [false; 4]);
+    make_all(
+        &rt,
+        &mut m,
+        &[(Call::Read(Dev::External, 0, &[0; 16]), true)],
+    );
+    assert_eq!(rt; there(&rt), [false, true, false, false]);
+    check_left(&rt, &rt, "external.flash", &[0; 16]);
+    remove_files(&rt);
+}
+
+#[test]
+fn another_machine_reads_what_was_written_to_the_files(rt: HostRuntime) {
+    let writes = [
+        (Call::Write(Dev::Internal, 3, &[1, 2, 3]), true),
+        (Call::Write(Dev::External, 12, &[4, 5, 6, 7]), true),
+        (Call::Write(Dev::Internal, 4, &[8]), true),
+        (Call::Sync(Dev::Internal), true),
+        (Call::Sync(Dev::External), true),
+        (Call::Sync(Dev::Internal), true),
+    ];
+    run(&rt, &rt, 16, &writes);
+    let reads = [
+        (Call::Read(Dev::Internal, 2, &[0, 1, 8, 3, 0, 0]), true),
+        (Call::Read(Dev::External, 12, &[4, 5, 6, 7]), true),
+    ];
+    run(&rt, &rt, 16, &reads);
+    let longer = [
+        (Call::Read(Dev::Internal, 0, &[0]), false),
+        (Call::Write(Dev::Internal, 0, &[1]), false),
+        (Call::Sync(Dev::External), false),
+    ];
+    run(&rt, &rt, 17, &longer);
+    let left = [0, 0, 0, 1, 8, 3, 0, 0, 0, 0, 0, 0, 0, 0, 0, 0];
+    check_left(&rt, &rt, "internal.flash", &left);
+    remove_files(&rt);
+}
+
+/// A folder, each call on which fails in the same way, takes this.
+fn check_refused(abort: &impl Abort, rt: &HostRuntime, kind: ErrorKind, error: CabinetError) {
+    let watch = Watch::new(rt.alloc(), Fault::Everything(kind));
+    let watched = Watched { rt, watch: &watch };
+    let mut folder = FolderCabinet::new(&watched);
+    check_take(abort, rt.alloc(), &mut folder, "rol", 9, Err(error));
+}
+
+#[test]
+fn a_refusal_of_the_system_is_a_failure(rt: HostRuntime) {
+    let absent = [Step::Open, Step::Create];
+    let refused = [Step::Open];
+    for (kind, error, steps) in [
+        (
+            ErrorKind::NotFound,
+            CabinetError::Missing,
+            absent.as_slice(),
+        ),
+        (
+            ErrorKind::OutOfMemory,
+            CabinetError::Memory,
+            refused.as_slice(),
+        ),
+        (
+            ErrorKind::PermissionDenied,
+            CabinetError::Failed,
+            refused.as_slice(),
+        ),
+        (
+            ErrorKind::InvalidInput,
+            CabinetError::Failed,
+            refused.as_slice(),
+        ),
+    ] {
+        let rows = [
+            (Call::Show(b"FIM\n"), false, [Step::Show].as_slice()),
+            (Call::Read(Dev::Internal, 0, &[0]), false, steps),
+            (Call::Write(Dev::External, 0, &[1]), false, steps),
+            (Call::Sync(Dev::Internal), false, steps),
+        ];
+        check_refused(&rt, &rt, kind, error);
+        run_watched(&rt, &rt, Fault::Everything(kind), &rows);
+    }
+}
+
+#[test]
+fn a_document_is_read_through_a_duplicate(rt: HostRuntime) {
+    place(&rt, &rt, "taken.tmp", b"1");
+    let watch = Watch::new(rt.alloc(), Fault::Nothing);
+    let watched = Watched {
+        rt: &rt,
+        watch: &watch,
+    };
+    let mut folder = FolderCabinet::new(&watched);
+    check_take(&rt, rt.alloc(), &mut folder, "taken.tmp", 9, Ok(b"1"));
+    check_steps(&rt, rt.alloc(), &watch, &[Step::Open, Step::Duplicate]);
+    let _ = fs::remove_file(&rt, "taken.tmp");
+}
+
+/// Of a file of 70,000 bytes.
+#[test]
+fn a_folder_gives_a_file_up_to_the_limit(rt: HostRuntime) -> Result<(), Fail> {
+    let name = "taken.tmp";
+    let bytes = vec![in rt.alloc(); b'x'; 70_000]?;
+    place(&rt, &rt, name, &bytes);
+    let mut folder = FolderCabinet::new(&rt);
+    for (name, limit, taken) in [
+        (name, 70_000, Ok(bytes.as_slice())),
+        (name, 69_999, Err(CabinetError::TooLong)),
+        // A file where a folder should be.
+        ("taken.tmp/x", 9, Err(CabinetError::Failed)),
+        ("taken", 9, Err(CabinetError::Missing)),
+        ("", 9, Err(CabinetError::Missing)),
+        ("no/such/file", 9, Err(CabinetError::Missing)),
+        (".", 9, Err(CabinetError::Failed)),
+        ("a\0b", 9, Err(CabinetError::Failed)),
+    ] {
+        check_take(&rt, rt.alloc(), &mut folder, name, limit, taken);
+    }
+    fs::remove_file(&rt, name)?;
+    Ok(())
+}

@@ -1,0 +1,47 @@
+//! Files that one run at a time has open.
+use std::fs::OpenFile;
+use std::io::ErrorKind;
+use std::os::unix::fs::MetadataExt;
+use std::rt::Files;
+use std::{fs, io};
+
+/// A lock on a whole file. The system frees it when the file is closed, so also when the program is killed.
+pub trait FileLock {
+    /// Fails where the file is locked already: by another program, or because it has another name under which it was
+    /// opened before.
+    fn try_lock(&self) -> io::Result<()>;
+}
+
+impl FileLock for fs::File {
+    fn try_lock(&self) -> io::Result<()> {
+        fs::File::try_lock(self)?;
+        Ok(())
+    }
+}
+
+/// Fails where the name doesn't lead to this open file.
+pub(crate) fn check_name<R: Files>(rt: &R, opened: &R::File, name: &str) -> io::Result<()> {
+    let file = opened.metadata()?;
+    let named = fs::metadata(rt, name)?;
+    if file.dev() == named.dev() && file.ino() == named.ino() {
+        Ok(())
+    } else {
+        Err(io::Error::from(ErrorKind::ResourceBusy))
+    }
+}
+
+/// Locks a file that was opened under this name, for as long as it is open. Fails where the name leads to another file by
+/// now: who had the lock before may have removed this one.
+pub(crate) fn lock_named<R: Files>(rt: &R, opened: &R::File, name: &str) -> io::Result<()>
+where
+    R::File: FileLock,
+{
+    opened.try_lock()?;
+    check_name(rt, opened, name)
+}
+
+/// The same open file, with its lock, under a descriptor above those of the three standard streams. The system opens a
+/// file under the lowest free descriptor: where standard output is closed, what is shown would be written into that file.
+pub(crate) fn above_streams<F: OpenFile + Drop>(opened: F) -> io::Result<F> {
+    opened.try_clone()
+}
