@@ -1,4 +1,4 @@
-// Two flashes in memory that count what is put on them.
+//! Two flashes in memory that count what is put on them.
 ghost use Rattle.std.specs.Prelude.{◌≡◌, ◌+◌, ◌<◌, ◌≤◌, ◌^◌, length};
 ghost use Rattle.urna_outside.specs.MachineLaws.{none_sized};
 ghost use Rattle.state_store.specs.Rest.{device_size};
@@ -9,7 +9,7 @@ use urna_outside::{Dev, Failed, Machine};
 
 const SIZE: usize = DEVICE_SIZE as usize;
 
-// A machine that never fails and drops what it is given to show.
+/// A machine that never fails and drops what it is given to show.
 #[derive(Drop)]
 pub(crate) struct Bank {
     internal: Vec<u8>,
@@ -22,7 +22,7 @@ pub(crate) struct Bank {
 }
 
 impl Bank {
-    // Two flashes of zeros.
+    /// Two flashes of zeros.
     pub(crate) fn new(alloc: Global) -> Result<Bank, AllocError> {
         Ok(Bank {
             internal: vec![in alloc; 0; SIZE]?,
@@ -32,12 +32,12 @@ impl Bank {
         })
     }
 
-    // How many bytes were put.
+    /// How many bytes were put.
     pub(crate) fn put(&self) -> u64 {
         self.put
     }
 
-    // How many syncs were made.
+    /// How many syncs were made.
     pub(crate) fn syncs(&self) -> u64 {
         self.syncs
     }

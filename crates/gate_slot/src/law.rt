@@ -1,4 +1,4 @@
-// What a fact of a slot means, and what it survives.
+//! What a fact of a slot means, and what it survives.
 ghost use Rattle.std.specs.Prelude.{◌≡◌, ◌≢◌, ℕ, List, length};
 ghost use Rattle.urna_outside.specs.Flash.{Op, Flash, Flashes, flash_of, after_one, part, IsImage, Stably};
 ghost use Rattle.urna_outside.specs.declared.device.Dev.{Dev};

@@ -1,4 +1,4 @@
-// The states of a slot, as tokens.
+//! The states of a slot, as tokens.
 ghost use Rattle.std.specs.Prelude.{◌≡◌, ◌≢◌, ◌==◌, ℕ, ◌+◌, ◌*◌, ◌<◌, ◌≤◌, List, [], length, IfOk, IfErr, IfSome, IfNone, OnSome, OnOk, OnErr};
 ghost use Rattle.std.specs.Bool.{OnTrue};
 ghost use Rattle.urna_outside.specs.Flash.{IsClean};
@@ -16,7 +16,7 @@ use urna_outside::{Dev, Machine};
 /// The value of an open gate. Every other value counts as shut.
 pub const OPEN: u8 = 0xA5;
 
-// The value that an open gate is shut with. It differs from OPEN in every bit.
+/// The value that an open gate is shut with. It differs from OPEN in every bit.
 const CLOSED: u8 = 0x5A;
 
 /// The bytes of a header, behind which slot 0 begins.
@@ -75,7 +75,7 @@ impl<const SIZE: usize> Slot<SIZE> {
     ghost use Rattle.gate_slot.specs.Token.{slot_of_shut};
     ghost use Rattle.gate_slot.specs.Slot.{gate_place, padding_place, body_place};
 
-    // The size of the slot's device keeps the sums within 32 bits.
+    /// The size of the slot's device keeps the sums within 32 bits.
     fn gate(&self, size: u32) -> u32
         requires index { self.now.index < 2 }
         requires room { room SIZE ≤ size }
@@ -101,7 +101,7 @@ impl<const SIZE: usize> Slot<SIZE> {
         self.gate(size) + 1
     }
 
-    // The gate that is read.
+    /// The gate that is read.
     fn read_gate<M: Machine>(self, m: &mut M) -> Result<u8, Dev>
         requires index { self.index < 2 }
         requires room { room SIZE ≤ size_of self.dev (M.told m.old).sizes }

@@ -84,7 +84,7 @@ fn left(
     Ok((image[GATE], body))
 }
 
-// Each step is a write and a sync.
+/// Each step is a write and a sync.
 #[test]
 fn a_slot_is_taken_over_shut_filled_and_published(rt: HostRuntime) -> Result<(), Fail> {
     let mut m = machine(&rt, &[])?;
@@ -119,7 +119,7 @@ fn a_slot_with_another_body_or_a_shut_one_is_not_taken_over(rt: HostRuntime) -> 
     Ok(())
 }
 
-// The gate is read, and each step is a write and a sync.
+/// The gate is read, and each step is a write and a sync.
 #[test]
 fn a_step_that_fails_leaves_what_it_owes(rt: HostRuntime) -> Result<(), Fail> {
     for (call, step) in [
@@ -147,7 +147,7 @@ fn a_step_that_fails_leaves_what_it_owes(rt: HostRuntime) -> Result<(), Fail> {
     Ok(())
 }
 
-// The gate is read, and then the body.
+/// The gate is read, and then the body.
 #[test]
 fn a_device_that_fails_to_read_is_answered(rt: HostRuntime) -> Result<(), Fail> {
     for call in [0, 1] {

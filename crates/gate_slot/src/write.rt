@@ -1,4 +1,4 @@
-// A write that is synced.
+//! A write that is synced.
 ghost use Rattle.std.specs.Prelude.{◌≡◌, ◌+◌, ◌≤◌, ◌∷◌, [], length, OnOk, OnErr};
 ghost use Rattle.urna_outside.specs.Flash.{Put, Sync};
 ghost use Rattle.urna_outside.specs.Confined.{IsInRange};
@@ -9,7 +9,7 @@ ghost use Rattle.gate_slot.specs.Slot.{IsOneWrite};
 
 use urna_outside::{Dev, Failed, Machine};
 
-// Writes bytes and syncs their device.
+/// Writes bytes and syncs their device.
 pub(crate) fn write_through<M: Machine>(
     m: &mut M,
     dev: Dev,

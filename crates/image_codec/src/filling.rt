@@ -44,7 +44,7 @@ pub(crate) fn fill_votes(votes: &mut Rdv, tables: &Tables, came: u32, bytes: &[u
     }
 }
 
-// Adds the votes of a panel. They come in the order of choices, so each is put at the end of its bag.
+/// Adds the votes of a panel. They come in the order of choices, so each is put at the end of its bag.
 fn fill_bag(votes: &mut Rdv, tables: &Tables, panel: u32, count: u32, bytes: &[u8])
     requires panel { panel < length tables.now.panels }
     requires panels { length votes.old.bags ≡ length tables.now.panels }

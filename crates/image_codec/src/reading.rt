@@ -29,7 +29,7 @@ pub(crate) struct Head {
     pub came: u32,
 }
 
-// The number in four bytes.
+/// The number in four bytes.
 fn number4_at(bytes: &[u8], at: usize) -> u32
     requires { at + 4 ≤ length bytes.now }
     ensures { result ≡ number4_at bytes.now at }
@@ -37,7 +37,7 @@ fn number4_at(bytes: &[u8], at: usize) -> u32
     be32([bytes[at], bytes[at + 1], bytes[at + 2], bytes[at + 3]])
 }
 
-// The number in eight bytes.
+/// The number in eight bytes.
 fn number8_at(bytes: &[u8], at: usize) -> u64
     requires { at + 8 ≤ length bytes.now }
     ensures { result ≡ number8_at bytes.now at }
@@ -87,7 +87,7 @@ pub(crate) fn is_marked(field: &[u8], place: u32) -> bool
     (field[(place / 8) as usize] >> (7 - place % 8)) % 2 == 1
 }
 
-// How many voters of the roll are marked.
+/// How many voters of the roll are marked.
 #[tactic(auto, using(crate::proofs::ReadParts::marks_none, crate::proofs::ReadParts::count_more))]
 fn count_marks(field: &[u8], voters: u32) -> u32
     requires field { length field.now ≡ turnout_size }
@@ -103,7 +103,7 @@ fn count_marks(field: &[u8], voters: u32) -> u32
     count
 }
 
-// Whether no place past the roll is marked.
+/// Whether no place past the roll is marked.
 #[tactic(auto, using(crate::proofs::ReadParts::no_more_from, crate::proofs::ReadParts::no_more_ends))]
 fn has_no_more(field: &[u8], voters: u32) -> bool
     requires field { length field.now ≡ turnout_size }
@@ -126,7 +126,7 @@ pub(crate) fn vote_at(bytes: &[u8]) -> Option<Choice>
     Choice::of_parts(bytes[0], number4_at(bytes, 1))
 }
 
-// The vote in front, if it is a choice of the panel that stands at `before` or after it.
+/// The vote in front, if it is a choice of the panel that stands at `before` or after it.
 #[tactic(auto, unfolding(crate::specs::Decoded::vote_in))]
 fn vote_in(tables: &Tables, panel: u32, before: Choice, bytes: &[u8]) -> Option<Choice>
     requires panel { panel < length tables.now.panels }
@@ -141,7 +141,7 @@ fn vote_in(tables: &Tables, panel: u32, before: Choice, bytes: &[u8]) -> Option<
     }
 }
 
-// Whether a bag of so many votes is in front.
+/// Whether a bag of so many votes is in front.
 #[tactic(auto, using(crate::proofs::ReadParts::bag_missing, crate::proofs::ReadParts::bag_starts))]
 fn has_bag(tables: &Tables, panel: u32, count: u32, bytes: &[u8]) -> bool
     requires panel { panel < length tables.now.panels }
@@ -163,7 +163,7 @@ fn has_bag(tables: &Tables, panel: u32, count: u32, bytes: &[u8]) -> bool
     true
 }
 
-// Whether a bag with the votes of so many voters is there for each panel, and zeros after them.
+/// Whether a bag with the votes of so many voters is there for each panel, and zeros after them.
 fn has_bags(tables: &Tables, came: u32, bytes: &[u8]) -> bool
     requires few { came ≤ most_voters }
     requires bytes { most_offices * (4 + 10 * came) ≤ length bytes.now }
@@ -186,7 +186,7 @@ fn is_zero(bytes: &[u8]) -> bool
     bytes.iter().all(|byte| *byte == 0)
 }
 
-// Whether the version is that of the image, so many came, none of them past the roll, and there are so many panels.
+/// Whether the version is that of the image, so many came, none of them past the roll, and there are so many panels.
 #[tactic(auto, unfolding(crate::specs::Decoded::has_counts))]
 fn has_counts(voters: u32, came: u32, panels: u32, bytes: &[u8]) -> bool
     requires few { voters ≤ most_voters }
@@ -199,7 +199,7 @@ fn has_counts(voters: u32, came: u32, panels: u32, bytes: &[u8]) -> bool
         && u32::from(bytes[PANELS_PLACE]) == panels
 }
 
-// What stands before the bags, if all of it is as it is written.
+/// What stands before the bags, if all of it is as it is written.
 #[tactic(auto, unfolding(crate::specs::Decoded::phase_in))]
 fn head_in(voters: u32, panels: u32, bytes: &[u8]) -> Option<Head>
     requires few { voters ≤ most_voters }

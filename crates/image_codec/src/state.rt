@@ -185,7 +185,7 @@ pub(crate) fn rank_with(phase: Phase, came: u32) -> u32
     }
 }
 
-// One voter's choices: each goes into the bag of its panel.
+/// One voter's choices: each goes into the bag of its panel.
 fn add_choices(votes: &mut Rdv, tables: &Tables, choices: &[Choice])
     requires ballot { IsBallot (ballot_lines tables.now) choices.now }
     requires panels { length votes.old.bags ≡ length tables.now.panels }

@@ -30,7 +30,7 @@ pub fn encode_into(state: &State, tables: &Tables, into: &mut [u8])
     into[end..].fill(0);
 }
 
-// The part of fixed length goes to the front. This and each call below answers where its text ends.
+/// The part of fixed length goes to the front. This and each call below answers where its text ends.
 fn put_head(state: &State, came: u32, panels: u8, into: &mut [u8]) -> usize
     requires came { came ≡ number_came state.now.came }
     requires panels { panels ≡ length state.now.bags }
@@ -51,7 +51,7 @@ fn put_head(state: &State, came: u32, panels: u8, into: &mut [u8]) -> usize
     put(into, end, &[panels])
 }
 
-// The bags of all panels. The caller owes that there are so many, and room.
+/// The bags of all panels. The caller owes that there are so many, and room.
 fn put_bags(votes: &Rdv, panels: u32, into: &mut [u8], at: usize) -> usize
     requires panels { panels ≡ length votes.now.bags }
     requires room { at + length (flat_map bag_bytes votes.now.bags) ≤ length into.old }
@@ -65,7 +65,7 @@ fn put_bags(votes: &Rdv, panels: u32, into: &mut [u8], at: usize) -> usize
     end
 }
 
-// The bag of a panel. The caller owes that the record has it, and room.
+/// The bag of a panel. The caller owes that the record has it, and room.
 fn put_bag(votes: &Rdv, panel: u32, into: &mut [u8], at: usize) -> usize
     requires panel { panel < length votes.now.bags }
     requires room { at + length (bag_bytes (bag_at votes.now.bags panel)) ≤ length into.old }
@@ -80,7 +80,7 @@ fn put_bag(votes: &Rdv, panel: u32, into: &mut [u8], at: usize) -> usize
     end
 }
 
-// Some bytes. The caller owes room.
+/// Some bytes. The caller owes room.
 fn put(into: &mut [u8], at: usize, bytes: &[u8]) -> usize
     requires { at + length bytes.now ≤ length into.old }
     ensures end { result ≡ at + length bytes.now }
@@ -108,7 +108,7 @@ fn turnout_bytes(turnout: &Turnout) -> [u8; TURNOUT_SIZE]
     bytes
 }
 
-// The bits of eight places of the roll, the first of which is the highest.
+/// The bits of eight places of the roll, the first of which is the highest.
 fn eight_places(turnout: &Turnout, place: u32) -> u8
     requires { place < 600 }
     ensures { result ≡ eight_places turnout.now place }

@@ -8,7 +8,7 @@ ghost use Rattle.key_script.specs.Script.{after_word, moment_value, clerk_line, 
 use crate::keys::{ClerkKey, Event, Key};
 use urna_base::{digits, moment_ok};
 
-// The clerk's key that a line spells.
+/// The clerk's key that a line spells.
 fn clerk_key(line: &[u8]) -> Option<ClerkKey>
     ensures { result ≡ clerk_line line.now }
 {
@@ -33,7 +33,7 @@ fn clerk_key(line: &[u8]) -> Option<ClerkKey>
     None
 }
 
-// The bytes of a voter's line that spell keys: at least one.
+/// The bytes of a voter's line that spell keys: at least one.
 pub(crate) fn voter_keys(line: &[u8]) -> Option<&[u8]>
     ensures value { MatchOption result (voter_line line.now ≡ None) (λ keys. voter_line line.now ≡ events_of_keys keys.now) }
     ensures some { IfSome result (λ keys. 0 < length keys.now) }
@@ -47,28 +47,28 @@ pub(crate) fn voter_keys(line: &[u8]) -> Option<&[u8]>
     }
 }
 
-// Whether a line is of the form.
+/// Whether a line is of the form.
 pub(crate) fn has_form(line: &[u8]) -> bool
     ensures { result ≡ is_some (events_of_line line.now) }
 {
     voter_keys(line).is_some() || clerk_key(line).is_some()
 }
 
-// The event of a clerk's line.
+/// The event of a clerk's line.
 pub(crate) fn clerk_event(line: &[u8]) -> Option<Event>
     ensures { result ≡ option_map (λ key. Event.Clerk key) (clerk_line line.now) }
 {
     clerk_key(line).map(Event::Clerk)
 }
 
-// The event of a byte that spells a key.
+/// The event of a byte that spells a key.
 pub(crate) fn key_event(byte: u8) -> Option<Event>
     ensures { result ≡ voter_event byte }
 {
     key_of(byte).map(Event::Voter)
 }
 
-// The voter's key that a byte spells.
+/// The voter's key that a byte spells.
 fn key_of(byte: u8) -> Option<Key>
     ensures { result ≡ key_of_byte byte }
 {
@@ -81,14 +81,14 @@ fn key_of(byte: u8) -> Option<Key>
     }
 }
 
-// Whether each byte spells a key.
+/// Whether each byte spells a key.
 fn are_keys(keys: &[u8]) -> bool
     ensures { result ≡ list_all (λ c. is_some (key_of_byte c)) keys.now }
 {
     keys.iter().all(|byte| key_of(*byte).is_some())
 }
 
-// The valid moment that follows a word and ends the line.
+/// The valid moment that follows a word and ends the line.
 fn moment_after(word: &[u8], line: &[u8]) -> Option<u64>
     ensures { result ≡ option_and_then moment_value (after_word word.now line.now) }
 {
@@ -100,21 +100,21 @@ fn moment_after(word: &[u8], line: &[u8]) -> Option<u64>
     }
 }
 
-// The title of 12 digits that follows a word and ends the line.
+/// The title of 12 digits that follows a word and ends the line.
 fn title_after(word: &[u8], line: &[u8]) -> Option<u64>
     ensures { result ≡ option_and_then (λ text. digits_value 12 text) (after_word word.now line.now) }
 {
     digits(after(word, line)?, 12)
 }
 
-// Whether a line is a word and nothing else.
+/// Whether a line is a word and nothing else.
 fn is_word(line: &[u8], word: &[u8]) -> bool
     ensures { result ≡ bytes_eq line.now word.now }
 {
     line == word
 }
 
-// What follows a word at the front of a line.
+/// What follows a word at the front of a line.
 fn after<'a>(word: &[u8], line: &'a [u8]) -> Option<&'a [u8]>
     ensures { option_copied result ≡ after_word word.now line.now }
 {

@@ -105,7 +105,7 @@ impl<'a> Iterator for Events<'a> {
     }
 }
 
-// The number of the first line that isn't of the form.
+/// The number of the first line that isn't of the form.
 fn first_bad_line(text: &[u8]) -> Option<u32>
     requires { length text.now < 2 ^ 31 }
     ensures { result ≡ first_bad text.now }

@@ -51,15 +51,15 @@ fn a_poll_of_two_voters_of_whom_one_came(rt: HostRuntime) -> Result<(), Fail> {
     Ok(())
 }
 
-// A sealed poll: version and phase, 20261004080000, 20261004170000, how many came, the first and the third of three voters.
+/// A sealed poll: version and phase, 20261004080000, 20261004170000, how many came, the first and the third of three voters.
 const SEALED: [u8; 23] = [
     1, 2, 0, 0, 18, 109, 97, 243, 115, 128, 0, 0, 18, 109, 97, 244, 211, 16, 0, 0, 0, 2, 160,
 ];
 
-// One panel: a vote for candidate 45 and a blank one.
+/// One panel: a vote for candidate 45 and a blank one.
 const VOTES: [u8; 15] = [1, 0, 0, 0, 2, 1, 0, 0, 0, 45, 3, 0, 0, 0, 0];
 
-// A body of zeros but for its front and the bytes from the number of panels on.
+/// A body of zeros but for its front and the bytes from the number of panels on.
 fn body_of(alloc: Global, front: &[u8], bags: &[u8]) -> Result<Vec<u8>, Memory>
     requires front { length front.now ≤ 97 }
     requires bags { length bags.now ≤ 1000 }
@@ -93,7 +93,7 @@ fn a_sealed_poll_is_read_and_written_again(rt: HostRuntime) -> Result<(), Fail> 
     Ok(())
 }
 
-// An open poll whose one voter came, and chose candidate 13.
+/// An open poll whose one voter came, and chose candidate 13.
 const POLLING: [u8; 23] = [
     1, 1, 0, 0, 18, 109, 97, 243, 115, 128, 0, 0, 0, 0, 0, 0, 0, 0, 0, 0, 0, 1, 128,
 ];
@@ -180,7 +180,7 @@ fn a_body_with_a_wrong_field_is_no_encoding(rt: HostRuntime) -> Result<(), Fail>
     Ok(())
 }
 
-// Whether the sealed poll is no encoding with these bytes in a place.
+/// Whether the sealed poll is no encoding with these bytes in a place.
 fn is_refused(alloc: Global, tables: &Tables, at: usize, bytes: &[u8]) -> Result<bool, Memory>
     requires { at + length bytes.now ≤ 65536 }
 {

@@ -40,7 +40,7 @@ fn key_of(byte: u8) -> Key
     }
 }
 
-// What keys show on a panel of CAP digits, and each choice with which one ends it.
+/// What keys show on a panel of CAP digits, and each choice with which one ends it.
 fn shown_by<const CAP: u8>(
     rt: &(impl Abort + AllocGlobal),
     tables: &Tables,

@@ -5,7 +5,7 @@ ghost use Rattle.key_script.specs.Event.{IsEvent, keys_of};
 use key_script::{ClerkKey, Event, Key, LineError, Script};
 use std::process::Abort;
 
-// A step that asks for a valid event.
+/// A step that asks for a valid event.
 fn digit_of(event: Event) -> u8
     requires { IsEvent event }
     ensures { result < 10 }
@@ -16,7 +16,7 @@ fn digit_of(event: Event) -> u8
     }
 }
 
-// How many of a script's events are the voter's, and the digits' sum: a fold as the layers above write it.
+/// How many of a script's events are the voter's, and the digits' sum: a fold as the layers above write it.
 fn voter_presses(script: &Script) -> (u64, u64)
     ensures { result.0 ≡ length (keys_of script.now) }
 {
@@ -31,7 +31,7 @@ fn voter_presses(script: &Script) -> (u64, u64)
     (count, digits)
 }
 
-// A short text, read.
+/// A short text, read.
 fn read(rt: &(impl Abort + AllocGlobal), text: &[u8]) -> Result<Script, LineError> {
     assert!(rt; text.len() < 1000);
     let bytes = Vec::from_slice(rt.alloc(), text).expect(rt, "memory");

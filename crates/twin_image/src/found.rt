@@ -1,4 +1,4 @@
-// The body that both flashes hold, and the slots brought to it.
+//! The body that both flashes hold, and the slots brought to it.
 ghost use Rattle.std.specs.Prelude.{◌≡◌, length, vec_capacity};
 
 use crate::Level;
@@ -29,7 +29,7 @@ impl<const SIZE: usize> Found<SIZE> {
     ghost use Rattle.twin_image.specs.Slots.{HaveRoom, AreClean};
     ghost use Rattle.twin_image.specs.Twin.{IsTwin};
 
-    // What a survey found, and room to read another body.
+    /// What a survey found, and room to read another body.
     pub(crate) fn of(body: Vec<u8>, buffer: Vec<u8>) -> Found<SIZE>
         requires body { length body.items ≡ SIZE }
         requires buffer { length buffer.items ≡ SIZE }

@@ -1,4 +1,4 @@
-// What it means to be held, and how many operations a commit has.
+//! What it means to be held, and how many operations a commit has.
 ghost use Rattle.std.specs.Prelude.{◌≡◌, ◌↔◌, ℕ, List, [], Option, Some, None, length};
 ghost use Rattle.urna_outside.specs.Confined.{count_syncs};
 ghost use Rattle.urna_outside.specs.Flash.{Op};

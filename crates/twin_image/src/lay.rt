@@ -1,4 +1,4 @@
-// A device is loaded: its slots are shut and filled, its frame is written, its slots are published.
+//! A device is loaded: its slots are shut and filled, its frame is written, its slots are published.
 ghost use Rattle.std.specs.Prelude.{◌≡◌, ◌<◌, ◌≤◌, ◌∷◌, ◌++◌, List, length, IfOk, IfErr, OnOk, OnErr};
 ghost use Rattle.urna_outside.specs.Flash.{IsClean, Op, flash_of};
 ghost use Rattle.urna_outside.specs.Faults.{FailsAt};
@@ -17,7 +17,7 @@ ghost use Rattle.twin_image.specs.Twin.{IsOfTwin, IsTwin, shutting_ops};
 use gate_slot::{Filled, Live, PADDING_SIZE, Shut, Slot, Torn};
 use urna_outside::{Dev, Failed, Machine};
 
-// Shuts both slots of a device.
+/// Shuts both slots of a device.
 fn shut_both<M: Machine, const SIZE: usize>(
     m: &mut M,
     dev: Dev,
@@ -48,7 +48,7 @@ fn shut_both<M: Machine, const SIZE: usize>(
     Ok((first, second))
 }
 
-// Fills both slots of a device with a body.
+/// Fills both slots of a device with a body.
 fn fill_both<M: Machine, const SIZE: usize>(
     m: &mut M,
     dev: Dev,
@@ -76,14 +76,14 @@ fn fill_both<M: Machine, const SIZE: usize>(
     Ok((first, second))
 }
 
-// The bytes behind a gate.
+/// The bytes behind a gate.
 fn zeros() -> [u8; PADDING_SIZE]
     ensures { result ≡ padding }
 {
     [0; PADDING_SIZE]
 }
 
-// Writes the frame of a device and syncs it.
+/// Writes the frame of a device and syncs it.
 fn write_frame<M: Machine, const SIZE: usize>(
     m: &mut M,
     dev: Dev,
@@ -106,7 +106,7 @@ fn write_frame<M: Machine, const SIZE: usize>(
     m.sync(dev)
 }
 
-// Publishes both slots of a device.
+/// Publishes both slots of a device.
 fn publish_both<M: Machine, const SIZE: usize>(
     m: &mut M,
     dev: Dev,
@@ -132,8 +132,8 @@ fn publish_both<M: Machine, const SIZE: usize>(
     Ok((first, second))
 }
 
-// Loads a device: until its frame is written no slot is open that wasn't, and from then on each open slot has the
-// body and the frame is whole.
+/// Loads a device: until its frame is written no slot is open that wasn't, and from then on each open slot has the
+/// body and the frame is whole.
 pub(crate) fn lay_on<M: Machine, const SIZE: usize>(
     m: &mut M,
     dev: Dev,

@@ -1,4 +1,4 @@
-// The same body in all four slots of two devices.
+//! The same body in all four slots of two devices.
 ghost use Rattle.std.specs.Prelude.{◌≡◌, ◌≢◌, ◌≤◌, length, vec_capacity, IfOk, IfErr, OnOk};
 ghost use Rattle.std.specs.Option.{ForSome};
 ghost use Rattle.urna_outside.specs.Flash.{IsClean};
@@ -26,7 +26,7 @@ pub struct Level<const SIZE: usize> {
     ghost room: { vec_capacity body ≡ SIZE },
 }
 
-// Renews the two slots of a device.
+/// Renews the two slots of a device.
 fn renew_on<M: Machine, const SIZE: usize>(
     m: &mut M,
     dev: Dev,
@@ -62,7 +62,7 @@ impl<const SIZE: usize> Level<SIZE> {
     ghost use Rattle.twin_image.specs.Level.{body_of, Stands, CommitsTo};
     ghost use Rattle.twin_image.specs.Order.{AreRenewals};
 
-    // A level of these tokens.
+    /// A level of these tokens.
     pub(crate) fn of(
         internal: (Live<SIZE>, Live<SIZE>),
         external: (Live<SIZE>, Live<SIZE>),

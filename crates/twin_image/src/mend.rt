@@ -1,4 +1,4 @@
-// Slots are brought to the body that is held.
+//! Slots are brought to the body that is held.
 ghost use Rattle.std.specs.Prelude.{◌≡◌, [], ◌<◌, ◌≤◌, length, IfOk, IfErr, OnOk};
 ghost use Rattle.urna_outside.specs.Flash.{IsClean};
 ghost use Rattle.urna_outside.specs.Faults.{FailsAt};
@@ -14,7 +14,7 @@ use crate::turn::turn;
 use gate_slot::{Live, Slot, adopt};
 use urna_outside::{Dev, Machine};
 
-// Takes a slot over that is live with a body, and otherwise brings it to that body.
+/// Takes a slot over that is live with a body, and otherwise brings it to that body.
 fn mend<M: Machine, const SIZE: usize>(
     m: &mut M,
     slot: Slot<SIZE>,
@@ -51,7 +51,7 @@ fn mend<M: Machine, const SIZE: usize>(
     }
 }
 
-// Mends slot 0 and then slot 1 of a device.
+/// Mends slot 0 and then slot 1 of a device.
 pub(crate) fn mend_twin<M: Machine, const SIZE: usize>(
     m: &mut M,
     dev: Dev,

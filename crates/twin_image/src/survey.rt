@@ -1,4 +1,4 @@
-// The four slots are read, and the body that they hold is kept.
+//! The four slots are read, and the body that they hold is kept.
 ghost use Rattle.std.specs.Prelude.{◌≡◌, length, nat_lt, true, vec_capacity};
 ghost use Rattle.std.specs.Option.{option_map_or};
 
@@ -15,7 +15,7 @@ pub enum SurveyError {
     NoImage,
 }
 
-// The best body so far and its rank, which is none as long as no slot stood; and room to read another body.
+/// The best body so far and its rank, which is none as long as no slot stood; and room to read another body.
 #[derive(Drop)]
 pub(crate) struct Best<const SIZE: usize> {
     pub(crate) rank: Option<u32>,
@@ -27,7 +27,7 @@ pub(crate) struct Best<const SIZE: usize> {
     ghost buffer_room: { vec_capacity buffer ≡ SIZE },
 }
 
-// Whether a rank is greater than that of the best body.
+/// Whether a rank is greater than that of the best body.
 fn is_better(rank: u32, best: Option<u32>) -> bool
     ensures { result ≡ option_map_or (λ other. nat_lt other rank) best true }
 {
@@ -48,7 +48,7 @@ impl<const SIZE: usize> Best<SIZE> {
     ghost use Rattle.twin_image.specs.Slots.{HaveRoom};
     ghost use Rattle.std.specs.Option.{ForSome};
 
-    // Looks at one more slot, and keeps its body where that is better.
+    /// Looks at one more slot, and keeps its body where that is better.
     fn look<M: Machine, R: Ranked>(
         self,
         m: &mut M,
@@ -92,7 +92,7 @@ impl<const SIZE: usize> Best<SIZE> {
         }
     }
 
-    // Looks at both slots of a device.
+    /// Looks at both slots of a device.
     fn look_on<M: Machine, R: Ranked>(
         self,
         m: &mut M,
@@ -116,7 +116,7 @@ impl<const SIZE: usize> Best<SIZE> {
         best.look(m, ranks, Slot { dev, index: 1 })
     }
 
-    // The best body of the four slots, from nothing seen so far.
+    /// The best body of the four slots, from nothing seen so far.
     pub(crate) fn look_at_all<M: Machine, R: Ranked>(
         self,
         m: &mut M,

@@ -152,7 +152,7 @@ fn a_renewal_is_stopped_after_each_operation(rt: HostRuntime) -> Result<(), Fail
     Ok(())
 }
 
-// A gate and a body of each slot are read, and then the fourth call is the write of the first body.
+/// A gate and a body of each slot are read, and then the fourth call is the write of the first body.
 #[test]
 fn a_renewal_whose_device_fails_is_torn(rt: HostRuntime) -> Result<(), Fail> {
     let mut m = machine(&rt, &[7])?;

@@ -1,4 +1,4 @@
-// One slot is brought to a new body.
+//! One slot is brought to a new body.
 ghost use Rattle.std.specs.Prelude.{◌≡◌, ℕ, ◌<◌, ◌≤◌, List, length, IfOk, IfErr, OnOk, OnErr};
 ghost use Rattle.urna_outside.specs.Flash.{IsClean};
 ghost use Rattle.urna_outside.specs.Faults.{FailsAt};
@@ -12,7 +12,7 @@ ghost use Rattle.twin_image.specs.Twin.{IsLive, IsOfSlot, StepLeaves, Turns, tur
 use gate_slot::{Live, Slot, Torn};
 use urna_outside::Machine;
 
-// Shuts a slot, fills it with a body and publishes it.
+/// Shuts a slot, fills it with a body and publishes it.
 pub(crate) fn turn<M: Machine, const SIZE: usize>(
     m: &mut M,
     slot: Slot<SIZE>,

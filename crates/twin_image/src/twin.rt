@@ -1,4 +1,4 @@
-// The four slots before anything is known of them.
+//! The four slots before anything is known of them.
 ghost use Rattle.std.specs.Prelude.{◌≡◌, length, vec_capacity};
 
 use crate::lay::lay_on;

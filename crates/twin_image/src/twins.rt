@@ -1,4 +1,4 @@
-// Both slots of a device are brought to a new body.
+//! Both slots of a device are brought to a new body.
 ghost use Rattle.std.specs.Prelude.{◌≡◌, ◌<◌, ◌≤◌, ◌++◌, length, IfOk, IfErr, OnOk};
 ghost use Rattle.std.specs.Option.{ForSome};
 ghost use Rattle.urna_outside.specs.Flash.{IsClean};

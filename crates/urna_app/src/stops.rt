@@ -98,7 +98,7 @@ fn told(rt: &(impl Abort + AllocGlobal), images: Images) -> Result<Vec<u8>, Fail
     Ok(m.shown().to_vec(rt.alloc())?)
 }
 
-// The commit of the first voter is stopped in its fifth operation, the put of the first gate.
+/// The commit of the first voter is stopped in its fifth operation, the put of the first gate.
 #[test]
 fn a_commit_stopped_at_its_first_gate(rt: HostRuntime) -> Result<(), Fail> {
     let (_, opened) = run(&rt, OPENS, loaded(&rt, LOAD)?)?;
@@ -145,7 +145,7 @@ fn a_commit_stopped_at_its_first_gate(rt: HostRuntime) -> Result<(), Fail> {
     Ok(())
 }
 
-// The first sync of the external flash in that commit fails once.
+/// The first sync of the external flash in that commit fails once.
 #[test]
 fn a_commit_stopped_at_the_external_flash(rt: HostRuntime) -> Result<(), Fail> {
     let (_, opened) = run(&rt, OPENS, loaded(&rt, LOAD)?)?;
@@ -164,7 +164,7 @@ fn a_commit_stopped_at_the_external_flash(rt: HostRuntime) -> Result<(), Fail> {
     panic!(&rt; "no such call failed");
 }
 
-// The voter has counted, both slots of the external flash are mended, and the voter can't come again.
+/// The voter has counted, both slots of the external flash are mended, and the voter can't come again.
 fn goes_on_with_one_voter(rt: &(impl Abort + AllocGlobal), images: Images) -> Result<(), Fail> {
     let (status, healed) = run(rt, ON, images)?;
     assert_eq!(rt; status, Status::Done);
@@ -216,8 +216,8 @@ fn tells_one_of(
     Ok(Some(line.as_slice()) == one || Some(line.as_slice()) == next)
 }
 
-// Each call of a session fails once. Its port is answered then, and what is shown is a front of the session's text.
-// One that always answers want of memory is refused here.
+/// Each call of a session fails once. Its port is answered then, and what is shown is a front of the session's text.
+/// One that always answers want of memory is refused here.
 #[test]
 fn each_call_of_a_session_fails_once(rt: HostRuntime) -> Result<(), Fail> {
     let (done, whole) = run(&rt, TWO_VOTERS, loaded(&rt, LOAD)?)?;
@@ -281,7 +281,7 @@ const TEARS: [Tear; 4] = [
     Tear::Byte(0xA5),
 ];
 
-// A session is stopped after each operation. One that commits but once at its end, or shows FIM after one flash, is refused here.
+/// A session is stopped after each operation. One that commits but once at its end, or shows FIM after one flash, is refused here.
 #[test]
 fn one_commit_at_the_end_is_seen_at_the_stops(rt: HostRuntime) -> Result<(), Fail> {
     let m = two_voters(&rt)?;
@@ -321,7 +321,7 @@ fn filled(
     )
 }
 
-// Dirty bytes are those of flashes at rest with a state of greater rank.
+/// Dirty bytes are those of flashes at rest with a state of greater rank.
 #[test]
 fn a_session_stopped_over_a_later_state(rt: HostRuntime) -> Result<(), Fail> {
     let m = two_voters(&rt)?;
@@ -354,7 +354,7 @@ fn torn_at(rt: &impl AllocGlobal, new: &[u8], old: &[u8], at: usize) -> Result<V
     )
 }
 
-// The next operation is stopped where it has put the bytes up to a place.
+/// The next operation is stopped where it has put the bytes up to a place.
 #[test]
 fn a_session_stopped_inside_each_body(rt: HostRuntime) -> Result<(), Fail> {
     let m = two_voters(&rt)?;

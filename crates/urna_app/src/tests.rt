@@ -402,7 +402,7 @@ fn keys_of_one_byte_too_many(rt: HostRuntime) -> Result<(), Fail> {
     Ok(())
 }
 
-// Tables in which one piece of text stands in the place of another break this rule first.
+/// Tables in which one piece of text stands in the place of another break this rule first.
 #[test]
 fn tables_at_fault(rt: HostRuntime) -> Result<(), Fail> {
     let rows = [
@@ -445,7 +445,7 @@ fn tables_at_fault(rt: HostRuntime) -> Result<(), Fail> {
     Ok(())
 }
 
-// A section is loaded, loaded again, opened and sealed; then it can't be loaded.
+/// A section is loaded, loaded again, opened and sealed; then it can't be loaded.
 #[test]
 fn a_poll_from_its_load_to_its_end(rt: HostRuntime) -> Result<(), Fail> {
     let told = b"CARGA 1 42 1\n";
@@ -494,7 +494,7 @@ fn a_poll_from_its_load_to_its_end(rt: HostRuntime) -> Result<(), Fail> {
     Ok(())
 }
 
-// A poll that is open is in use, before its first voter too.
+/// A poll that is open is in use, before its first voter too.
 #[test]
 fn an_open_poll_is_not_loaded_again(rt: HostRuntime) -> Result<(), Fail> {
     let opening = Given {
@@ -515,7 +515,7 @@ fn an_open_poll_is_not_loaded_again(rt: HostRuntime) -> Result<(), Fail> {
     Ok(())
 }
 
-// Where no key is pressed the flashes are synced, the poll is told, and nothing is written.
+/// Where no key is pressed the flashes are synced, the poll is told, and nothing is written.
 #[test]
 fn no_keys_leave_the_flashes(rt: HostRuntime) -> Result<(), Fail> {
     let flashes = loaded(&rt, CARGA)?;

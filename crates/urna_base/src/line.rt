@@ -6,7 +6,7 @@ use crate::print::padded_digits;
 use itoa::Buffer;
 use std::marker::Model;
 
-// The longest shown line, in bytes, its line feed included.
+/// The longest shown line, in bytes, its line feed included.
 const LINE_MAX: usize = 128;
 
 /// The bytes of a line that is shown, of which there are at most 128. It takes no memory. A contract sees the list of

@@ -18,7 +18,7 @@ pub fn split_line(text: &[u8]) -> Option<(&[u8], &[u8])>
     }
 }
 
-// Where the first line feed stands.
+/// Where the first line feed stands.
 fn first_feed(text: &[u8]) -> Option<usize>
     ensures { result ≡ position (λ c. c == 10) text.now }
 {

@@ -45,7 +45,7 @@ pub fn decimal_into(value: u64, into: &mut [u8; 20]) -> u32
     count as u32
 }
 
-// The `n` digits of a number, at the front of an array.
+/// The `n` digits of a number, at the front of an array.
 pub(crate) fn padded_digits(value: u64, n: u32) -> [u8; 18]
     requires { n ≤ 18 }
     ensures { take n result ≡ padded n value }
@@ -55,7 +55,7 @@ pub(crate) fn padded_digits(value: u64, n: u32) -> [u8; 18]
     text
 }
 
-// Fills `into` with the last digits of `value`.
+/// Fills `into` with the last digits of `value`.
 fn fill_digits(into: &mut [u8], value: u64)
     ensures { into.new ≡ padded (length into.old) value }
 {

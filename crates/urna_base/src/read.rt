@@ -32,7 +32,7 @@ pub fn decimal(bytes: &[u8]) -> Option<u64>
     }
 }
 
-// The number that the bytes write, where each is a digit.
+/// The number that the bytes write, where each is a digit.
 fn value_of(bytes: &[u8]) -> Option<u64>
     requires { length bytes.now ≤ 18 }
     ensures { result ≡ (if list_all is_digit bytes.now then Some (value_of_digits bytes.now) else None) }

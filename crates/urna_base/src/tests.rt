@@ -5,7 +5,7 @@ ghost use Rattle.urna_base.specs.Digits.{padded};
 use super::*;
 use std::test::Fail;
 
-// A line of five pushes, as the layers above write them.
+/// A line of five pushes, as the layers above write them.
 #[tactic(auto, using(crate::proofs::DecimalLaws::line_lengths))]
 fn sealed_line(moment: u64, came: u32) -> LineBuffer
     requires { moment < 10 ^ 14 }

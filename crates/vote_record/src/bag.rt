@@ -71,7 +71,7 @@ impl Bag {
     }
 }
 
-// One member more, where memory for it is there. No more is taken.
+/// One member more, where memory for it is there. No more is taken.
 fn add_member(members: &mut Vec<Choice>, choice: Choice)
     requires in_order { IsInOrder members.old.items }
     requires reserved { vec_len members.old < vec_capacity members.old }
@@ -86,7 +86,7 @@ fn add_member(members: &mut Vec<Choice>, choice: Choice)
     }
 }
 
-// Whether a new member stands at the end of members in order, as each does where they come in order.
+/// Whether a new member stands at the end of members in order, as each does where they come in order.
 fn goes_last(members: &[Choice], choice: Choice) -> bool
     requires { IsInOrder members.now }
     ensures { IsTrue result → with_choice choice members.now ≡ members.now ++ choice ∷ [] }
@@ -97,7 +97,7 @@ fn goes_last(members: &[Choice], choice: Choice) -> bool
     }
 }
 
-// Where a new member goes among members in order: before the first that stands at it or after it.
+/// Where a new member goes among members in order: before the first that stands at it or after it.
 fn place_for(members: &[Choice], choice: Choice) -> usize
     requires { IsInOrder members.now }
     ensures within { result ≤ length members.now }
@@ -106,7 +106,7 @@ fn place_for(members: &[Choice], choice: Choice) -> usize
     members.partition_point(|member| !choice.is_at_or_before(*member))
 }
 
-// Whether two choices are the same.
+/// Whether two choices are the same.
 fn is_same(a: Choice, b: Choice) -> bool
     ensures { result ≡ is_same a b }
 {
