@@ -8,6 +8,7 @@
 #![tactic(auto)]
 
 ghost use Rattle.std.specs.Prelude.{◌≡◌, ◌≤◌, Some, codes, IfSome, length};
+ghost use Rattle.election_tables.specs.Limits.{most_voters};
 ghost use Rattle.image_codec.specs.Encoding.{IsStateOf};
 ghost use Rattle.state_store.specs.Load.{IsSectionOf};
 
@@ -60,7 +61,7 @@ fn work_of(word: &str) -> Option<Work>
 /// The section, where it has as many voters as the roll.
 fn section_of(tables: &Tables, roll: &Roll) -> Option<Section>
     ensures section { IfSome result (λ section. IsSectionOf tables.now roll.now section) }
-    ensures voters { IfSome result (λ section. section.voters ≤ 600) }
+    ensures voters { IfSome result (λ section. section.voters ≤ most_voters) }
 {
     let section = tables.find_section(1, 1)?;
     if section.voters == roll.len() {
@@ -124,7 +125,7 @@ fn all_decoded(
     body: &[u8; BODY_SIZE],
     times: u64,
 ) -> bool
-    requires { voters ≤ 600 }
+    requires { voters ≤ most_voters }
 {
     for _ in 0..times {
         if decode(alloc, tables, voters, body).is_err() {
@@ -154,7 +155,7 @@ fn use_body(
     bank: &mut Bank,
     times: u64,
 ) -> Option<u64>
-    requires { voters ≤ 600 }
+    requires { voters ≤ most_voters }
 {
     let mut body = [0; BODY_SIZE];
     bank.read(Dev::Internal, FIRST_BODY, &mut body).ok()?;

@@ -82,7 +82,8 @@ repeat_from_sort {K} {R} o xs ys k d moved within e =
 
 -- ---- pairs of numbers
 
-is_eq_then : (o p : Ordering) → is_eq (ordering_then o p) ≡ (is_eq o && is_eq p)
+-- one order, and then another one
+pub is_eq_then : (o p : Ordering) → is_eq (ordering_then o p) ≡ (is_eq o && is_eq p)
 is_eq_then Less p = refl
 is_eq_then Equal p = refl
 is_eq_then Greater p = refl

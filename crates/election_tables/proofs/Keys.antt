@@ -20,6 +20,7 @@ use Rattle.election_tables.specs.Rules.{are_distinct, same_pair}
 use Rattle.election_tables.specs.TablesData.{pair_cmp, CandidatesRise, PartiesRise, SectionsRise}
 use Rattle.election_tables.specs.Tables.{candidates_of, entry_of_candidate, entry_of_party, entry_of_section}
 use Rattle.election_tables.proofs.Rising.{strict_from_sort, distinct_keys}
+use Rattle.election_tables.proofs.Distinct.{is_eq_then}
 
 pub pair_cmp_total : IsTotalOrder pair_cmp
 pair_cmp_total = then_total (on_total (λ p. p.0) nat_cmp_total) (on_total (λ p. p.1) nat_cmp_total)
@@ -38,11 +39,6 @@ nat_eq_by_cmp m n = grind (arith, nat_tests)
 
 pub int_eq_by_cmp : (m n : ℕ) → int_eq (pos m) (pos n) ≡ eq_by_cmp nat_cmp m n
 int_eq_by_cmp m n = grind (arith, nat_tests)
-
-is_eq_then : (o p : Ordering) → is_eq (ordering_then o p) ≡ (is_eq o && is_eq p)
-is_eq_then Less p = refl
-is_eq_then Equal p = refl
-is_eq_then Greater p = refl
 
 pub pair_eq_by_cmp : (a b c d : ℕ) → ((a == c) && (b == d)) ≡ eq_by_cmp pair_cmp (a, b) (c, d)
 pair_eq_by_cmp a b c d =

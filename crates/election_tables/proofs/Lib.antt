@@ -5,13 +5,13 @@ mod Walks
 mod Distinct
 mod Signs
 mod Breaks
-mod Rising
+pub mod Rising
 mod Keys
 pub mod Kept
 mod FewCandidates
 mod Valid
 mod RollLines
-mod Reading
+pub mod Reading
 pub mod Determined
 pub mod Named
 pub mod Places

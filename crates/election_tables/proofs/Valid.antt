@@ -19,7 +19,7 @@ use Rattle.election_tables.specs.declared.tables.sections.Section.{Section}
 use Rattle.election_tables.specs.declared.tables.panels.Panel.{Panel}
 use Rattle.election_tables.specs.DocumentData.{DocumentData}
 use Rattle.election_tables.specs.Fields.{is_within, is_valid_date, is_name, has_digits, first_two}
-use Rattle.election_tables.specs.Limits.{most_candidates, most_voters, greatest_place, greatest_process}
+use Rattle.election_tables.specs.Limits.{most_candidates, most_voters, greatest_section, greatest_process}
 use Rattle.election_tables.specs.Offices.{code_digits, most_seats}
 use Rattle.election_tables.specs.Rules.{are_distinct, kind_fits, seats_in_range, section_in_range, has_office, has_party}
 use Rattle.election_tables.specs.Tables.{AreTablesOf, IsPanelOf, candidates_of, entry_of_candidate, entry_of_office, entry_of_party, entry_of_section}
@@ -123,9 +123,9 @@ panel_from d parties p k moved of kind seats = record {
 
 section_from : (s : Section) → section_in_range (entry_of_section s) ≡ true → IsSection s
 section_from s h =
-    let (zone, rest) = and_parts (is_within 1 greatest_place (pos s.zone)) (is_within 1 greatest_place (pos s.number) && is_within 1 most_voters (pos s.voters)) h in
-    let (number, voters) = and_parts (is_within 1 greatest_place (pos s.number)) (is_within 1 most_voters (pos s.voters)) rest in
-    record { zone = within 1 greatest_place s.zone zone; number = within 1 greatest_place s.number number; voters = within 1 most_voters s.voters voters }
+    let (zone, rest) = and_parts (is_within 1 greatest_section (pos s.zone)) (is_within 1 greatest_section (pos s.number) && is_within 1 most_voters (pos s.voters)) h in
+    let (number, voters) = and_parts (is_within 1 greatest_section (pos s.number)) (is_within 1 most_voters (pos s.voters)) rest in
+    record { zone = within 1 greatest_section s.zone zone; number = within 1 greatest_section s.number number; voters = within 1 most_voters s.voters voters }
 
 -- ---- the whole
 

@@ -26,8 +26,8 @@ abbrev pub proportional_seats : ℕ
 proportional_seats = 200
 
 -- the greatest number of a zone, and of a section
-abbrev pub greatest_place : ℕ
-greatest_place = 9999
+abbrev pub greatest_section : ℕ
+greatest_section = 9999
 
 -- the greatest number of an election
 abbrev pub greatest_process : ℕ

@@ -10,7 +10,7 @@ use Rattle.election_tables.specs.declared.document.PartyEntry.{PartyEntry}
 use Rattle.election_tables.specs.declared.document.CandidateEntry.{CandidateEntry}
 use Rattle.election_tables.specs.declared.document.SectionEntry.{SectionEntry}
 use Rattle.election_tables.specs.declared.shape.ShapeRule.TheVariants as shape
-use Rattle.election_tables.specs.Limits.{most_offices, most_parties, most_candidates, most_sections, most_voters, greatest_place, greatest_process}
+use Rattle.election_tables.specs.Limits.{most_offices, most_parties, most_candidates, most_sections, most_voters, greatest_section, greatest_process}
 use Rattle.election_tables.specs.Fields.{natural, is_within, is_valid_date, is_name, has_digits, first_two}
 use Rattle.election_tables.specs.Offices.{code_digits, allows, most_seats}
 use Rattle.election_tables.specs.DocumentData.{DocumentData}
@@ -49,9 +49,9 @@ has_party parties c = option_map_or (λ digits. option_map_or
 
 -- ---- the rules
 
--- a section has a zone and a number from 1 to `greatest_place`, and 1 to `most_voters` voters
+-- a section has a zone and a number from 1 to `greatest_section`, and 1 to `most_voters` voters
 abbrev pub section_in_range : SectionEntry → Bool
-section_in_range s = is_within 1 greatest_place s.zone && (is_within 1 greatest_place s.number && is_within 1 most_voters s.voters)
+section_in_range s = is_within 1 greatest_section s.zone && (is_within 1 greatest_section s.number && is_within 1 most_voters s.voters)
 
 -- 1 to `most_offices` offices, 1 to `most_parties` parties, at most `most_candidates` candidates, 1 to `most_sections` sections
 abbrev pub counts_in_range : DocumentData → Bool

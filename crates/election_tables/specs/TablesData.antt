@@ -12,7 +12,7 @@ use Rattle.election_tables.specs.declared.tables.candidates.NamedCandidate.{Name
 use Rattle.election_tables.specs.declared.tables.parties.Party.{Party}
 use Rattle.election_tables.specs.declared.tables.sections.Section.{Section}
 use Rattle.election_tables.specs.declared.tables.panels.Panel.{Panel}
-use Rattle.election_tables.specs.Limits.{most_offices, most_parties, most_candidates, most_sections, most_voters, greatest_place, greatest_process}
+use Rattle.election_tables.specs.Limits.{most_offices, most_parties, most_candidates, most_sections, most_voters, greatest_section, greatest_process}
 use Rattle.election_tables.specs.Offices.{code_digits, allows, most_seats}
 use Rattle.election_tables.specs.Fields.{is_name, has_digits, first_two}
 
@@ -105,8 +105,8 @@ pub record IsParty (q : Party) : Type 0 where
 
 -- a section has a place and 1 to `most_voters` voters
 pub record IsSection (s : Section) : Type 0 where
-  pub zone : (1 ≤ s.zone) × (s.zone ≤ greatest_place)
-  pub number : (1 ≤ s.number) × (s.number ≤ greatest_place)
+  pub zone : (1 ≤ s.zone) × (s.zone ≤ greatest_section)
+  pub number : (1 ≤ s.number) × (s.number ≤ greatest_section)
   pub voters : (1 ≤ s.voters) × (s.voters ≤ most_voters)
 
 -- What is so of all tables, by the rules of their document: the ranges, the orders and the parties of candidates. All panels together

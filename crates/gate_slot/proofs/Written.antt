@@ -10,7 +10,7 @@ use Rattle.urna_outside.proofs.Doing.{does-append, then_told, told_after}
 use Rattle.urna_outside.proofs.Runs.{places_of, run_keeps}
 use Rattle.urna_outside.proofs.Keeping.{synced_clean, stands_synced, stays, within_keeps}
 use Rattle.gate_slot.specs.Device.{OnFlash, KeepsRest}
-use Rattle.gate_slot.specs.Slot.{IsOneWrite, IsGate, IsBody, IsGateShut, HasBody, gate_place, body_place, room, gate_in}
+use Rattle.gate_slot.specs.Slot.{IsOneWrite, IsGate, IsBody, IsGateShut, HasBody, gate_offset, body_offset, room, gate_in}
 use Rattle.gate_slot.proofs.Images.{stands_one}
 
 after_write : (d : Dev) (at : ℕ) (bytes : List ℕ) (fs : Flashes) → flash_of d (after (Put d at bytes ∷ Sync d ∷ []) fs) ≡ synced (put at bytes (flash_of d fs))
@@ -37,12 +37,12 @@ pub same_write : (d : Dev) (at to len : ℕ) (ops : List Op) → at ≡ to → I
 same_write d at to len ops same write = subst (λ (n : ℕ). IsOneWrite d (IsInRange n len) ops) same write
 
 -- both slots lie on the device
-pub gate_fits : (size index n : ℕ) → index < 2 → room size ≤ n → gate_place size index + 1 ≤ n
+pub gate_fits : (size index n : ℕ) → index < 2 → room size ≤ n → gate_offset size index + 1 ≤ n
 gate_fits size zero n below fits = omega arith
 gate_fits size (suc zero) n below fits = omega arith
 gate_fits size (suc (suc k)) n below fits = absurd (omega arith)
 
-pub body_fits : (size index n : ℕ) → index < 2 → room size ≤ n → body_place size index + size ≤ n
+pub body_fits : (size index n : ℕ) → index < 2 → room size ≤ n → body_offset size index + size ≤ n
 body_fits size zero n below fits = omega arith
 body_fits size (suc zero) n below fits = omega arith
 body_fits size (suc (suc k)) n below fits = absurd (omega arith)
@@ -74,7 +74,7 @@ stays_shut d size index a b below fits sized run =
     run_keeps d (IsBody size index) (λ fs. IsGateShut size index (flash_of d fs)) run.0 a b run.1 run.2.within sized (body_bounded size index (size_of d a.sizes) below fits) (λ fs gs keeps shut. (
       shut.0,
       shut.1,
-      stands_through d (IsBody size index) (gate_place size index) (shut.0 ∷ []) (λ k low high is. omega (arith, is.0)) fs gs keeps shut.2,
+      stands_through d (IsBody size index) (gate_offset size index) (shut.0 ∷ []) (λ k low high is. omega (arith, is.0)) fs gs keeps shut.2,
     ))
 
 -- and one of the gate the body
@@ -82,7 +82,7 @@ pub body_stays_there : (d : Dev) (size index : ℕ) (a b : Told) → index < 2 �
     → (body : List ℕ) → OnFlash d (HasBody size index body) a → OnFlash d (HasBody size index body) b
 body_stays_there d size index a b below fits sized run body =
     run_keeps d (IsGate size index) (λ fs. HasBody size index body (flash_of d fs)) run.0 a b run.1 run.2.within sized (gate_bounded size index (size_of d a.sizes) below fits) (λ fs gs keeps.
-    stands_through d (IsGate size index) (body_place size index) body (λ k low high is. omega (arith, is.1)) fs gs keeps)
+    stands_through d (IsGate size index) (body_offset size index) body (λ k low high is. omega (arith, is.1)) fs gs keeps)
 
 -- the same at a place that has another name
 pub written_at : (d : Dev) (at to : ℕ) (bytes : List ℕ) (a b : Told) → at ≡ to → Does (Put d at bytes ∷ Sync d ∷ []) a b → ForSome a.flashes (AreSized a.sizes) → to + length bytes ≤ size_of d a.sizes
@@ -104,4 +104,4 @@ shut_as_read d size index gate a b below fits sized clean does other read =
     then_told [] a b (λ fs. IsGateShut size index (flash_of d fs)) does (λ start told.
     let within = gate_fits size index (size_of d a.sizes) below fits in
     let long = (sized start told).content d in
-    (gate_in size index (flash_of d start).content, (λ opened. other (read start told ∙ opened)), stands_one (flash_of d start) (gate_place size index) (clean start told) (omega arith)))
+    (gate_in size index (flash_of d start).content, (λ opened. other (read start told ∙ opened)), stands_one (flash_of d start) (gate_offset size index) (clean start told) (omega arith)))

@@ -25,14 +25,14 @@ abbrev pub front_size : ℕ
 front_size = 1 + padding_size
 
 -- A device is a header and two slots; a slot is a gate, its padding and a body of `size` bytes.
-abbrev pub gate_place : ℕ → ℕ → ℕ
-gate_place size index = header_size + index * (front_size + size)
+abbrev pub gate_offset : ℕ → ℕ → ℕ
+gate_offset size index = header_size + index * (front_size + size)
 
-abbrev pub padding_place : ℕ → ℕ → ℕ
-padding_place size index = gate_place size index + 1
+abbrev pub padding_offset : ℕ → ℕ → ℕ
+padding_offset size index = gate_offset size index + 1
 
-abbrev pub body_place : ℕ → ℕ → ℕ
-body_place size index = gate_place size index + front_size
+abbrev pub body_offset : ℕ → ℕ → ℕ
+body_offset size index = gate_offset size index + front_size
 
 -- how many bytes the header and two slots take
 abbrev pub room : ℕ → ℕ
@@ -40,29 +40,29 @@ room size = header_size + 2 * (front_size + size)
 
 -- a place of the slot's gate, or of its body
 abbrev pub IsGate : ℕ → ℕ → ℕ → Type 0
-IsGate size index k = IsInRange (gate_place size index) 1 k
+IsGate size index k = IsInRange (gate_offset size index) 1 k
 
 abbrev pub IsBody : ℕ → ℕ → ℕ → Type 0
-IsBody size index k = IsInRange (body_place size index) size k
+IsBody size index k = IsInRange (body_offset size index) size k
 
 -- the gate and the body of a slot in some content
 abbrev pub gate_in : ℕ → ℕ → List ℕ → ℕ
-gate_in size index content = slice_index content (gate_place size index)
+gate_in size index content = slice_index content (gate_offset size index)
 
 abbrev pub body_in : ℕ → ℕ → List ℕ → List ℕ
-body_in size index content = part content (body_place size index) size
+body_in size index content = part content (body_offset size index) size
 
 -- the gate isn't open, in every image
 abbrev pub IsGateShut : ℕ → ℕ → Flash → Type 0
-IsGateShut size index flash = (gate : ℕ) × (gate ≢ open_gate) × Stably flash (gate_place size index) (gate ∷ [])
+IsGateShut size index flash = (gate : ℕ) × (gate ≢ open_gate) × Stably flash (gate_offset size index) (gate ∷ [])
 
 -- the gate is open, in every image
 abbrev pub IsGateOpen : ℕ → ℕ → Flash → Type 0
-IsGateOpen size index flash = Stably flash (gate_place size index) (open_gate ∷ [])
+IsGateOpen size index flash = Stably flash (gate_offset size index) (open_gate ∷ [])
 
 -- these bytes are the slot's body, in every image
 abbrev pub HasBody : ℕ → ℕ → List ℕ → Flash → Type 0
-HasBody size index body flash = Stably flash (body_place size index) body
+HasBody size index body flash = Stably flash (body_offset size index) body
 
 -- the slot is shut over a whole body, in every image
 pub record IsFilled (size index : ℕ) (flash : Flash) : Type 0 where
@@ -79,10 +79,10 @@ pub record IsOneWrite (d : Dev) (In : ℕ → Type 0) (ops : List Op) : Type 0 w
 
 -- the whole steps: an open gate is shut, a body is written, a gate is opened, and each is synced
 abbrev pub shut_ops : ℕ → Dev → ℕ → List Op
-shut_ops size d index = Put d (gate_place size index) (shut_gate ∷ []) ∷ Sync d ∷ []
+shut_ops size d index = Put d (gate_offset size index) (shut_gate ∷ []) ∷ Sync d ∷ []
 
 abbrev pub fill_ops : ℕ → Dev → ℕ → List ℕ → List Op
-fill_ops size d index body = Put d (body_place size index) body ∷ Sync d ∷ []
+fill_ops size d index body = Put d (body_offset size index) body ∷ Sync d ∷ []
 
 abbrev pub publish_ops : ℕ → Dev → ℕ → List Op
-publish_ops size d index = Put d (gate_place size index) (open_gate ∷ []) ∷ Sync d ∷ []
+publish_ops size d index = Put d (gate_offset size index) (open_gate ∷ []) ∷ Sync d ∷ []

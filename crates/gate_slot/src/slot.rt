@@ -73,13 +73,13 @@ pub struct Live<const SIZE: usize> {
 
 impl<const SIZE: usize> Slot<SIZE> {
     ghost use Rattle.gate_slot.specs.Token.{slot_of_shut};
-    ghost use Rattle.gate_slot.specs.Slot.{gate_place, padding_place, body_place};
+    ghost use Rattle.gate_slot.specs.Slot.{gate_offset, padding_offset, body_offset};
 
     /// The size of the slot's device keeps the sums within 32 bits.
     fn gate(&self, size: u32) -> u32
         requires index { self.now.index < 2 }
         requires room { room SIZE ≤ size }
-        ensures { result ≡ gate_place SIZE self.now.index }
+        ensures { result ≡ gate_offset SIZE self.now.index }
     {
         HEADER_SIZE as u32 + u32::from(self.index) * (FRONT_SIZE + SIZE) as u32
     }
@@ -87,7 +87,7 @@ impl<const SIZE: usize> Slot<SIZE> {
     fn body(&self, size: u32) -> u32
         requires index { self.now.index < 2 }
         requires room { room SIZE ≤ size }
-        ensures { result ≡ body_place SIZE self.now.index }
+        ensures { result ≡ body_offset SIZE self.now.index }
     {
         self.gate(size) + FRONT_SIZE as u32
     }
@@ -96,7 +96,7 @@ impl<const SIZE: usize> Slot<SIZE> {
     pub fn padding(&self, size: u32) -> u32
         requires index { self.now.index < 2 }
         requires room { room SIZE ≤ size }
-        ensures { result ≡ padding_place SIZE self.now.index }
+        ensures { result ≡ padding_offset SIZE self.now.index }
     {
         self.gate(size) + 1
     }

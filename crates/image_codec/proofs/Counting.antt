@@ -1,14 +1,14 @@
 -- How many votes of a choice there are
 use Rattle.std.proofs.Common.{◌≡◌, ℕ, zero, suc, ◌+◌, ◌<◌, ◌≢◌, Bool, true, false, cond, ◌==◌, ◌&&◌, List, [], ◌∷◌, length, slice_get, Some, inl, inr, refl, sym, ap, subst, ◌∙◌, arith}
 use Rattle.std.specs.List.{AllByRecursion, zip}
-use Rattle.std.proofs.lemmas.Bool.{eqb-true, eq-eqb}
+use Rattle.std.proofs.lemmas.Bool.{eqb-true, eq-eqb, cases_Bool}
 use Rattle.std.proofs.lemmas.List.Sums.{sum_by-cons}
 use Rattle.election_tables.specs.TablesData.{TablesData}
 use Rattle.vote_kinds.specs.declared.choice.Choice.{Choice}
 use Rattle.vote_kinds.specs.Choice.{is_same}
 use Rattle.vote_kinds.specs.Ballot.{BallotLine, is_choice, line_of, lines_by_panel}
 use Rattle.vote_record.specs.Bag.{bag_at, count_of, with_vote}
-use Rattle.vote_record.proofs.Bags.{bag_at-with_vote_same, bag_at-with_vote_other, count_cons, count_of-with_choice, length-with_vote, same_true, test_cases}
+use Rattle.vote_record.proofs.Bags.{bag_at-with_vote_same, bag_at-with_vote_other, count_cons, count_of-with_choice, length-with_vote, same_true}
 use Rattle.image_codec.specs.State.{State, with_votes}
 use Rattle.image_codec.specs.Valid.{HasChoices}
 use Rattle.image_codec.specs.Encoding.{IsStateOf}
@@ -18,7 +18,7 @@ use Rattle.image_codec.proofs.ReadParts.{line_found}
 -- one vote more
 one_counted : (p panel : ℕ) (c x : Choice) (bags : List (List Choice)) → panel < length bags
     → count_of c (bag_at (with_vote p x bags) panel) ≡ count_of c (bag_at bags panel) + cond (p == panel && is_same c x) 1 0
-one_counted p panel c x bags lt = elim (test_cases (p == panel)) [
+one_counted p panel c x bags lt = elim (cases_Bool (p == panel)) [
   | inl same ↦
       let here : p ≡ panel = eqb-true p panel same in
       let counted = ap (λ (k : ℕ). count_of c (bag_at (with_vote k x bags) panel)) here ∙ ap (count_of c) (bag_at-with_vote_same panel x bags lt) ∙ count_of-with_choice c x (bag_at bags panel) in
@@ -42,7 +42,7 @@ counts_each_line (l ∷ lines) (x ∷ choices) bags panel c lt =
 -- votes of a line
 no_other : (line : BallotLine) (c : Choice) (bag : List Choice) → AllByRecursion (λ d. is_choice line d ≡ true) bag → is_choice line c ≡ false → count_of c bag ≡ 0
 no_other line c [] all none = refl
-no_other line c (d ∷ bag) all none = elim (test_cases (is_same c d)) [
+no_other line c (d ∷ bag) all none = elim (cases_Bool (is_same c d)) [
   | inl same ↦ let choice : is_choice line c ≡ true = ap (is_choice line) (same_true c d same) ∙ all.0 in absurd (cc)
   | inr other ↦
       let first : cond {A = ℕ} (is_same c d) 1 0 ≡ 0 = ap (λ (b : Bool). cond {A = ℕ} b 1 0) other in

@@ -2,12 +2,11 @@
 use Rattle.std.proofs.Common.{◌≡◌, ◌⊎◌, inl, inr, ℕ, ◌+◌, Bool, true, false, List, [], ◌∷◌, ◌++◌, length-append, map, refl, sym, subst, ◌∙◌, arith, slice_set}
 use Rattle.std.specs.Prelude.{Contains}
 use Rattle.std.specs.List.{AllByRecursion}
-use Rattle.std.proofs.lemmas.Bool.{cases_eq}
+use Rattle.std.proofs.lemmas.Bool.{cases_eq, cases_Bool}
 use Rattle.std.proofs.lemmas.List.{map-append}
 use Rattle.std.proofs.lemmas.List.Elements.{Contains-append_left, Contains-append_right, Contains-get_or}
 use Rattle.vote_kinds.specs.declared.choice.Choice.{Choice}
 use Rattle.vote_kinds.specs.Ballot.{BallotLine}
-use Rattle.vote_record.proofs.Bags.{test_cases}
 use Rattle.turnout.specs.Turnout.{has_come}
 use Rattle.turnout.specs.declared.phase.Phase.{Phase}
 use Rattle.turnout.proofs.Marks.{has_come-set_other, has_come-set_same, number_came-set}
@@ -50,7 +49,7 @@ module _ (lines : List BallotLine) (s u : State) (place : ℕ) (choices : List C
   ]
 
   before : (p : ℕ) → has_come now p ≡ false → has_come s.came p ≡ false
-  before p absent = elim (test_cases (has_come s.came p)) [
+  before p absent = elim (cases_Bool (has_come s.came p)) [
     | inl come ↦ let marks = kept p come in absurd (cc)
     | inr away ↦ away
   ]
@@ -96,7 +95,7 @@ votes_in_ballots-append panel c lines (x ∷ xs) ys = omega (arith, votes_in_bal
 
 module _ (lines : List BallotLine) (s u w : State) (xs ys : List Ballot) (first : HasAlso lines s xs u) (second : HasAlso lines u ys w) where
   away : (p : ℕ) → has_come u.came p ≡ false → has_come s.came p ≡ false
-  away p absent = elim (test_cases (has_come s.came p)) [
+  away p absent = elim (cases_Bool (has_come s.came p)) [
     | inl come ↦ let stays = first.stay p come in absurd (cc)
     | inr not ↦ not
   ]

@@ -13,7 +13,7 @@ use Rattle.vote_kinds.specs.Choice.{choice_le, choice_with}
 use Rattle.turnout.specs.Turnout.{number_came}
 use Rattle.turnout.specs.declared.phase.Phase.{Phase}
 use Rattle.turnout.specs.declared.phase.Phase.TheVariants as phase
-use Rattle.image_codec.specs.Layout.{body_size, closing_place, count_place, head_size, opening_place, panels_place, phase_place, turnout_place, turnout_size, version}
+use Rattle.image_codec.specs.Layout.{body_size, closing_offset, count_offset, head_size, opening_offset, panels_offset, phase_offset, turnout_offset, turnout_size, version}
 use Rattle.image_codec.specs.State.{State, rank_of}
 
 -- the numbers that four and eight bytes from a place on write
@@ -55,7 +55,7 @@ has_no_more voters field = list_all (λ place. not (is_marked field place)) (ran
 
 -- the bytes of the turnout
 abbrev pub turnout_of : List ℕ → List ℕ
-turnout_of bytes = take turnout_size (drop turnout_place bytes)
+turnout_of bytes = take turnout_size (drop turnout_offset bytes)
 
 -- The votes
 
@@ -85,14 +85,14 @@ bags_in (line ∷ lines) n bytes =
 -- the version is that of the image, so many came, none of them past the roll, and there are so many panels
 unfoldable pub has_counts : ℕ → ℕ → ℕ → List ℕ → Bool
 has_counts voters n panels bytes =
-    slice_index bytes 0 == version && number4_at bytes count_place == n && has_no_more voters (turnout_of bytes) && slice_index bytes panels_place == panels
+    slice_index bytes 0 == version && number4_at bytes count_offset == n && has_no_more voters (turnout_of bytes) && slice_index bytes panels_offset == panels
 
 -- the phase, if all that stands before the bags is as it is written
 unfoldable pub phase_in : ℕ → ℕ → List ℕ → Option Phase
 phase_in voters panels bytes =
     let n : ℕ = number_came (marks_in voters (turnout_of bytes)) in
     if has_counts voters n panels bytes
-    then option_and_then (λ p. if is_started p n then Some p else None) (phase_with (slice_index bytes phase_place) (number8_at bytes opening_place) (number8_at bytes closing_place))
+    then option_and_then (λ p. if is_started p n then Some p else None) (phase_with (slice_index bytes phase_offset) (number8_at bytes opening_offset) (number8_at bytes closing_offset))
     else None
 
 -- as many bytes as a body has

@@ -10,32 +10,32 @@ abbrev pub version : ℕ
 version = 1
 
 -- the byte of the phase
-abbrev pub phase_place : ℕ
-phase_place = 1
+abbrev pub phase_offset : ℕ
+phase_offset = 1
 
 -- where the opening moment begins
-abbrev pub opening_place : ℕ
-opening_place = 2
+abbrev pub opening_offset : ℕ
+opening_offset = 2
 
 -- where the closing moment begins
-abbrev pub closing_place : ℕ
-closing_place = 10
+abbrev pub closing_offset : ℕ
+closing_offset = 10
 
 -- where the number of those who came begins
-abbrev pub count_place : ℕ
-count_place = 18
+abbrev pub count_offset : ℕ
+count_offset = 18
 
 -- where the marks of those who came begin
-abbrev pub turnout_place : ℕ
-turnout_place = 22
+abbrev pub turnout_offset : ℕ
+turnout_offset = 22
 
 -- how many bytes those marks take
 abbrev pub turnout_size : ℕ
 turnout_size = 75
 
 -- the byte of the number of panels
-abbrev pub panels_place : ℕ
-panels_place = 97
+abbrev pub panels_offset : ℕ
+panels_offset = 97
 
 -- how many bytes stand before the bags
 abbrev pub head_size : ℕ

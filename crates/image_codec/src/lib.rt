@@ -17,7 +17,7 @@ mod reading;
 mod state;
 mod writing;
 
-pub use layout::{BODY_SIZE, PHASE_PLACE};
+pub use layout::{BODY_SIZE, PHASE_OFFSET};
 pub use reading::rank_of;
 pub use state::{State, decode};
 pub use writing::encode_into;

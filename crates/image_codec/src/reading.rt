@@ -13,8 +13,8 @@ ghost use Rattle.image_codec.specs.Head.{head_of};
 ghost use Rattle.image_codec.specs.Layout.{body_size, head_size, turnout_size};
 
 use crate::layout::{
-    BODY_SIZE, CLOSING_PLACE, COUNT_PLACE, HEAD_SIZE, OPENING_PLACE, PANELS_PLACE, PHASE_PLACE,
-    TURNOUT_PLACE, VERSION,
+    BODY_SIZE, CLOSING_OFFSET, COUNT_OFFSET, HEAD_SIZE, OPENING_OFFSET, PANELS_OFFSET,
+    PHASE_OFFSET, TURNOUT_OFFSET, VERSION,
 };
 use crate::state::rank_with;
 use election_tables::Tables;
@@ -194,9 +194,9 @@ fn has_counts(voters: u32, came: u32, panels: u32, bytes: &[u8]) -> bool
     ensures { result ≡ has_counts voters came panels bytes.now }
 {
     bytes[0] == VERSION
-        && number4_at(bytes, COUNT_PLACE) == came
-        && has_no_more(&bytes[TURNOUT_PLACE..PANELS_PLACE], voters)
-        && u32::from(bytes[PANELS_PLACE]) == panels
+        && number4_at(bytes, COUNT_OFFSET) == came
+        && has_no_more(&bytes[TURNOUT_OFFSET..PANELS_OFFSET], voters)
+        && u32::from(bytes[PANELS_OFFSET]) == panels
 }
 
 /// What stands before the bags, if all of it is as it is written.
@@ -207,14 +207,14 @@ fn head_in(voters: u32, panels: u32, bytes: &[u8]) -> Option<Head>
     ensures phase { option_map (λ h. h.phase) result ≡ phase_in voters panels bytes.now }
     ensures came { IfSome result (λ h. h.came ≡ number_came (marks_in voters (turnout_of bytes.now))) }
 {
-    let came = count_marks(&bytes[TURNOUT_PLACE..PANELS_PLACE], voters);
+    let came = count_marks(&bytes[TURNOUT_OFFSET..PANELS_OFFSET], voters);
     if !has_counts(voters, came, panels, bytes) {
         return None;
     }
     let phase = phase_with(
-        bytes[PHASE_PLACE],
-        number8_at(bytes, OPENING_PLACE),
-        number8_at(bytes, CLOSING_PLACE),
+        bytes[PHASE_OFFSET],
+        number8_at(bytes, OPENING_OFFSET),
+        number8_at(bytes, CLOSING_OFFSET),
     )?;
     if is_started(phase, came) {
         Some(Head { phase, came })

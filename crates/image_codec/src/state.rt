@@ -8,7 +8,7 @@ ghost use Rattle.image_codec.specs.State.{opened_at, with_ballot, with_votes, se
 ghost use Rattle.image_codec.specs.Valid.{ready_state, IsValid, HasRoomForVoter, MayClose};
 
 use crate::filling::{fill_turnout, fill_votes};
-use crate::layout::{HEAD_SIZE, PANELS_PLACE, TURNOUT_PLACE};
+use crate::layout::{HEAD_SIZE, PANELS_OFFSET, TURNOUT_OFFSET};
 use crate::reading::checked;
 use election_tables::Tables;
 use std::alloc::Global;
@@ -125,7 +125,7 @@ impl State {
     {
         match checked(tables, self.turnout.voters(), bytes) {
             Some(head) => {
-                fill_turnout(&mut self.turnout, &bytes[TURNOUT_PLACE..PANELS_PLACE]);
+                fill_turnout(&mut self.turnout, &bytes[TURNOUT_OFFSET..PANELS_OFFSET]);
                 fill_votes(
                     &mut self.votes,
                     tables,

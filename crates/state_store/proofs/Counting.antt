@@ -1,4 +1,4 @@
--- Steps after steps: their lines, their states, and how many of them a front of the text reaches into.
+-- Pieces after pieces: their lines, their states, and how many of them a front of the text reaches into.
 use Rattle.std.proofs.Common.{◌≡◌, ◌⊎◌, inl, inr, ℕ, zero, suc, ◌+◌, ◌-◌, ◌<◌, ◌≤◌, Bool, cond, Option, Some, None, Contains, List, [], ◌∷◌, ◌++◌, length, slice_get, take, unwrap_or, option_to_list, refl, sym, ap, subst, ◌∙◌, arith, append_assoc, length-append}
 use Rattle.std.proofs.lemmas.Bool.{cases_lt, ne_eqb}
 use Rattle.std.proofs.lemmas.List.{map-append, take-map}
@@ -6,58 +6,58 @@ use Rattle.std.proofs.lemmas.List.Elements.{Contains-append_left, Contains-appen
 use Rattle.std.specs.List.{concat}
 use Rattle.image_codec.specs.State.{State}
 use Rattle.state_store.specs.Played.{IsStateOrNext}
-use Rattle.state_store.specs.Steps.{Step, quiet, telling, lines_in, text_in, commits_in, state_after, lines_reached, commits_reached, AreFull}
+use Rattle.state_store.specs.Pieces.{Piece, quiet, telling, lines_in, text_in, commits_in, state_after, lines_reached, commits_reached, AreFull}
 
--- Steps after steps
+-- Pieces after pieces
 
-pub lines_in-append : (xs ys : List Step) → lines_in (xs ++ ys) ≡ lines_in xs ++ lines_in ys
-lines_in-append xs ys = map-append (λ (step : Step). step.line) xs ys
+pub lines_in-append : (xs ys : List Piece) → lines_in (xs ++ ys) ≡ lines_in xs ++ lines_in ys
+lines_in-append xs ys = map-append (λ (piece : Piece). piece.line) xs ys
 
-pub text_in-append : (xs ys : List Step) → text_in (xs ++ ys) ≡ text_in xs ++ text_in ys
+pub text_in-append : (xs ys : List Piece) → text_in (xs ++ ys) ≡ text_in xs ++ text_in ys
 text_in-append [] ys = refl
 text_in-append (x ∷ xs) ys =
     ap (λ (l : List ℕ). x.line ++ l) (text_in-append xs ys) ∙ sym (append_assoc x.line (text_in xs) (text_in ys))
 
-pub commits_in-append : (xs ys : List Step) → commits_in (xs ++ ys) ≡ commits_in xs ++ commits_in ys
+pub commits_in-append : (xs ys : List Piece) → commits_in (xs ++ ys) ≡ commits_in xs ++ commits_in ys
 commits_in-append [] ys = refl
 commits_in-append (x ∷ xs) ys =
     ap (λ (l : List State). option_to_list x.commit ++ l) (commits_in-append xs ys) ∙ sym (append_assoc (option_to_list x.commit) (commits_in xs) (commits_in ys))
 
-pub state_after-append : (s : State) (xs ys : List Step) → state_after s (xs ++ ys) ≡ state_after (state_after s xs) ys
+pub state_after-append : (s : State) (xs ys : List Piece) → state_after s (xs ++ ys) ≡ state_after (state_after s xs) ys
 state_after-append s [] ys = refl
 state_after-append s (x ∷ xs) ys = state_after-append (unwrap_or x.commit s) xs ys
 
--- The steps whose lines are reached
+-- The pieces whose lines are reached
 
 pub reached_more : (line : List ℕ) (lines : List (List ℕ)) (n : ℕ) → 0 < n → lines_reached (line ∷ lines) n ≡ suc (lines_reached lines (n - length line))
 reached_more line lines n some =
     let past = ap (λ (b : Bool). cond b 0 (1 + lines_reached lines (n - length line))) (ne_eqb n 0 (λ same. omega arith)) in omega (arith, past)
 
-abbrev steps_reached : List Step → ℕ → List Step
-steps_reached xs n = take (lines_reached (lines_in xs) n) xs
+abbrev pieces_reached : List Piece → ℕ → List Piece
+pieces_reached xs n = take (lines_reached (lines_in xs) n) xs
 
-none_reached : (xs : List Step) → steps_reached xs 0 ≡ []
+none_reached : (xs : List Piece) → pieces_reached xs 0 ≡ []
 none_reached [] = refl
 none_reached (x ∷ xs) = refl
 
 -- some bytes go past the first line
-one_reached : (x : Step) (xs : List Step) (n : ℕ) → 0 < n → steps_reached (x ∷ xs) n ≡ x ∷ steps_reached xs (n - length x.line)
+one_reached : (x : Piece) (xs : List Piece) (n : ℕ) → 0 < n → pieces_reached (x ∷ xs) n ≡ x ∷ pieces_reached xs (n - length x.line)
 one_reached x xs n some = ap (λ (k : ℕ). take k (x ∷ xs)) (reached_more x.line (lines_in xs) n some)
 
--- none behind the first steps, where the bytes are a front of their text
-front_reached : (xs ys : List Step) (n : ℕ) → n ≤ length (text_in xs) → steps_reached (xs ++ ys) n ≡ steps_reached xs n
-front_reached [] ys n within = let none : n ≡ 0 = omega arith in ap (steps_reached ys) none ∙ none_reached ys
+-- none behind the first pieces, where the bytes are a front of their text
+front_reached : (xs ys : List Piece) (n : ℕ) → n ≤ length (text_in xs) → pieces_reached (xs ++ ys) n ≡ pieces_reached xs n
+front_reached [] ys n within = let none : n ≡ 0 = omega arith in ap (pieces_reached ys) none ∙ none_reached ys
 front_reached (x ∷ xs) ys n within = elim (cases_lt 0 n) [
   | inl some ↦
       let left_over : n - length x.line ≤ length (text_in xs) = omega (arith, length-append x.line (text_in xs)) in
-      one_reached x (xs ++ ys) n some ∙ ap (λ (l : List Step). x ∷ l) (front_reached xs ys (n - length x.line) left_over) ∙ sym (one_reached x xs n some)
+      one_reached x (xs ++ ys) n some ∙ ap (λ (l : List Piece). x ∷ l) (front_reached xs ys (n - length x.line) left_over) ∙ sym (one_reached x xs n some)
   | inr nothing ↦
       let none : n ≡ 0 = omega arith in
-      ap (steps_reached (x ∷ (xs ++ ys))) none ∙ sym (ap (steps_reached (x ∷ xs)) none)
+      ap (pieces_reached (x ∷ (xs ++ ys))) none ∙ sym (ap (pieces_reached (x ∷ xs)) none)
 ]
 
--- all of the first steps and what is reached of the others, where the bytes are the whole text and more
-all_reached : (xs ys : List Step) (more : List ℕ) → AreFull xs → steps_reached (xs ++ ys) (length (text_in xs ++ more)) ≡ xs ++ steps_reached ys (length more)
+-- all of the first pieces and what is reached of the others, where the bytes are the whole text and more
+all_reached : (xs ys : List Piece) (more : List ℕ) → AreFull xs → pieces_reached (xs ++ ys) (length (text_in xs ++ more)) ≡ xs ++ pieces_reached ys (length more)
 all_reached [] ys more full = refl
 all_reached (x ∷ xs) ys more full =
     let n : ℕ = length (text_in (x ∷ xs) ++ more) in
@@ -65,31 +65,31 @@ all_reached (x ∷ xs) ys more full =
     ap length (append_assoc x.line (text_in xs) more) ∙ length-append x.line (text_in xs ++ more) in
     let left_over : n - length x.line ≡ length (text_in xs ++ more) = omega (arith, long) in
     one_reached x (xs ++ ys) n (omega (arith, long, full.0))
-    ∙ ap (λ (l : List Step). x ∷ l) (ap (steps_reached (xs ++ ys)) left_over ∙ all_reached xs ys more full.1)
+    ∙ ap (λ (l : List Piece). x ∷ l) (ap (pieces_reached (xs ++ ys)) left_over ∙ all_reached xs ys more full.1)
 
 -- How many lines that tell a state are reached
 
-pub reached_before : (xs ys : List Step) (n : ℕ) → n ≤ length (text_in xs) → commits_reached (xs ++ ys) n ≡ commits_reached xs n
-reached_before xs ys n within = ap (λ (l : List Step). length (commits_in l)) (front_reached xs ys n within)
+pub reached_before : (xs ys : List Piece) (n : ℕ) → n ≤ length (text_in xs) → commits_reached (xs ++ ys) n ≡ commits_reached xs n
+reached_before xs ys n within = ap (λ (l : List Piece). length (commits_in l)) (front_reached xs ys n within)
 
-pub reached_after : (xs ys : List Step) (more : List ℕ) → AreFull xs → commits_reached (xs ++ ys) (length (text_in xs ++ more)) ≡ length (commits_in xs) + commits_reached ys (length more)
+pub reached_after : (xs ys : List Piece) (more : List ℕ) → AreFull xs → commits_reached (xs ++ ys) (length (text_in xs ++ more)) ≡ length (commits_in xs) + commits_reached ys (length more)
 reached_after xs ys more full =
-    let ends = steps_reached ys (length more) in
-    ap (λ (l : List Step). length (commits_in l)) (all_reached xs ys more full) ∙ ap length (commits_in-append xs ends) ∙ length-append (commits_in xs) (commits_in ends)
+    let ends = pieces_reached ys (length more) in
+    ap (λ (l : List Piece). length (commits_in l)) (all_reached xs ys more full) ∙ ap length (commits_in-append xs ends) ∙ length-append (commits_in xs) (commits_in ends)
 
 -- The states
 
 next_one : (x : State) (states : List State) (k : ℕ) → slice_get (x ∷ states) (1 + k) ≡ slice_get states k
 next_one x states k = let same : 1 + k ≡ suc k = omega arith in ap (λ (j : ℕ). slice_get (x ∷ states) j) same
 
--- the states from that after a step on, by their number from the one before it
+-- the states from that after a piece on, by their number from the one before it
 first_state : (s : State) (commit : Option State) (states : List State) (k : ℕ)
     → slice_get (s ∷ (option_to_list commit ++ states)) (length (option_to_list commit) + k) ≡ slice_get (unwrap_or commit s ∷ states) k
 first_state s None states k = let same : 0 + k ≡ k = omega arith in ap (λ (j : ℕ). slice_get (s ∷ states) j) same
 first_state s (Some u) states k = next_one s (u ∷ states) k
 
--- the same of several steps
-pub states_after : (s : State) (xs : List Step) (states : List State) (k : ℕ) → slice_get (s ∷ (commits_in xs ++ states)) (length (commits_in xs) + k) ≡ slice_get (state_after s xs ∷ states) k
+-- the same of several pieces
+pub states_after : (s : State) (xs : List Piece) (states : List State) (k : ℕ) → slice_get (s ∷ (commits_in xs ++ states)) (length (commits_in xs) + k) ≡ slice_get (state_after s xs ∷ states) k
 states_after s [] states k = let same : 0 + k ≡ k = omega arith in ap (λ (j : ℕ). slice_get (s ∷ states) j) same
 states_after s (x ∷ xs) states k =
     let number : length (option_to_list x.commit ++ commits_in xs) + k ≡ length (option_to_list x.commit) + (length (commits_in xs) + k) =
@@ -99,7 +99,7 @@ states_after s (x ∷ xs) states k =
     ∙ first_state s x.commit (commits_in xs ++ states) (length (commits_in xs) + k)
     ∙ states_after (unwrap_or x.commit s) xs states k
 
-pub last_contained : (s : State) (xs : List Step) → Contains (s ∷ commits_in xs) (state_after s xs)
+pub last_contained : (s : State) (xs : List Piece) → Contains (s ∷ commits_in xs) (state_after s xs)
 last_contained s [] = (0, omega arith, refl)
 last_contained s (x ∷ xs) = go x.commit (last_contained (unwrap_or x.commit s) xs)
   where
@@ -108,11 +108,11 @@ last_contained s (x ∷ xs) = go x.commit (last_contained (unwrap_or x.commit s)
     go (Some u) rest = Contains-append_right (s ∷ []) (u ∷ commits_in xs) (state_after u xs) rest
 
 -- more states
-pub contained_before : (s u : State) (xs ys : List Step) → Contains (s ∷ commits_in xs) u → Contains (s ∷ commits_in (xs ++ ys)) u
+pub contained_before : (s u : State) (xs ys : List Piece) → Contains (s ∷ commits_in xs) u → Contains (s ∷ commits_in (xs ++ ys)) u
 contained_before s u xs ys has =
     subst (λ (l : List State). Contains (s ∷ l) u) (sym (commits_in-append xs ys)) (Contains-append_left (s ∷ commits_in xs) (commits_in ys) u has)
 
-pub contained_after : (s u : State) (xs ys : List Step) → Contains (state_after s xs ∷ commits_in ys) u → Contains (s ∷ commits_in (xs ++ ys)) u
+pub contained_after : (s u : State) (xs ys : List Piece) → Contains (state_after s xs ∷ commits_in ys) u → Contains (s ∷ commits_in (xs ++ ys)) u
 contained_after s u xs ys (zero, below, is) =
     contained_before s u xs ys (subst (λ (v : State). Contains (s ∷ commits_in xs) v) is (last_contained s xs))
 contained_after s u xs ys (suc k, below, is) =
@@ -130,13 +130,13 @@ pub state_or_next_more : (states more : List State) (c : ℕ) (held : State → 
 state_or_next_more states more c held (u, is, inl same) = (u, is, inl (get_more states more c u same))
 state_or_next_more states more c held (u, is, inr same) = (u, is, inr (get_more states more (c + 1) u same))
 
--- among the states of more steps
-pub state_or_next_before : (s : State) (xs ys : List Step) (c : ℕ) (held : State → Type 0) → IsStateOrNext (s ∷ commits_in xs) c held → IsStateOrNext (s ∷ commits_in (xs ++ ys)) c held
+-- among the states of more pieces
+pub state_or_next_before : (s : State) (xs ys : List Piece) (c : ℕ) (held : State → Type 0) → IsStateOrNext (s ∷ commits_in xs) c held → IsStateOrNext (s ∷ commits_in (xs ++ ys)) c held
 state_or_next_before s xs ys c held is =
     subst (λ (l : List State). IsStateOrNext (s ∷ l) c held) (sym (commits_in-append xs ys)) (state_or_next_more (s ∷ commits_in xs) (commits_in ys) c held is)
 
--- by its number from the state before the first steps
-pub state_or_next_after : (s : State) (xs ys : List Step) (c : ℕ) (held : State → Type 0) → IsStateOrNext (state_after s xs ∷ commits_in ys) c held → IsStateOrNext (s ∷ commits_in (xs ++ ys)) (length (commits_in xs) + c) held
+-- by its number from the state before the first pieces
+pub state_or_next_after : (s : State) (xs ys : List Piece) (c : ℕ) (held : State → Type 0) → IsStateOrNext (state_after s xs ∷ commits_in ys) c held → IsStateOrNext (s ∷ commits_in (xs ++ ys)) (length (commits_in xs) + c) held
 state_or_next_after s xs ys c held (u, is, which) =
     subst (λ (l : List State). IsStateOrNext (s ∷ l) (length (commits_in xs) + c) held) (sym (commits_in-append xs ys)) (u, is, go which)
   where
@@ -179,9 +179,9 @@ state_after-quiet s (line ∷ lines) = state_after-quiet s lines
 pub reached-quiet : (lines : List (List ℕ)) (n : ℕ) → commits_reached (quiet lines) n ≡ 0
 reached-quiet lines n =
     let k = lines_reached (lines_in (quiet lines)) n in
-    ap (λ (l : List Step). length (commits_in l)) (take-map (λ (line : List ℕ). record { line = line; commit = None }) k lines) ∙ ap length (commits_in-quiet (take k lines))
+    ap (λ (l : List Piece). length (commits_in l)) (take-map (λ (line : List ℕ). record { line = line; commit = None }) k lines) ∙ ap length (commits_in-quiet (take k lines))
 
 -- One line that tells a state
 
 pub reached-telling : (u : State) (line : List ℕ) (n : ℕ) → 0 < n → commits_reached (telling u line) n ≡ 1
-reached-telling u line n some = ap (λ (l : List Step). length (commits_in l)) (one_reached (record { line = line; commit = Some u }) [] n some)
+reached-telling u line n some = ap (λ (l : List Piece). length (commits_in l)) (one_reached (record { line = line; commit = Some u }) [] n some)

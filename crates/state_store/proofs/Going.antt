@@ -20,7 +20,7 @@ use Rattle.state_store.specs.Held.{HasFrameOf, HeldByBoth, bodies_of_both}
 use Rattle.state_store.specs.Laws.{AreWhole, EndGoesOn, ForeignOnce, IsPollOf, LoadedOnce, LoadedOrForeign, RecoveryGoesOn, SessionGoesOn, SyncsLeaveNoMore}
 use Rattle.state_store.specs.Load.{IsSectionOf, header, load_of}
 use Rattle.state_store.specs.Played.{IsStateOrNext, Survives}
-use Rattle.state_store.specs.Steps.{commits_in}
+use Rattle.state_store.specs.Pieces.{commits_in}
 use Rattle.state_store.proofs.Holding.{one_held}
 use Rattle.state_store.proofs.Named.{named_there}
 use Rattle.state_store.proofs.Resting.{at_end}
@@ -98,13 +98,13 @@ next_held states k held (u, is, inl this) = (u, is, got states k u this)
 next_held states k held (u, is, inr next) = (u, is, got states (k + 1) u next)
 
 pub session_goes_on : SessionGoesOn
-session_goes_on t r section s steps start left whole found survives = go left.shown refl
+session_goes_on t r section s pieces start left whole found survives = go left.shown refl
   where
     fits : section.voters ≡ length r.titles
     fits = found.loaded.section_fits.voters
 
     states : List State
-    states = s ∷ commits_in steps
+    states = s ∷ commits_in pieces
 
     held_now : (n : ℕ) → State → Type 0
     held_now n u = HeldByBoth t n left.internal left.external u
@@ -123,11 +123,11 @@ session_goes_on t r section s steps start left whole found survives = go left.sh
 -- ---- where a session ends
 
 pub end_goes_on : EndGoesOn
-end_goes_on t r section s steps start ops whole found survives =
+end_goes_on t r section s pieces start ops whole found survives =
     let mid = after both_synced start in
     let end = after ops mid in
     let left : Left = record { internal = end.internal.content; external = end.external.content; shown = shown_by ops } in
-    let poll = session_goes_on t r section s steps start left whole found (at_end mid ops (Survives t (load_of t r section) s steps start) survives) in (
+    let poll = session_goes_on t r section s pieces start left whole found (at_end mid ops (Survives t (load_of t r section) s pieces start) survives) in (
       poll.state,
       poll.one,
       whole_end end poll.whole,

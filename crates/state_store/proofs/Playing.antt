@@ -1,4 +1,4 @@
--- Steps that are put out over a store, some after others.
+-- Pieces that are put out over a store, some after others.
 use Rattle.std.proofs.Common.{◌≡◌, inl, inr, ℕ, ◌+◌, ◌<◌, ◌≤◌, Option, Some, None, IsSome, List, [], ◌∷◌, ◌++◌, length, slice_get, refl, sym, ap, subst, ◌∙◌, arith, append_assoc, length-append}
 use Rattle.std.proofs.lemmas.Bool.{cases_lt}
 use Rattle.std.proofs.lemmas.List.{append-nil, map-append}
@@ -18,7 +18,7 @@ use Rattle.urna_outside.proofs.Courses.{in_shows, stops_silent}
 use Rattle.urna_outside.proofs.Doing.{does-append, does_nothing, told_after}
 use Rattle.urna_outside.proofs.Faults.{ends_later, faultless_none, faultless_trans}
 use Rattle.urna_outside.proofs.Showing.{shows_keep}
-use Rattle.urna_outside.proofs.ShowingLines.{cut_front, shows_lines}
+use Rattle.urna_outside.proofs.ShowingLines.{cut_front, shows_lines, cut_later, cut_longer, shows_of-append}
 use Rattle.urna_outside.proofs.Stops.{stops-append, stops-append_silent, stops_both}
 use Rattle.twin_image.specs.Slots.{KeepsFrame}
 use Rattle.twin_image.specs.Twin.{IsOfTwin}
@@ -30,15 +30,15 @@ use Rattle.state_store.specs.Calls.{Commits, HoldEither, IsEither, KeepFrames, R
 use Rattle.state_store.specs.Held.{HeldAlone, HeldByBoth}
 use Rattle.state_store.specs.Played.{AreInOrder, AreInOrderTo, IsCommitOf, Follows, HasPut, HasStopped, IsCutAt, IsSafe, IsStateOrNext, Plays, Survives, shows_in}
 use Rattle.state_store.specs.Rest.{AreAtRest}
-use Rattle.state_store.specs.Steps.{AreFull, Step, commits_in, commits_reached, lines_in, quiet, state_after, telling, text_in}
+use Rattle.state_store.specs.Pieces.{AreFull, Piece, commits_in, commits_reached, lines_in, quiet, state_after, telling, text_in}
 use Rattle.state_store.specs.declared.load.Load.{Load}
 use Rattle.state_store.proofs.Counting.{commits_in-quiet, contained_after, contained_before, lines_in-append, lines_in-quiet, only_state, reached-quiet, reached-telling, reached_after, reached_before, state_after-append, state_after-quiet, state_or_next_after, state_or_next_before, text_in-append, text_in-quiet}
 use Rattle.state_store.proofs.Resting.{IsStored, frames_at_end, frames_same, frames_text, frames_trans, rest_holds}
 use Rattle.state_store.proofs.ShowStops.{front_of_text, session-append, session_shows, session_slots, shows_in-append, shows_in_shows, shows_in_silent, stops_of_shows, text_of_lines}
 
--- what is left at a stop of the steps
-abbrev Leaves : TablesData → Load → State → List Step → Flashes → Left → Type 0
-Leaves t load s steps start left = Follows t load.section.voters s steps left × KeepFrames start left
+-- what is left at a stop of the pieces
+abbrev Leaves : TablesData → Load → State → List Piece → Flashes → Left → Type 0
+Leaves t load s pieces start left = Follows t load.section.voters s pieces left × KeepFrames start left
 
 -- Lines that tell no state
 
@@ -69,19 +69,19 @@ plays_quiet t load s lines start ops stored rest part =
           ));
     }
 
--- steps in order, and others behind them
-order-append : (xs ys : List Step) (first second : List Op) → AreInOrder xs first → AreInOrder ys second → AreInOrder (xs ++ ys) (first ++ second)
+-- pieces in order, and others behind them
+order-append : (xs ys : List Piece) (first second : List Op) → AreInOrder xs first → AreInOrder ys second → AreInOrder (xs ++ ys) (first ++ second)
 order-append [] ys first second none after = subst (λ (l : List Op). AreInOrder ys (l ++ second)) (sym none) after
 order-append (x ∷ xs) ys first second (commit, rest, of, is, more) after =
     (commit, rest ++ second, of, ap (λ (l : List Op). l ++ second) is ∙ append_assoc commit (Show x.line ∷ rest) second, order-append xs ys rest second more after)
 
--- a fault in the first steps, and one in the steps behind them
-order_before : (xs ys : List Step) (ops : List Op) → AreInOrderTo xs ops → AreInOrderTo (xs ++ ys) ops
+-- a fault in the first pieces, and one in the pieces behind them
+order_before : (xs ys : List Piece) (ops : List Op) → AreInOrderTo xs ops → AreInOrderTo (xs ++ ys) ops
 order_before [] ys ops to = absurd to
 order_before (x ∷ xs) ys ops (commit, rest, of, is, inl torn) = (commit, rest, of, is, inl torn)
 order_before (x ∷ xs) ys ops (commit, rest, of, is, inr (more, split, next)) = (commit, rest, of, is, inr (more, split, order_before xs ys more next))
 
-order_after : (xs ys : List Step) (first second : List Op) → AreInOrder xs first → AreInOrderTo ys second → AreInOrderTo (xs ++ ys) (first ++ second)
+order_after : (xs ys : List Piece) (first second : List Op) → AreInOrder xs first → AreInOrderTo ys second → AreInOrderTo (xs ++ ys) (first ++ second)
 order_after [] ys first second none after = subst (λ (l : List Op). AreInOrderTo ys (l ++ second)) (sym none) after
 order_after (x ∷ xs) ys first second (commit, rest, of, is, more) after = (
   commit,
@@ -104,7 +104,7 @@ order_cut [] ops cut = absurd cut
 order_cut (line ∷ lines) ops (inl torn) = ([], ops, commits_none line, refl, inl torn)
 order_cut (line ∷ lines) ops (inr (rest, is, cut)) = ([], ops, commits_none line, refl, inr (rest, is, order_cut lines rest cut))
 
--- no step
+-- no piece
 pub put_nothing : (t : TablesData) (load : Load) (s : State) (a : Told) → IsStored t load s → ForSome a.flashes (AreAtRest load s) → HasPut t load s [] a a
 put_nothing t load s a stored rest =
     record {
@@ -280,10 +280,10 @@ module _ (t : TablesData) (load : Load) (s u : State) (line : List ℕ) where
         fault = fault;
       }
 
--- Steps after steps
+-- Pieces after pieces
 
--- what follows the first steps follows all
-pub follows_before : (t : TablesData) (voters : ℕ) (s : State) (xs ys : List Step) (left : Left) → Follows t voters s xs left → Follows t voters s (xs ++ ys) left
+-- what follows the first pieces follows all
+pub follows_before : (t : TablesData) (voters : ℕ) (s : State) (xs ys : List Piece) (left : Left) → Follows t voters s xs left → Follows t voters s (xs ++ ys) left
 follows_before t voters s xs ys left follows =
     record {
       rest = follows.rest ++ text_in ys;
@@ -300,8 +300,8 @@ follows_before t voters s xs ys left follows =
     each held is =
         subst (λ (n : ℕ). IsStateOrNext (s ∷ commits_in (xs ++ ys)) n held) (sym (reached_before xs ys (length left.shown) within)) (state_or_next_before s xs ys (commits_reached xs (length left.shown)) held is)
 
--- and what follows the steps behind them, once their text was shown
-pub follows_after : (t : TablesData) (voters : ℕ) (s : State) (xs ys : List Step) (left : Left) → AreFull xs → Follows t voters (state_after s xs) ys left → Follows t voters s (xs ++ ys) (record left { shown = text_in xs ++ left.shown })
+-- and what follows the pieces behind them, once their text was shown
+pub follows_after : (t : TablesData) (voters : ℕ) (s : State) (xs ys : List Piece) (left : Left) → AreFull xs → Follows t voters (state_after s xs) ys left → Follows t voters s (xs ++ ys) (record left { shown = text_in xs ++ left.shown })
 follows_after t voters s xs ys left full follows =
     record {
       rest = follows.rest;
@@ -315,7 +315,7 @@ follows_after t voters s xs ys left full follows =
     each held is =
         subst (λ (n : ℕ). IsStateOrNext (s ∷ commits_in (xs ++ ys)) n held) (sym (reached_after xs ys left.shown full)) (state_or_next_after s xs ys (commits_reached ys (length left.shown)) held is)
 
-plays_before : (t : TablesData) (load : Load) (s : State) (xs ys : List Step) (start : Option Flashes) (ops : List Op) → Plays t load s xs start ops → Plays t load s (xs ++ ys) start ops
+plays_before : (t : TablesData) (load : Load) (s : State) (xs ys : List Piece) (start : Option Flashes) (ops : List Op) → Plays t load s xs start ops → Plays t load s (xs ++ ys) start ops
 plays_before t load s xs ys start ops plays =
     record {
       slots = plays.slots;
@@ -324,8 +324,8 @@ plays_before t load s xs ys start ops plays =
           (follows_before t load.section.voters s xs ys left holds.0, holds.1);
     }
 
--- the first steps were put out, and the operations behind play those behind them
-plays-append : (t : TablesData) (load : Load) (s : State) (xs ys : List Step) (a b : Told) (first second : List Op) → AreFull xs → Plays t load s xs a.flashes first → shows_in first ≡ shows (lines_in xs) → Does first a b
+-- the first pieces were put out, and the operations behind play those behind them
+plays-append : (t : TablesData) (load : Load) (s : State) (xs ys : List Piece) (a b : Told) (first second : List Op) → AreFull xs → Plays t load s xs a.flashes first → shows_in first ≡ shows (lines_in xs) → Does first a b
     → Plays t load (state_after s xs) ys b.flashes second → Plays t load s (xs ++ ys) a.flashes (first ++ second)
 plays-append t load s xs ys a b first second full plays shown does later =
     record {
@@ -343,13 +343,10 @@ plays-append t load s xs ys a b first second full plays shown does later =
           (subst (λ (l : List ℕ). Follows t load.section.voters s (xs ++ ys) (record left { shown = l ++ left.shown })) (sym text) (follows_after t load.section.voters s xs ys left full holds.0), frames_text start left (shown_by first ++ left.shown) (frames_trans start mid left kept holds.1)));
     }
 
-shows-append : (xs ys : List (List ℕ)) → shows (xs ++ ys) ≡ shows xs ++ shows ys
-shows-append xs ys = map-append (λ (line : List ℕ). Show line) xs ys
+shows_of_pieces : (xs ys : List Piece) → shows (lines_in (xs ++ ys)) ≡ shows (lines_in xs) ++ shows (lines_in ys)
+shows_of_pieces xs ys = ap shows (lines_in-append xs ys) ∙ shows_of-append (lines_in xs) (lines_in ys)
 
-shows_of_steps : (xs ys : List Step) → shows (lines_in (xs ++ ys)) ≡ shows (lines_in xs) ++ shows (lines_in ys)
-shows_of_steps xs ys = ap shows (lines_in-append xs ys) ∙ shows-append (lines_in xs) (lines_in ys)
-
-pub put-append : (t : TablesData) (load : Load) (s : State) (xs ys : List Step) (a b c : Told) → AreFull xs → HasPut t load s xs a b → HasPut t load (state_after s xs) ys b c → HasPut t load s (xs ++ ys) a c
+pub put-append : (t : TablesData) (load : Load) (s : State) (xs ys : List Piece) (a b c : Told) → AreFull xs → HasPut t load s xs a b → HasPut t load (state_after s xs) ys b c → HasPut t load s (xs ++ ys) a c
 put-append t load s xs ys a b c full first second =
     record {
       ops = first.ops ++ second.ops;
@@ -357,55 +354,45 @@ put-append t load s xs ys a b c full first second =
       plays = plays-append t load s xs ys a b first.ops second.ops full first.plays first.shown first.does second.plays;
       shown =
           shows_in-append first.ops second.ops ∙ ap (λ (l : List Op). l ++ shows_in second.ops) first.shown
-          ∙ ap (λ (l : List Op). shows (lines_in xs) ++ l) second.shown ∙ sym (shows_of_steps xs ys);
+          ∙ ap (λ (l : List Op). shows (lines_in xs) ++ l) second.shown ∙ sym (shows_of_pieces xs ys);
       order = order-append xs ys first.ops second.ops first.order second.order;
       rest = subst (λ (u : State). ForSome c.flashes (AreAtRest load u)) (sym (state_after-append s xs ys)) second.rest;
       fine = faultless_trans a b c first.fine second.fine;
     }
 
--- a cut in the first steps is one in all
-cut_longer : (xs ys : List (List ℕ)) (ops : List Op) → IsCutShort xs ops → IsCutShort (xs ++ ys) ops
-cut_longer [] ys ops cut = absurd cut
-cut_longer (x ∷ xs) ys ops (inl torn) = inl torn
-cut_longer (x ∷ xs) ys ops (inr more) = inr (more.0, more.1, cut_longer xs ys more.0 more.2)
-
-cut_later : (xs ys : List (List ℕ)) (ops : List Op) → IsCutShort ys ops → IsCutShort (xs ++ ys) (shows xs ++ ops)
-cut_later [] ys ops cut = cut
-cut_later (x ∷ xs) ys ops cut = inr (shows xs ++ ops, refl, cut_later xs ys ops cut)
-
 -- the cut of a commit
-abbrev IsInCommit : List Step → List Op → Type 0
-IsInCommit steps shown =
-    (before : List Step) × (step : Step) × (behind : List Step) × (steps ≡ before ++ step ∷ behind) × IsSome step.commit × (shown ≡ shows (lines_in before))
+abbrev IsInCommit : List Piece → List Op → Type 0
+IsInCommit pieces shown =
+    (before : List Piece) × (piece : Piece) × (behind : List Piece) × (pieces ≡ before ++ piece ∷ behind) × IsSome piece.commit × (shown ≡ shows (lines_in before))
 
-commit_before : (xs ys : List Step) (ops : List Op) → IsInCommit xs ops → IsInCommit (xs ++ ys) ops
-commit_before xs ys ops (before, step, behind, split, some, shown) =
-    (before, step, behind ++ ys, ap (λ (l : List Step). l ++ ys) split ∙ append_assoc before (step ∷ behind) ys, some, shown)
+commit_before : (xs ys : List Piece) (ops : List Op) → IsInCommit xs ops → IsInCommit (xs ++ ys) ops
+commit_before xs ys ops (before, piece, behind, split, some, shown) =
+    (before, piece, behind ++ ys, ap (λ (l : List Piece). l ++ ys) split ∙ append_assoc before (piece ∷ behind) ys, some, shown)
 
-commit_after : (xs ys : List Step) (ops : List Op) → IsInCommit ys ops → IsInCommit (xs ++ ys) (shows (lines_in xs) ++ ops)
-commit_after xs ys ops (before, step, behind, split, some, shown) = (
+commit_after : (xs ys : List Piece) (ops : List Op) → IsInCommit ys ops → IsInCommit (xs ++ ys) (shows (lines_in xs) ++ ops)
+commit_after xs ys ops (before, piece, behind, split, some, shown) = (
   xs ++ before,
-  step,
+  piece,
   behind,
-  ap (λ (l : List Step). xs ++ l) split ∙ sym (append_assoc xs before (step ∷ behind)),
+  ap (λ (l : List Piece). xs ++ l) split ∙ sym (append_assoc xs before (piece ∷ behind)),
   some,
-  ap (λ (l : List Op). shows (lines_in xs) ++ l) shown ∙ sym (shows_of_steps xs before),
+  ap (λ (l : List Op). shows (lines_in xs) ++ l) shown ∙ sym (shows_of_pieces xs before),
 )
 
-cut_at_before : (p : Port) (xs ys : List Step) (ops : List Op) → IsCutAt p xs ops → IsCutAt p (xs ++ ys) ops
+cut_at_before : (p : Port) (xs ys : List Piece) (ops : List Op) → IsCutAt p xs ops → IsCutAt p (xs ++ ys) ops
 cut_at_before port.Internal xs ys ops cut = commit_before xs ys ops cut
 cut_at_before port.External xs ys ops cut = commit_before xs ys ops cut
 cut_at_before port.Display xs ys ops cut =
     subst (λ (l : List (List ℕ)). IsCutShort l ops) (sym (lines_in-append xs ys)) (cut_longer (lines_in xs) (lines_in ys) ops cut)
 
-cut_at_after : (p : Port) (xs ys : List Step) (ops : List Op) → IsCutAt p ys ops → IsCutAt p (xs ++ ys) (shows (lines_in xs) ++ ops)
+cut_at_after : (p : Port) (xs ys : List Piece) (ops : List Op) → IsCutAt p ys ops → IsCutAt p (xs ++ ys) (shows (lines_in xs) ++ ops)
 cut_at_after port.Internal xs ys ops cut = commit_after xs ys ops cut
 cut_at_after port.External xs ys ops cut = commit_after xs ys ops cut
 cut_at_after port.Display xs ys ops cut =
     subst (λ (l : List (List ℕ)). IsCutShort l (shows (lines_in xs) ++ ops)) (sym (lines_in-append xs ys)) (cut_later (lines_in xs) (lines_in ys) ops cut)
 
--- a stop in the first steps
-pub stopped_before : (t : TablesData) (load : Load) (s : State) (xs ys : List Step) (p : Port) (a b : Told) → HasStopped t load s xs p a b → HasStopped t load s (xs ++ ys) p a b
+-- a stop in the first pieces
+pub stopped_before : (t : TablesData) (load : Load) (s : State) (xs ys : List Piece) (p : Port) (a b : Told) → HasStopped t load s xs p a b → HasStopped t load s (xs ++ ys) p a b
 stopped_before t load s xs ys p a b stopped =
     record {
       ops = stopped.ops;
@@ -417,8 +404,8 @@ stopped_before t load s xs ys p a b stopped =
       fault = stopped.fault;
     }
 
--- a stop in the steps behind them
-pub stopped_after : (t : TablesData) (load : Load) (s : State) (xs ys : List Step) (p : Port) (a b c : Told) → AreFull xs → HasPut t load s xs a b → HasStopped t load (state_after s xs) ys p b c → HasStopped t load s (xs ++ ys) p a c
+-- a stop in the pieces behind them
+pub stopped_after : (t : TablesData) (load : Load) (s : State) (xs ys : List Piece) (p : Port) (a b c : Told) → AreFull xs → HasPut t load s xs a b → HasStopped t load (state_after s xs) ys p b c → HasStopped t load s (xs ++ ys) p a c
 stopped_after t load s xs ys p a b c full first stopped =
     let shown : shows_in (first.ops ++ stopped.ops) ≡ shows (lines_in xs) ++ shows_in stopped.ops =
     shows_in-append first.ops stopped.ops ∙ ap (λ (l : List Op). l ++ shows_in stopped.ops) first.shown in
@@ -432,43 +419,43 @@ stopped_after t load s xs ys p a b c full first stopped =
       fault = ends_later p a b c first.fine stopped.fault;
     }
 
--- steps behind others, by what all steps come to
-pub put_to : (t : TablesData) (load : Load) (s : State) (front step all : List Step) (a b c : Told) → all ≡ front ++ step → AreFull front → HasPut t load s front a b → HasPut t load (state_after s front) step b c → HasPut t load s all a c
-put_to t load s front step all a b c e full first second =
-    subst (λ (steps : List Step). HasPut t load s steps a c) (sym e) (put-append t load s front step a b c full first second)
+-- pieces behind others, by what all pieces come to
+pub put_to : (t : TablesData) (load : Load) (s : State) (front piece all : List Piece) (a b c : Told) → all ≡ front ++ piece → AreFull front → HasPut t load s front a b → HasPut t load (state_after s front) piece b c → HasPut t load s all a c
+put_to t load s front piece all a b c e full first second =
+    subst (λ (pieces : List Piece). HasPut t load s pieces a c) (sym e) (put-append t load s front piece a b c full first second)
 
--- a stop in the middle of all steps
-pub stopped_within : (t : TablesData) (load : Load) (s : State) (front step rest all : List Step) (p : Port) (a b c : Told) → all ≡ (front ++ step) ++ rest → AreFull front → HasPut t load s front a b → HasStopped t load (state_after s front) step p b c → HasStopped t load s all p a c
-stopped_within t load s front step rest all p a b c e full first second =
-    subst (λ (steps : List Step). HasStopped t load s steps p a c) (sym e) (stopped_before t load s (front ++ step) rest p a c (stopped_after t load s front step p a b c full first second))
+-- a stop in the middle of all pieces
+pub stopped_within : (t : TablesData) (load : Load) (s : State) (front piece rest all : List Piece) (p : Port) (a b c : Told) → all ≡ (front ++ piece) ++ rest → AreFull front → HasPut t load s front a b → HasStopped t load (state_after s front) piece p b c → HasStopped t load s all p a c
+stopped_within t load s front piece rest all p a b c e full first second =
+    subst (λ (pieces : List Piece). HasStopped t load s pieces p a c) (sym e) (stopped_before t load s (front ++ piece) rest p a c (stopped_after t load s front piece p a b c full first second))
 
--- A whole call: a recovery, opening lines that tell no state, and steps behind them
+-- A whole call: a recovery, opening lines that tell no state, and pieces behind them
 
--- what survives the first steps survives all
-pub survives_more : (t : TablesData) (load : Load) (s : State) (xs ys : List Step) (start : Flashes) (left : Left) → Survives t load s xs start left → Survives t load s (xs ++ ys) start left
+-- what survives the first pieces survives all
+pub survives_more : (t : TablesData) (load : Load) (s : State) (xs ys : List Piece) (start : Flashes) (left : Left) → Survives t load s xs start left → Survives t load s (xs ++ ys) start left
 survives_more t load s xs ys start left (before, behind, kept) =
     (before, λ begun. follows_before t load.section.voters s xs ys left (behind begun), kept)
 
-pub safe_more : (t : TablesData) (load : Load) (s : State) (xs ys : List Step) (a b : Told) → IsSafe t load s xs a b → IsSafe t load s (xs ++ ys) a b
+pub safe_more : (t : TablesData) (load : Load) (s : State) (xs ys : List Piece) (a b : Told) → IsSafe t load s xs a b → IsSafe t load s (xs ++ ys) a b
 safe_more t load s xs ys a b (ops, does, (rest, is, stops)) =
     (ops, does, (rest, is, λ start told done stop left leaves. survives_more t load s xs ys start left (stops start told done stop left leaves)))
 
 -- what was played
-pub put_plays : (t : TablesData) (load : Load) (s : State) (steps : List Step) (a b : Told) → HasPut t load s steps a b → Runs (Plays t load s steps a.flashes) a b
-put_plays t load s steps a b put = (put.ops, put.does, put.plays)
+pub put_plays : (t : TablesData) (load : Load) (s : State) (pieces : List Piece) (a b : Told) → HasPut t load s pieces a b → Runs (Plays t load s pieces a.flashes) a b
+put_plays t load s pieces a b put = (put.ops, put.does, put.plays)
 
-pub stopped_plays : (t : TablesData) (load : Load) (s : State) (steps : List Step) (p : Port) (a b : Told) → HasStopped t load s steps p a b → Runs (Plays t load s steps a.flashes) a b
-stopped_plays t load s steps p a b stopped = (stopped.ops, stopped.does, stopped.plays)
+pub stopped_plays : (t : TablesData) (load : Load) (s : State) (pieces : List Piece) (p : Port) (a b : Told) → HasStopped t load s pieces p a b → Runs (Plays t load s pieces a.flashes) a b
+stopped_plays t load s pieces p a b stopped = (stopped.ops, stopped.does, stopped.plays)
 
 module _ (t : TablesData) (r : RollData) (load : Load) (s : State) (line : List ℕ) (lines : List (List ℕ)) where
-  abbrev opening : List Step
+  abbrev opening : List Piece
   opening = quiet (line ∷ lines)
 
   -- while the flashes are recovered
-  while_recovered : (a : Told) (xs : List Op) (steps : List Step) → Recovers t r load.section s a xs → (start : Flashes) → a.flashes ≡ Some start → AtEachStop (after both_synced start) xs (Survives t load s steps start)
-  while_recovered a xs steps recovers start told =
+  while_recovered : (a : Told) (xs : List Op) (pieces : List Piece) → Recovers t r load.section s a xs → (start : Flashes) → a.flashes ≡ Some start → AtEachStop (after both_synced start) xs (Survives t load s pieces start)
+  while_recovered a xs pieces recovers start told =
       let there = recovers.stops start told in
-      stops_both (after both_synced start) xs (λ left. HeldByBoth t (length r.titles) left.internal left.external s × KeepFrames start left) (λ left. left.shown ≡ []) (Survives t load s steps start)
+      stops_both (after both_synced start) xs (λ left. HeldByBoth t (length r.titles) left.internal left.external s × KeepFrames start left) (λ left. left.shown ≡ []) (Survives t load s pieces start)
       there.1 (stops_silent (λ d k. IsOfTwin body_size k) (after both_synced start) xs recovers.slots.within) (λ left holds silent. (
         λ none. subst (λ (voters : ℕ). HeldByBoth t voters left.internal left.external s) (sym there.0.loaded.section_fits.voters) holds.0,
         λ begun. absurd (omega (arith, ap length silent)),
@@ -489,14 +476,14 @@ module _ (t : TablesData) (r : RollData) (load : Load) (s : State) (line : List 
       let holds = plays.stops mid told done stop left is in
       (λ none. opening_holds left holds.0, λ begun. holds.0, frames_trans start mid left kept holds.1)
 
-  -- and while the steps behind them are put out
-  while_played : (left : Left) (steps : List Step) (text : List ℕ) → AreFull opening → text ≡ text_in opening → Follows t load.section.voters s steps left → (start : Flashes) → KeepFrames start left
-      → Survives t load s (opening ++ steps) start (record left { shown = text ++ left.shown })
-  while_played left steps text full same follows start keeps =
-      let now = subst (λ (u : State). Follows t load.section.voters u steps left) (sym (state_after-quiet s (line ∷ lines))) follows in
+  -- and while the pieces behind them are put out
+  while_played : (left : Left) (pieces : List Piece) (text : List ℕ) → AreFull opening → text ≡ text_in opening → Follows t load.section.voters s pieces left → (start : Flashes) → KeepFrames start left
+      → Survives t load s (opening ++ pieces) start (record left { shown = text ++ left.shown })
+  while_played left pieces text full same follows start keeps =
+      let now = subst (λ (u : State). Follows t load.section.voters u pieces left) (sym (state_after-quiet s (line ∷ lines))) follows in
       let some : 0 < length line = full.0 in (
         λ none. absurd (omega (arith, some, ap length same, ap length none, length-append line (text_in (quiet lines)), length-append text left.shown)),
-        λ begun. subst (λ (l : List ℕ). Follows t load.section.voters s (opening ++ steps) (record left { shown = l ++ left.shown })) (sym same) (follows_after t load.section.voters s opening steps left full now),
+        λ begun. subst (λ (l : List ℕ). Follows t load.section.voters s (opening ++ pieces) (record left { shown = l ++ left.shown })) (sym same) (follows_after t load.section.voters s opening pieces left full now),
         frames_text start left (text ++ left.shown) keeps,
       )
 
@@ -509,22 +496,22 @@ module _ (t : TablesData) (r : RollData) (load : Load) (s : State) (line : List 
       stops-append_silent (after both_synced start) xs ys (Survives t load s opening start) (in_shows (λ d k. IsOfTwin body_size k) xs recovers.slots.within) first
       (while_opened b ys start (after xs (after both_synced start)) plays (told_after (both_synced ++ xs) a b start does told) kept)
 
-  -- And of the steps behind them.
-  pub whole_stops : (a b c : Told) (xs ys ops : List Op) (steps : List Step) → AreFull opening → Recovers t r load.section s a xs → Does (both_synced ++ xs) a b
-      → Plays t load s opening b.flashes ys → shows_in ys ≡ shows (lines_in opening) → Does ys b c → Plays t load s steps c.flashes ops
-      → (start : Flashes) → a.flashes ≡ Some start → AtEachStop (after both_synced start) (xs ++ (ys ++ ops)) (Survives t load s (opening ++ steps) start)
-  whole_stops a b c xs ys ops steps full recovers does plays shown opened later start told =
-      let Whole = Survives t load s (opening ++ steps) start in
+  -- And of the pieces behind them.
+  pub whole_stops : (a b c : Told) (xs ys ops : List Op) (pieces : List Piece) → AreFull opening → Recovers t r load.section s a xs → Does (both_synced ++ xs) a b
+      → Plays t load s opening b.flashes ys → shows_in ys ≡ shows (lines_in opening) → Does ys b c → Plays t load s pieces c.flashes ops
+      → (start : Flashes) → a.flashes ≡ Some start → AtEachStop (after both_synced start) (xs ++ (ys ++ ops)) (Survives t load s (opening ++ pieces) start)
+  whole_stops a b c xs ys ops pieces full recovers does plays shown opened later start told =
+      let Whole = Survives t load s (opening ++ pieces) start in
       let mid = after xs (after both_synced start) in
       let mid_told = told_after (both_synced ++ xs) a b start does told in
-      let first = while_recovered a xs (opening ++ steps) recovers start told in
+      let first = while_recovered a xs (opening ++ pieces) recovers start told in
       let kept = frames_at_end start (after both_synced start) xs (λ done stop left is. (first done stop left is).2) in
       let second = while_opened b ys start mid plays mid_told kept in
       let still = frames_at_end start mid ys (λ done stop left is. (second done stop left is).2) in
       stops-append_silent (after both_synced start) xs (ys ++ ops) Whole (in_shows (λ d k. IsOfTwin body_size k) xs recovers.slots.within) first
-      (stops-append mid ys ops Whole (λ done stop left is. survives_more t load s opening steps start left (second done stop left is)) (λ done stop left is.
+      (stops-append mid ys ops Whole (λ done stop left is. survives_more t load s opening pieces start left (second done stop left is)) (λ done stop left is.
       let holds = later.stops (after ys mid) (told_after ys b c mid opened mid_told) done stop left is in
-      while_played left steps (shown_by ys) full (text_of_lines ys (lines_in opening) shown) holds.0 start (frames_trans start (after ys mid) left still holds.1)))
+      while_played left pieces (shown_by ys) full (text_of_lines ys (lines_in opening) shown) holds.0 start (frames_trans start (after ys mid) left still holds.1)))
 
   -- A recovery, and the opening lines, all of them or up to a fault.
   pub opening_call : (a b c : Told) → Runs (λ ops. (rest : List Op) × (ops ≡ both_synced ++ rest) × Recovers t r load.section s a rest) a b → Runs (Plays t load s opening b.flashes) b c
@@ -539,16 +526,16 @@ module _ (t : TablesData) (r : RollData) (load : Load) (s : State) (line : List 
     ),
   )
 
-  -- A recovery, the opening lines, and the steps behind them, all of them or up to a fault.
-  pub whole_call : (a b c e : Told) (steps : List Step) → AreFull opening → Runs (λ ops. (rest : List Op) × (ops ≡ both_synced ++ rest) × Recovers t r load.section s a rest) a b
-      → HasPut t load s opening b c → Runs (Plays t load s steps c.flashes) c e
-      → IsSafe t load s (opening ++ steps) a e
-  whole_call a b c e steps full (all, does, (xs, same, recovers)) put (ops, played, plays) = (
+  -- A recovery, the opening lines, and the pieces behind them, all of them or up to a fault.
+  pub whole_call : (a b c e : Told) (pieces : List Piece) → AreFull opening → Runs (λ ops. (rest : List Op) × (ops ≡ both_synced ++ rest) × Recovers t r load.section s a rest) a b
+      → HasPut t load s opening b c → Runs (Plays t load s pieces c.flashes) c e
+      → IsSafe t load s (opening ++ pieces) a e
+  whole_call a b c e pieces full (all, does, (xs, same, recovers)) put (ops, played, plays) = (
     all ++ (put.ops ++ ops),
     does-append all (put.ops ++ ops) a b e does (does-append put.ops ops b c e put.does played),
     (
       xs ++ (put.ops ++ ops),
       ap (λ (l : List Op). l ++ (put.ops ++ ops)) same,
-      whole_stops a b c xs put.ops ops steps full recovers (subst (λ (l : List Op). Does l a b) same does) put.plays put.shown put.does plays,
+      whole_stops a b c xs put.ops ops pieces full recovers (subst (λ (l : List Op). Does l a b) same does) put.plays put.shown put.does plays,
     ),
   )

@@ -56,8 +56,8 @@ found_section (x ∷ xs) s rise (suc k, below, is) =
 -- what a search finds stands in the list
 pub found_listed : {X : Type 0} (test : X → Bool) (xs : List X) (x : X) → find test xs ≡ Some x → Contains xs x
 found_listed test [] x is = absurd (cc)
-found_listed test (y ∷ ys) x is = step (test y) (found_listed test ys x) is
+found_listed test (y ∷ ys) x is = piece (test y) (found_listed test ys x) is
   where
-    step : (t : Bool) → (find test ys ≡ Some x → Contains ys x) → cond t (Some y) (find test ys) ≡ Some x → Contains (y ∷ ys) x
-    step true rest found = (0, omega arith, (let same : y ≡ x = cc in same))
-    step false rest found = let later = rest found in (suc later.0, omega (arith, later.1), later.2)
+    piece : (t : Bool) → (find test ys ≡ Some x → Contains ys x) → cond t (Some y) (find test ys) ≡ Some x → Contains (y ∷ ys) x
+    piece true rest found = (0, omega arith, (let same : y ≡ x = cc in same))
+    piece false rest found = let later = rest found in (suc later.0, omega (arith, later.1), later.2)

@@ -5,7 +5,7 @@ use Rattle.std.specs.Option.{ForSome}
 use Rattle.urna_outside.specs.Told.{Told, Sizes, AreSized}
 use Rattle.urna_outside.specs.declared.device.Dev.{Dev}
 use Rattle.urna_outside.proofs.Keeping.{stands_clean}
-use Rattle.gate_slot.specs.Slot.{open_gate, header_size, gate_place, body_place, gate_in, body_in}
+use Rattle.gate_slot.specs.Slot.{open_gate, header_size, gate_offset, body_offset, gate_in, body_in}
 use Rattle.gate_slot.proofs.Images.{stands_one}
 use Rattle.twin_image.specs.Frame.{HasFrame, padding}
 use Rattle.twin_image.specs.Level.{HasTokens, IsLevel, Stands, body_of}
@@ -30,12 +30,12 @@ pub roomy : (sizes : Sizes) → AreDevices sizes → HaveRoom body_size sizes
 roomy sizes devices d = omega (arith, devices d)
 
 -- a live slot, from what reads of a clean device give
-live_read : (f : Flash) (index : ℕ) (body : List ℕ) → IsClean f → gate_place body_size index + 1 ≤ length f.content → body_place body_size index + length body ≤ length f.content
+live_read : (f : Flash) (index : ℕ) (body : List ℕ) → IsClean f → gate_offset body_size index + 1 ≤ length f.content → body_offset body_size index + length body ≤ length f.content
     → length body ≡ body_size → gate_in body_size index f.content ≡ open_gate → body_in body_size index f.content ≡ body → IsLive body_size index body f
 live_read f index body clean gate_fits body_fits long gate there =
     record {
-      gate = subst (λ (b : ℕ). Stably f (gate_place body_size index) (b ∷ [])) gate (stands_one f (gate_place body_size index) clean gate_fits);
-      body_stands = stands_clean f (body_place body_size index) body clean body_fits (ap (λ (n : ℕ). part f.content (body_place body_size index) n) long ∙ there);
+      gate = subst (λ (b : ℕ). Stably f (gate_offset body_size index) (b ∷ [])) gate (stands_one f (gate_offset body_size index) clean gate_fits);
+      body_stands = stands_clean f (body_offset body_size index) body clean body_fits (ap (λ (n : ℕ). part f.content (body_offset body_size index) n) long ∙ there);
     }
 
 module _ (load : Load) (s : State) (sizes : Sizes) (flashes : Flashes) (devices : AreDevices sizes) (sized : AreSized sizes flashes) (long : length (encode s) ≡ body_size) where

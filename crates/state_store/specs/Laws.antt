@@ -22,7 +22,7 @@ use Rattle.state_store.specs.Held.{AreLoaded, HeldByBoth, Hold, HoldNone, IsFore
 use Rattle.state_store.specs.Load.{IsSectionOf, load_of}
 use Rattle.state_store.specs.Played.{AreInOrder, AreInOrderTo, Survives, shows_in}
 use Rattle.state_store.specs.Rest.{AreAtRest, device_size}
-use Rattle.state_store.specs.Steps.{Step, commits_in}
+use Rattle.state_store.specs.Pieces.{Piece, commits_in}
 
 -- two flashes are loaded for one section at most
 abbrev pub LoadedOnce : Type 0
@@ -53,18 +53,18 @@ pub record IsPollOf (t : TablesData) (r : RollData) (section : Section) (states 
   pub one : Contains states state
   pub found : AreFound t r section state (clean_flashes left.internal left.external)
 
--- What a power cut leaves of a session is a poll in the state that the session found or in one of those that its steps tell.
+-- What a power cut leaves of a session is a poll in the state that the session found or in one of those that its pieces tell.
 abbrev pub SessionGoesOn : Type 0
 SessionGoesOn =
-    (t : TablesData) (r : RollData) (section : Section) (s : State) (steps : List Step) (start : Flashes) (left : Left) → AreWhole start
-    → AreFound t r section s start → Survives t (load_of t r section) s steps start left → IsPollOf t r section (s ∷ commits_in steps) left
+    (t : TablesData) (r : RollData) (section : Section) (s : State) (pieces : List Piece) (start : Flashes) (left : Left) → AreWhole start
+    → AreFound t r section s start → Survives t (load_of t r section) s pieces start left → IsPollOf t r section (s ∷ commits_in pieces) left
 
--- Steps that were put out in order cost at most 12 syncs for each state that they tell, and where they tell none they are shows
+-- Pieces that were put out in order cost at most 12 syncs for each state that they tell, and where they tell none they are shows
 -- alone, whether all of them were put out or a fault cut them off.
 abbrev pub CostsAreBounded : Type 0
 CostsAreBounded =
-    (steps : List Step) (ops : List Op) → AreInOrder steps ops ⊎ AreInOrderTo steps ops
-    → (count_syncs ops ≤ 12 * length (commits_in steps)) × (commits_in steps ≡ [] → ops ≡ shows_in ops)
+    (pieces : List Piece) (ops : List Op) → AreInOrder pieces ops ⊎ AreInOrderTo pieces ops
+    → (count_syncs ops ≤ 12 * length (commits_in pieces)) × (commits_in pieces ≡ [] → ops ≡ shows_in ops)
 
 -- What one leaves of a recovery is a poll in the state that the recovery found.
 abbrev pub RecoveryGoesOn : Type 0
@@ -96,12 +96,12 @@ RestIsFound =
     (t : TablesData) (r : RollData) (section : Section) (s : State) (flashes : Flashes) → IsTables t → IsRoll r → IsSectionOf t r section
     → IsStateOf t (length r.titles) s → AreAtRest (load_of t r section) s flashes → AreWhole flashes × AreFound t r section s flashes
 
--- A session that ended, with its steps put out or by a fault, leaves the flashes so too, where no power cut comes.
+-- A session that ended, with its pieces put out or by a fault, leaves the flashes so too, where no power cut comes.
 abbrev pub EndGoesOn : Type 0
 EndGoesOn =
-    (t : TablesData) (r : RollData) (section : Section) (s : State) (steps : List Step) (start : Flashes) (ops : List Op) → AreWhole start
-    → AreFound t r section s start → AtEachStop (after both_synced start) ops (Survives t (load_of t r section) s steps start)
-    → (u : State) × Contains (s ∷ commits_in steps) u × AreWhole (after ops (after both_synced start))
+    (t : TablesData) (r : RollData) (section : Section) (s : State) (pieces : List Piece) (start : Flashes) (ops : List Op) → AreWhole start
+    → AreFound t r section s start → AtEachStop (after both_synced start) ops (Survives t (load_of t r section) s pieces start)
+    → (u : State) × Contains (s ∷ commits_in pieces) u × AreWhole (after ops (after both_synced start))
     × AreFound t r section u (after ops (after both_synced start))
 
 -- Where the power stops a call before its second sync, it leaves what it might have left before the call, and nothing was shown.

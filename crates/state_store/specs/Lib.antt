@@ -6,6 +6,6 @@ pub mod Finding
 pub mod Store
 pub mod Calls
 pub mod Order
-pub mod Steps
+pub mod Pieces
 pub mod Played
 pub mod Laws

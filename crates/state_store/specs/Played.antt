@@ -1,4 +1,4 @@
--- Putting steps out over a store: each state is committed, and then its line is shown
+-- Putting pieces out over a store: each state is committed, and then its line is shown
 use Rattle.std.specs.Prelude.{◌≡◌, ◌⊎◌, ℕ, ◌+◌, ◌<◌, ◌≤◌, List, [], ◌∷◌, ◌++◌, Option, Some, None, Result, Ok, Err, length, slice_get, IsSome, Contains}
 use Rattle.std.specs.List.{AllByRecursion}
 use Rattle.std.specs.Option.{ForSome}
@@ -17,7 +17,7 @@ use Rattle.image_codec.specs.Layout.{body_size}
 use Rattle.state_store.specs.Calls.{KeepFrames, both_synced}
 use Rattle.state_store.specs.Held.{HeldAlone, HeldByBoth}
 use Rattle.state_store.specs.Rest.{AreAtRest}
-use Rattle.state_store.specs.Steps.{Step, commits_in, commits_reached, lines_in, state_after, text_in}
+use Rattle.state_store.specs.Pieces.{Piece, commits_in, commits_reached, lines_in, state_after, text_in}
 use Rattle.state_store.specs.declared.load.Load.{Load}
 
 -- the shows among some operations, in order
@@ -37,83 +37,83 @@ IsOfSession (Show bytes) = Unit {0}
 abbrev pub IsStateOrNext : List State → ℕ → (State → Type 0) → Type 0
 IsStateOrNext states c held = (u : State) × held u × ((slice_get states c ≡ Some u) ⊎ (slice_get states (c + 1) ≡ Some u))
 
--- What a power cut leaves while the steps are put out from a state. The shown text is a front of the whole. Where it reaches into c
+-- What a power cut leaves while the pieces are put out from a state. The shown text is a front of the whole. Where it reaches into c
 -- of the lines that tell a state, both flashes, and each alone, hold the state of number c, from the one at the start, or the next.
-pub record Follows (t : TablesData) (voters : ℕ) (s : State) (steps : List Step) (left : Left) : Type 0 where
+pub record Follows (t : TablesData) (voters : ℕ) (s : State) (pieces : List Piece) (left : Left) : Type 0 where
   pub rest : List ℕ
-  pub front : text_in steps ≡ left.shown ++ rest
-  pub both : IsStateOrNext (s ∷ commits_in steps) (commits_reached steps (length left.shown)) (HeldByBoth t voters left.internal left.external)
-  pub internal : IsStateOrNext (s ∷ commits_in steps) (commits_reached steps (length left.shown)) (HeldAlone t voters left.internal)
-  pub external : IsStateOrNext (s ∷ commits_in steps) (commits_reached steps (length left.shown)) (HeldAlone t voters left.external)
+  pub front : text_in pieces ≡ left.shown ++ rest
+  pub both : IsStateOrNext (s ∷ commits_in pieces) (commits_reached pieces (length left.shown)) (HeldByBoth t voters left.internal left.external)
+  pub internal : IsStateOrNext (s ∷ commits_in pieces) (commits_reached pieces (length left.shown)) (HeldAlone t voters left.internal)
+  pub external : IsStateOrNext (s ∷ commits_in pieces) (commits_reached pieces (length left.shown)) (HeldAlone t voters left.external)
 
--- what holds of the operations while the steps are put out, whole or up to a fault
-pub record Plays (t : TablesData) (load : Load) (s : State) (steps : List Step) (start : Option Flashes) (ops : List Op) : Type 0 where
+-- what holds of the operations while the pieces are put out, whole or up to a fault
+pub record Plays (t : TablesData) (load : Load) (s : State) (pieces : List Piece) (start : Option Flashes) (ops : List Op) : Type 0 where
   pub slots : AllByRecursion IsOfSession ops
-  pub stops : ForSome start (λ flashes. AtEachStop flashes ops (λ left. Follows t load.section.voters s steps left × KeepFrames flashes left))
+  pub stops : ForSome start (λ flashes. AtEachStop flashes ops (λ left. Follows t load.section.voters s pieces left × KeepFrames flashes left))
 
--- what a step does before its line: the commit of the state that it tells, with at most 12 syncs; where it tells none, nothing
-pub record IsCommitOf (step : Step) (ops : List Op) : Type 0 where
+-- what a piece does before its line: the commit of the state that it tells, with at most 12 syncs; where it tells none, nothing
+pub record IsCommitOf (piece : Piece) (ops : List Op) : Type 0 where
   pub silent : shows_in ops ≡ []
   pub syncs : count_syncs ops ≤ 12
-  pub none : step.commit ≡ None → ops ≡ []
+  pub none : piece.commit ≡ None → ops ≡ []
 
--- each line is one show, just behind the commit of its step
-abbrev pub AreInOrder : List Step → List Op → Type 0
+-- each line is one show, just behind the commit of its piece
+abbrev pub AreInOrder : List Piece → List Op → Type 0
 AreInOrder [] ops = ops ≡ []
-AreInOrder (step ∷ steps) ops =
-    (commit : List Op) × (rest : List Op) × IsCommitOf step commit × (ops ≡ commit ++ Show step.line ∷ rest) × AreInOrder steps rest
+AreInOrder (piece ∷ pieces) ops =
+    (commit : List Op) × (rest : List Op) × IsCommitOf piece commit × (ops ≡ commit ++ Show piece.line ∷ rest) × AreInOrder pieces rest
 
--- the same up to a fault in the commit of a step, or in its line
-abbrev pub AreInOrderTo : List Step → List Op → Type 0
+-- the same up to a fault in the commit of a piece, or in its line
+abbrev pub AreInOrderTo : List Piece → List Op → Type 0
 AreInOrderTo [] ops = ⊥
-AreInOrderTo (step ∷ steps) ops =
-    (commit : List Op) × (rest : List Op) × IsCommitOf step commit × (ops ≡ commit ++ rest)
-    × (IsTornShow step.line rest ⊎ ((more : List Op) × (rest ≡ Show step.line ∷ more) × AreInOrderTo steps more))
+AreInOrderTo (piece ∷ pieces) ops =
+    (commit : List Op) × (rest : List Op) × IsCommitOf piece commit × (ops ≡ commit ++ rest)
+    × (IsTornShow piece.line rest ⊎ ((more : List Op) × (rest ≡ Show piece.line ∷ more) × AreInOrderTo pieces more))
 
--- All steps were put out in order, and no call failed. Both flashes are at rest with the state after them.
-pub record HasPut (t : TablesData) (load : Load) (s : State) (steps : List Step) (old new : Told) : Type 0 where
+-- All pieces were put out in order, and no call failed. Both flashes are at rest with the state after them.
+pub record HasPut (t : TablesData) (load : Load) (s : State) (pieces : List Piece) (old new : Told) : Type 0 where
   pub ops : List Op
   pub does : Does ops old new
-  pub plays : Plays t load s steps old.flashes ops
-  pub shown : shows_in ops ≡ shows (lines_in steps)
-  pub order : AreInOrder steps ops
-  pub rest : ForSome new.flashes (AreAtRest load (state_after s steps))
+  pub plays : Plays t load s pieces old.flashes ops
+  pub shown : shows_in ops ≡ shows (lines_in pieces)
+  pub order : AreInOrder pieces ops
+  pub rest : ForSome new.flashes (AreAtRest load (state_after s pieces))
   pub fine : IsFaultless old new
 
 -- Where the call was cut off, by the port that failed: the display in one of the lines, or a flash in the commit before a line.
-abbrev pub IsCutAt : Port → List Step → List Op → Type 0
-IsCutAt port.Display steps shown = IsCutShort (lines_in steps) shown
-IsCutAt port.Internal steps shown =
-    (before : List Step) × (step : Step) × (behind : List Step) × (steps ≡ before ++ step ∷ behind) × IsSome step.commit × (shown ≡ shows (lines_in before))
-IsCutAt port.External steps shown =
-    (before : List Step) × (step : Step) × (behind : List Step) × (steps ≡ before ++ step ∷ behind) × IsSome step.commit × (shown ≡ shows (lines_in before))
+abbrev pub IsCutAt : Port → List Piece → List Op → Type 0
+IsCutAt port.Display pieces shown = IsCutShort (lines_in pieces) shown
+IsCutAt port.Internal pieces shown =
+    (before : List Piece) × (piece : Piece) × (behind : List Piece) × (pieces ≡ before ++ piece ∷ behind) × IsSome piece.commit × (shown ≡ shows (lines_in before))
+IsCutAt port.External pieces shown =
+    (before : List Piece) × (piece : Piece) × (behind : List Piece) × (pieces ≡ before ++ piece ∷ behind) × IsSome piece.commit × (shown ≡ shows (lines_in before))
 
--- A port failed while the steps were put out, and no call of the machine was made after it. Where it was the display, both flashes
+-- A port failed while the pieces were put out, and no call of the machine was made after it. Where it was the display, both flashes
 -- are at rest with one of the states.
-pub record HasStopped (t : TablesData) (load : Load) (s : State) (steps : List Step) (at : Port) (old new : Told) : Type 0 where
+pub record HasStopped (t : TablesData) (load : Load) (s : State) (pieces : List Piece) (at : Port) (old new : Told) : Type 0 where
   pub ops : List Op
   pub does : Does ops old new
-  pub plays : Plays t load s steps old.flashes ops
-  pub cut : IsCutAt at steps (shows_in ops)
-  pub order : AreInOrderTo steps ops
-  pub rest : at ≡ port.Display → (u : State) × Contains (s ∷ commits_in steps) u × ForSome new.flashes (AreAtRest load u)
+  pub plays : Plays t load s pieces old.flashes ops
+  pub cut : IsCutAt at pieces (shows_in ops)
+  pub order : AreInOrderTo pieces ops
+  pub rest : at ≡ port.Display → (u : State) × Contains (s ∷ commits_in pieces) u × ForSome new.flashes (AreAtRest load u)
   pub fault : EndsAt at old new
 
--- A call puts these steps out: all of them where it is Ok, and up to a fault of the port that it answers where it isn't.
-abbrev pub Puts : {T E : Type 0} → (E → Port) → Result T E → TablesData → Load → State → List Step → Told → Told → Type 0
-Puts port_in (Ok x) t load s steps old new = HasPut t load s steps old new
-Puts port_in (Err e) t load s steps old new = HasStopped t load s steps (port_in e) old new
+-- A call puts these pieces out: all of them where it is Ok, and up to a fault of the port that it answers where it isn't.
+abbrev pub Puts : {T E : Type 0} → (E → Port) → Result T E → TablesData → Load → State → List Piece → Told → Told → Type 0
+Puts port_in (Ok x) t load s pieces old new = HasPut t load s pieces old new
+Puts port_in (Err e) t load s pieces old new = HasStopped t load s pieces (port_in e) old new
 
--- What a power cut leaves of a call that puts the steps out from the state that it found: before the first byte both flashes
+-- What a power cut leaves of a call that puts the pieces out from the state that it found: before the first byte both flashes
 -- together hold that state, and from it on they follow the text. The frames stay.
-abbrev pub Survives : TablesData → Load → State → List Step → Flashes → Left → Type 0
-Survives t load s steps start left =
+abbrev pub Survives : TablesData → Load → State → List Piece → Flashes → Left → Type 0
+Survives t load s pieces start left =
     (left.shown ≡ [] → HeldByBoth t load.section.voters left.internal left.external s)
-    × (0 < length left.shown → Follows t load.section.voters s steps left)
+    × (0 < length left.shown → Follows t load.section.voters s pieces left)
     × KeepFrames start left
 
 -- A call synced both flashes, and at each stop behind that it leaves so much, wherever the power went.
-abbrev pub IsSafe : TablesData → Load → State → List Step → Told → Told → Type 0
-IsSafe t load s steps old new =
+abbrev pub IsSafe : TablesData → Load → State → List Piece → Told → Told → Type 0
+IsSafe t load s pieces old new =
     Runs (λ ops. (rest : List Op) × (ops ≡ both_synced ++ rest)
-    × ForSome old.flashes (λ start. AtEachStop (after both_synced start) rest (Survives t load s steps start))) old new
+    × ForSome old.flashes (λ start. AtEachStop (after both_synced start) rest (Survives t load s pieces start))) old new

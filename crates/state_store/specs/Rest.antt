@@ -4,7 +4,7 @@ use Rattle.urna_outside.specs.Flash.{Flashes, flash_of, IsClean}
 use Rattle.urna_outside.specs.declared.device.Dev.{Dev}
 use Rattle.gate_slot.specs.Slot.{open_gate, room, gate_in, body_in}
 use Rattle.twin_image.specs.Frame.{device_image}
-use Rattle.image_codec.specs.Layout.{body_size, phase_place}
+use Rattle.image_codec.specs.Layout.{body_size, phase_offset}
 use Rattle.image_codec.specs.State.{State}
 use Rattle.image_codec.specs.Encoding.{encode}
 use Rattle.state_store.specs.Load.{header, magic}
@@ -27,7 +27,7 @@ pub record AreAtRest (load : Load) (s : State) (flashes : Flashes) : Type 0 wher
 abbrev pub IsUsed : ℕ → List ℕ → Type 0
 IsUsed index content =
     (gate_in body_size index content ≡ open_gate)
-    × ((slice_index (body_in body_size index content) phase_place ≡ 1) ⊎ (slice_index (body_in body_size index content) phase_place ≡ 2))
+    × ((slice_index (body_in body_size index content) phase_offset ≡ 1) ⊎ (slice_index (body_in body_size index content) phase_offset ≡ 2))
 
 -- a device in use: it begins with the magic, and one of its slots is used
 pub record IsInUse (content : List ℕ) : Type 0 where

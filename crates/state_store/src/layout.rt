@@ -1,7 +1,7 @@
 //! Where the parts of a device stand (docs/FORMATS.md, "Flash layout").
 
 use gate_slot::{FRONT_SIZE, HEADER_SIZE};
-use image_codec::{BODY_SIZE, PHASE_PLACE};
+use image_codec::{BODY_SIZE, PHASE_OFFSET};
 
 /// The bytes of a device: those of its header and of two slots.
 pub const DEVICE_SIZE: u32 = 132_608;
@@ -17,4 +17,4 @@ pub(crate) const FIRST_PADDING: u32 = FIRST_GATE + 1;
 pub(crate) const SECOND_PADDING: u32 = FIRST_PADDING + SLOT_SIZE;
 
 /// How far behind a gate the phase byte of its slot's body stands.
-pub(crate) const PHASE: u32 = (FRONT_SIZE + PHASE_PLACE) as u32;
+pub(crate) const PHASE: u32 = (FRONT_SIZE + PHASE_OFFSET) as u32;

@@ -27,7 +27,7 @@ use Rattle.clerk_term.specs.declared.replies.Mode.TheVariants as mode
 use Rattle.poll_report.specs.Counts.{candidate_line, candidate_lines, count_lines, kind_lines, lines_of_panels, panel_lines, party_line, total_lines, votes_line}
 use Rattle.image_codec.specs.CodecLaws.{Ballot}
 use Rattle.image_codec.specs.State.{State, MayVote, filled_up, with_ballot}
-use Rattle.state_store.specs.Steps.{commits_in, lines_in, quiet, state_after, text_in}
+use Rattle.state_store.specs.Pieces.{commits_in, lines_in, quiet, state_after, text_in}
 use Rattle.state_store.proofs.Counting.{commits_in-append, commits_in-quiet}
 use Rattle.station.specs.Acts.{last_state}
 use Rattle.station.specs.Output.{Output, Says, Commits, Reports, commits_of, refusal, echo, screen}
@@ -35,7 +35,7 @@ use Rattle.station.specs.Press.{idle_at}
 use Rattle.station.specs.Run.{wait_outputs, line_outputs, Votes, start, voted, IsOpen, open_at, IsRun, ends, ignores, refuses, opens, seals, waits, cancels, visits, cut_off, Visit, whole, suspended, after_suspension, suspension}
 use Rattle.station.specs.Setting.{Setting, reply_at, setting_of}
 use Rattle.station.specs.Start.{opening}
-use Rattle.station.specs.Text.{line_text, output_steps, session_steps, title_text}
+use Rattle.station.specs.Text.{line_text, output_pieces, session_pieces, title_text}
 use Rattle.station.specs.Valid.{IsAnswer}
 use Rattle.station.specs.declared.line.Line.{Line}
 use Rattle.station.specs.declared.line.Line.TheVariants as line
@@ -48,7 +48,7 @@ use Rattle.image_codec.specs.Also.{HasAlso}
 use Rattle.image_codec.proofs.Growing.{also_in_phase, also_more, also_none, in_phase}
 use Rattle.station.specs.Cast.{ballot_of, ballots_of, fim, fims_reached, suspended_ballot}
 use Rattle.station.proofs.Fims.{AreShownIn, IsOther, fims_in, fims_more, fims_other, fims_quiet, fims_whole, shown_nothing, shown_quiet, shown_telling}
-use Rattle.station.proofs.Steps.{full_steps}
+use Rattle.station.proofs.Pieces.{full_pieces}
 
 -- ---- what a run puts out, as ballots
 
@@ -265,27 +265,27 @@ counts_other t bags = panels_other t bags 0 t.panels
 -- ---- what the states of a session have beside the first
 
 shown_output : (v : Setting) (s : State) (ballots : List Ballot) (t : TablesData) (o : Output) (out : List Output) → IsQuiet o
-    → ((m : ℕ) → AreShownIn v.lines s ballots (session_steps t out) m) → (m : ℕ) → AreShownIn v.lines s ballots (output_steps t o ++ session_steps t out) m
-shown_output v s ballots t (Says l) out quiet h = shown_quiet v.lines s ballots (line_text t l ∷ []) (session_steps t out) (line_other t l quiet, tt) h
+    → ((m : ℕ) → AreShownIn v.lines s ballots (session_pieces t out) m) → (m : ℕ) → AreShownIn v.lines s ballots (output_pieces t o ++ session_pieces t out) m
+shown_output v s ballots t (Says l) out quiet h = shown_quiet v.lines s ballots (line_text t l ∷ []) (session_pieces t out) (line_other t l quiet, tt) h
 shown_output v s ballots t (Commits u l) out quiet h = absurd quiet
 shown_output v s ballots t (Reports title u) out quiet h =
-    shown_quiet v.lines s ballots (title_text title ∷ count_lines t u.bags) (session_steps t out) (title_other title, counts_other t u.bags) h
+    shown_quiet v.lines s ballots (title_text title ∷ count_lines t u.bags) (session_pieces t out) (title_other title, counts_other t u.bags) h
 
 casts_shown : {v : Setting} {s u : State} {out : List Output} {ballots : List Ballot} (t : TablesData) → Casts v s out ballots u
-    → (m : ℕ) → AreShownIn v.lines s ballots (session_steps t out) m
+    → (m : ℕ) → AreShownIn v.lines s ballots (session_pieces t out) m
 casts_shown {v} {s} t nothing zero = shown_nothing v.lines s
 casts_shown {v} {s} t nothing (suc m) = shown_nothing v.lines s
 casts_shown {v} {s} {ballots} t (shows {out} o quiet h) m = shown_output v s ballots t o out quiet (casts_shown t h) m
 casts_shown {v} {s} {ballots} t (turns {out} p l none h) m =
     let counted : cond {A = ℕ} (bytes_eq fim (line_text t l)) 1 0 ≡ 0 = ap (λ (b : Bool). cond {A = ℕ} b 1 0) (line_other t l none) in
-    shown_telling v.lines s (in_phase s p) ballots ballots 0 (line_text t l) (session_steps t out) (omega arith) counted (omega arith)
+    shown_telling v.lines s (in_phase s p) ballots ballots 0 (line_text t l) (session_pieces t out) (omega arith) counted (omega arith)
     (λ k u also.
     let same : k ≡ 0 + k = omega arith in
     subst (λ (j : ℕ). HasAlso v.lines s (take j ballots) u) same (also_in_phase v.lines s u p (take k ballots) also))
     (casts_shown t h) m
 casts_shown {v} {s} t (casts {out} {ballots} place choices may h) m =
     let all : List Ballot = record { place = place; choices = choices } ∷ ballots in
-    shown_telling v.lines s (with_ballot v.lines s place choices) ballots all 1 (line_text t line.Ended) (session_steps t out) (omega arith) refl (omega arith)
+    shown_telling v.lines s (with_ballot v.lines s place choices) ballots all 1 (line_text t line.Ended) (session_pieces t out) (omega arith) refl (omega arith)
     (λ k u also.
     let same : suc k ≡ 1 + k = omega arith in
     subst (λ (j : ℕ). HasAlso v.lines s (take j all) u) same (also_more v.lines s u place choices (take k ballots) may also))
@@ -293,7 +293,7 @@ casts_shown {v} {s} t (casts {out} {ballots} place choices may h) m =
 
 -- Of a session that opens at s, the states behind its first m lines have the ballots whose FIM is among them, or one more.
 pub run_shown : {s u : State} {es : List Event} {out : List Output} (t : TablesData) (titles : List ℕ) → length s.came ≡ length titles
-    → (run : IsRun (setting_of t titles) s es u out) (m : ℕ) → AreShownIn (ballot_lines t) s (ballots_of run) (opening t s ++ session_steps t out) m
+    → (run : IsRun (setting_of t titles) s es u out) (m : ℕ) → AreShownIn (ballot_lines t) s (ballots_of run) (opening t s ++ session_pieces t out) m
 run_shown {s} t titles r run = casts_shown t (shows (Says (line.Poll s.phase (number_came s.came))) tt (run_casts r run))
 
 -- ---- the state in the end
@@ -312,41 +312,41 @@ casts_all (shows o quiet h) = casts_all h
 casts_all {v} {s} {t} (turns {ballots} p l none h) = also_in_phase v.lines s t p ballots (casts_all h)
 casts_all {v} {s} {t} (casts {ballots} place choices may h) = also_more v.lines s t place choices ballots may (casts_all h)
 
--- The state that a run leads to has all its ballots, and it is the state after its steps.
+-- The state that a run leads to has all its ballots, and it is the state after its pieces.
 pub run_counts : {s u : State} {es : List Event} {out : List Output} (t : TablesData) (titles : List ℕ) → length s.came ≡ length titles
     → (run : IsRun (setting_of t titles) s es u out) → HasAlso (ballot_lines t) s (ballots_of run) u
 run_counts t titles r run = casts_all (run_casts r run)
 
 pub run_last : {s u : State} {es : List Event} {out : List Output} (t : TablesData) (titles : List ℕ) → length s.came ≡ length titles
-    → IsRun (setting_of t titles) s es u out → state_after s (session_steps t out) ≡ u
+    → IsRun (setting_of t titles) s es u out → state_after s (session_pieces t out) ≡ u
 run_last {s} {out} t titles r run = state_after_outputs t s out ∙ casts_last (run_casts r run)
 
--- the states that its steps commit are those that the outputs commit
-pub steps_commit : (t : TablesData) (out : List Output) → commits_in (session_steps t out) ≡ commits_of out
-steps_commit t [] = refl
-steps_commit t (Says l ∷ out) = steps_commit t out
-steps_commit t (Commits s l ∷ out) = ap (λ (states : List State). s ∷ states) (steps_commit t out)
-steps_commit t (Reports title s ∷ out) =
+-- the states that its pieces commit are those that the outputs commit
+pub pieces_commit : (t : TablesData) (out : List Output) → commits_in (session_pieces t out) ≡ commits_of out
+pieces_commit t [] = refl
+pieces_commit t (Says l ∷ out) = pieces_commit t out
+pieces_commit t (Commits s l ∷ out) = ap (λ (states : List State). s ∷ states) (pieces_commit t out)
+pieces_commit t (Reports title s ∷ out) =
     let lines = title_text title ∷ count_lines t s.bags in
-    commits_in-append (quiet lines) (session_steps t out) ∙ ap (λ (states : List State). states ++ commits_in (session_steps t out)) (commits_in-quiet lines) ∙ steps_commit t out
+    commits_in-append (quiet lines) (session_pieces t out) ∙ ap (λ (states : List State). states ++ commits_in (session_pieces t out)) (commits_in-quiet lines) ∙ pieces_commit t out
 
 -- ---- the FIM lines of a session
 
 casts_fims : {v : Setting} {s u : State} {out : List Output} {ballots : List Ballot} (t : TablesData) → Casts v s out ballots u
-    → fims_in (lines_in (session_steps t out)) ≡ length ballots
+    → fims_in (lines_in (session_pieces t out)) ≡ length ballots
 casts_fims t nothing = refl
-casts_fims t (shows {out} (Says l) quiet h) = fims_other (line_text t l) (lines_in (session_steps t out)) (line_other t l quiet) ∙ casts_fims t h
+casts_fims t (shows {out} (Says l) quiet h) = fims_other (line_text t l) (lines_in (session_pieces t out)) (line_other t l quiet) ∙ casts_fims t h
 casts_fims t (shows (Commits u l) quiet h) = absurd quiet
 casts_fims t (shows {out} (Reports title u) quiet h) =
-    fims_quiet (title_text title ∷ count_lines t u.bags) (session_steps t out) (title_other title, counts_other t u.bags) ∙ casts_fims t h
-casts_fims t (turns {out} p l none h) = fims_other (line_text t l) (lines_in (session_steps t out)) (line_other t l none) ∙ casts_fims t h
+    fims_quiet (title_text title ∷ count_lines t u.bags) (session_pieces t out) (title_other title, counts_other t u.bags) ∙ casts_fims t h
+casts_fims t (turns {out} p l none h) = fims_other (line_text t l) (lines_in (session_pieces t out)) (line_other t l none) ∙ casts_fims t h
 casts_fims t (casts {out} place choices may h) =
-    let one = fims_more (line_text t line.Ended) (lines_in (session_steps t out)) in
+    let one = fims_more (line_text t line.Ended) (lines_in (session_pieces t out)) in
     let rest = casts_fims t h in
     omega (arith, one, rest)
 
 -- there are as many as ballots
 pub run_fims : {s u : State} {es : List Event} {out : List Output} (t : TablesData) (titles : List ℕ) → length s.came ≡ length titles
     → (run : IsRun (setting_of t titles) s es u out)
-    → fims_reached (lines_in (session_steps t out)) (length (text_in (session_steps t out))) ≡ length (ballots_of run)
-run_fims {out} t titles r run = fims_whole (session_steps t out) (full_steps t out) ∙ casts_fims t (run_casts r run)
+    → fims_reached (lines_in (session_pieces t out)) (length (text_in (session_pieces t out))) ≡ length (ballots_of run)
+run_fims {out} t titles r run = fims_whole (session_pieces t out) (full_pieces t out) ∙ casts_fims t (run_casts r run)

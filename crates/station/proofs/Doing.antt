@@ -6,7 +6,7 @@ use Rattle.election_tables.specs.TablesData.{TablesData}
 use Rattle.image_codec.specs.Encoding.{IsStateOf}
 use Rattle.image_codec.specs.State.{State}
 use Rattle.state_store.specs.Played.{HasPut}
-use Rattle.state_store.specs.Steps.{Step, state_after}
+use Rattle.state_store.specs.Pieces.{Piece, state_after}
 use Rattle.state_store.specs.Store.{AreDevices, IsLoadedWith, Keeps, StoreData}
 use Rattle.state_store.specs.declared.load.Load.{Load}
 use Rattle.state_store.proofs.Counting.{state_after-append, state_after-quiet}
@@ -14,13 +14,13 @@ use Rattle.state_store.proofs.Playing.{put_nothing, put_to}
 use Rattle.state_store.proofs.Stored.{stored}
 use Rattle.station.specs.Acts.{output_of, outputs_of}
 use Rattle.station.specs.Doing.{AreDoable, MayDoAll}
-use Rattle.station.specs.Text.{output_steps, session_steps}
+use Rattle.station.specs.Text.{output_pieces, session_pieces}
 use Rattle.station.specs.declared.perform.Act.{Act}
 use Rattle.key_script.specs.Event.{IsEvent}
 use Rattle.key_script.specs.declared.keys.Event.{Event}
 use Rattle.poll_report.specs.Counts.{count_lines}
 use Rattle.std.specs.List.{AllByRecursion}
-use Rattle.state_store.specs.Steps.{quiet}
+use Rattle.state_store.specs.Pieces.{quiet}
 use Rattle.station.specs.Acts.{IsAct, act_of, last_state}
 use Rattle.station.specs.Output.{Output, Says, Commits, Reports}
 use Rattle.station.specs.Press.{Pressed, Standing, press}
@@ -32,7 +32,7 @@ use Rattle.station.proofs.Faithful.{press_faithful}
 use Rattle.station.proofs.Leading.{Leads, press_leads}
 use Rattle.station.proofs.Performing.{press_acts, tables_panels, tables_setting}
 use Rattle.station.proofs.Stepping.{press_stands}
-use Rattle.station.proofs.Steps.{acts_more, full_steps, kept_by_act}
+use Rattle.station.proofs.Pieces.{acts_more, full_pieces, kept_by_act}
 
 -- The first acts are done over a state, from what the store kept first, and the rest may be.
 pub record ActsDone (t : TablesData) (r : RollData) (u : State) (first now : StoreData) (done rest : List Act) (old new : Told) : Type 0 where
@@ -40,8 +40,8 @@ pub record ActsDone (t : TablesData) (r : RollData) (u : State) (first now : Sto
   pub loaded : IsLoadedWith t r now.load
   pub state : IsStateOf t now.load.section.voters u
   pub devices : AreDevices new.sizes
-  pub kept : (s : State) → Keeps t old first s → Keeps t new now (state_after s (session_steps t (outputs_of u done)))
-  pub put : (s : State) → Keeps t old first s → HasPut t first.load s (session_steps t (outputs_of u done)) old new
+  pub kept : (s : State) → Keeps t old first s → Keeps t new now (state_after s (session_pieces t (outputs_of u done)))
+  pub put : (s : State) → Keeps t old first s → HasPut t first.load s (session_pieces t (outputs_of u done)) old new
   pub may : AreDoable t new now u rest
 
 -- before the first act
@@ -61,8 +61,8 @@ acts_begin t r u first acts a loaded state devices may =
 -- an act more
 pub acts_go_on : (t : TablesData) (r : RollData) (u : State) (first now next : StoreData) (acts : List Act) (i : ℕ) (d : Act) (a b c : Told) → i < length acts
     → ActsDone t r u first now (take i acts) (drop i acts) a b → next.load ≡ now.load
-    → ((s : State) → Keeps t b now s → Keeps t c next (state_after s (output_steps t (output_of u (get_or acts i d)))))
-    → ((s : State) → Keeps t b now s → HasPut t now.load s (output_steps t (output_of u (get_or acts i d))) b c)
+    → ((s : State) → Keeps t b now s → Keeps t c next (state_after s (output_pieces t (output_of u (get_or acts i d)))))
+    → ((s : State) → Keeps t b now s → HasPut t now.load s (output_pieces t (output_of u (get_or acts i d))) b c)
     → ActsDone t r u first next (take (i + 1) acts) (drop (i + 1) acts) a c
 acts_go_on t r u first now next acts i d a b c below h same kept put =
     record {
@@ -72,11 +72,11 @@ acts_go_on t r u first now next acts i d a b c below h same kept put =
       devices = subst AreDevices (sym (put h.may.state h.may.kept).does.sizes) h.devices;
       kept = λ s before. subst (λ (x : State). Keeps t c next x) (sym (after s)) (kept (state_after s front) (h.kept s before));
       put = λ s before.
-          put_to t first.load s front step all a b c (acts_more t u acts i d below) (full_steps t (outputs_of u (take i acts))) (h.put s before)
-          (subst (λ (l : Load). HasPut t l (state_after s front) step b c) h.load (put (state_after s front) (h.kept s before)));
+          put_to t first.load s front piece all a b c (acts_more t u acts i d below) (full_pieces t (outputs_of u (take i acts))) (h.put s before)
+          (subst (λ (l : Load). HasPut t l (state_after s front) piece b c) h.load (put (state_after s front) (h.kept s before)));
       may =
           record {
-            state = state_after h.may.state step;
+            state = state_after h.may.state piece;
             kept = kept h.may.state h.may.kept;
             may = subst (λ (x : State). MayDoAll x u (drop (i + 1) acts)) (sym (kept_by_act t h.may.state u (get_or acts i d))) now_may.1;
           };
@@ -88,28 +88,28 @@ acts_go_on t r u first now next acts i d a b c below h same kept put =
     now_may : MayDoAll h.may.state u (get_or acts i d ∷ drop (i + 1) acts)
     now_may = subst (MayDoAll h.may.state u) split h.may.may
 
-    front : List Step
-    front = session_steps t (outputs_of u (take i acts))
+    front : List Piece
+    front = session_pieces t (outputs_of u (take i acts))
 
-    step : List Step
-    step = output_steps t (output_of u (get_or acts i d))
+    piece : List Piece
+    piece = output_pieces t (output_of u (get_or acts i d))
 
-    all : List Step
-    all = session_steps t (outputs_of u (take (i + 1) acts))
+    all : List Piece
+    all = session_pieces t (outputs_of u (take (i + 1) acts))
 
-    after : (s : State) → state_after s all ≡ state_after (state_after s front) step
-    after s = ap (state_after s) (acts_more t u acts i d below) ∙ state_after-append s front step
+    after : (s : State) → state_after s all ≡ state_after (state_after s front) piece
+    after s = ap (state_after s) (acts_more t u acts i d below) ∙ state_after-append s front piece
 
 -- An event at a station
 
--- the state after the steps of some outputs
-pub state_after_outputs : (t : TablesData) (s : State) (out : List Output) → state_after s (session_steps t out) ≡ last_state s out
+-- the state after the pieces of some outputs
+pub state_after_outputs : (t : TablesData) (s : State) (out : List Output) → state_after s (session_pieces t out) ≡ last_state s out
 state_after_outputs t s [] = refl
 state_after_outputs t s (Says l ∷ out) = state_after_outputs t s out
 state_after_outputs t s (Commits u l ∷ out) = state_after_outputs t u out
 state_after_outputs t s (Reports title u ∷ out) =
-    state_after-append s (quiet (title_text title ∷ count_lines t u.bags)) (session_steps t out)
-    ∙ ap (λ (x : State). state_after x (session_steps t out)) (state_after-quiet s (title_text title ∷ count_lines t u.bags)) ∙ state_after_outputs t s out
+    state_after-append s (quiet (title_text title ∷ count_lines t u.bags)) (session_pieces t out)
+    ∙ ap (λ (x : State). state_after x (session_pieces t out)) (state_after-quiet s (title_text title ∷ count_lines t u.bags)) ∙ state_after_outputs t s out
 
 module _ (t : TablesData) (r : RollData) (told : Told) (x : StationData) (e : Event) (valid : IsEvent e) (is : IsStationed t r told x) where
   abbrev pressed : Pressed
@@ -132,10 +132,10 @@ module _ (t : TablesData) (r : RollData) (told : Told) (x : StationData) (e : Ev
   pub event_doable : AreDoable t told x.store pressed.standing.state (map act_of pressed.out)
   event_doable = record { state = x.standing.state; kept = is.kept; may = leads.may }
 
-  pub event_steps : session_steps t (outputs_of pressed.standing.state (map act_of pressed.out)) ≡ session_steps t pressed.out
-  event_steps = ap (session_steps t) (press_faithful (setting_of t r.titles) x.standing e).acts
+  pub event_pieces : session_pieces t (outputs_of pressed.standing.state (map act_of pressed.out)) ≡ session_pieces t pressed.out
+  event_pieces = ap (session_pieces t) (press_faithful (setting_of t r.titles) x.standing e).acts
 
-  pub event_after : state_after x.standing.state (session_steps t pressed.out) ≡ pressed.standing.state
+  pub event_after : state_after x.standing.state (session_pieces t pressed.out) ≡ pressed.standing.state
   event_after = state_after_outputs t x.standing.state pressed.out ∙ (press_faithful (setting_of t r.titles) x.standing e).last
 
   -- the station that stands after it
@@ -175,16 +175,16 @@ module _ (t : TablesData) (r : RollData) (told : Told) (from : StationData) (e :
       (subst (λ (y : StoreData). AreDoable t told y x.standing.state (map act_of asked.out)) (sym is.store)
       (subst (λ (y : Standing). AreDoable t told from.store y.state (map act_of asked.out)) (sym is.standing) (event_doable t r told from e is.valid is.before)))
 
-  pub asked_steps : session_steps t (outputs_of x.standing.state acts) ≡ session_steps t asked.out
-  asked_steps =
-      ap (λ (y : Standing). session_steps t (outputs_of y.state acts)) is.standing ∙ ap (λ (l : List Act). session_steps t (outputs_of asked.standing.state l)) is.asks
-      ∙ event_steps t r told from e is.valid is.before
+  pub asked_pieces : session_pieces t (outputs_of x.standing.state acts) ≡ session_pieces t asked.out
+  asked_pieces =
+      ap (λ (y : Standing). session_pieces t (outputs_of y.state acts)) is.standing ∙ ap (λ (l : List Act). session_pieces t (outputs_of asked.standing.state l)) is.asks
+      ∙ event_pieces t r told from e is.valid is.before
 
   -- the acts were done
-  pub asked_stationed : (new : Told) (store : StoreData) → store.load ≡ x.store.load → Keeps t new store (state_after from.standing.state (session_steps t (outputs_of x.standing.state acts)))
+  pub asked_stationed : (new : Told) (store : StoreData) → store.load ≡ x.store.load → Keeps t new store (state_after from.standing.state (session_pieces t (outputs_of x.standing.state acts)))
       → IsStationed t r new (record { standing = x.standing; digits = x.digits; store = store })
   asked_stationed new store load kept =
-      let after = ap (state_after from.standing.state) asked_steps ∙ event_after t r told from e is.valid is.before in
+      let after = ap (state_after from.standing.state) asked_pieces ∙ event_after t r told from e is.valid is.before in
       subst (λ (y : Standing). IsStationed t r new (record { standing = y; digits = x.digits; store = store })) (sym is.standing)
       (event_stationed t r told from e is.valid is.before new store x.digits (subst (λ (y : Standing). FitsLine (setting_of t r.titles) y x.digits) is.standing is.panel)
       (load ∙ ap (λ (y : StoreData). y.load) is.store) (subst (Keeps t new store) after kept))
@@ -194,7 +194,7 @@ module _ (t : TablesData) (r : RollData) (told : Told) (from : StationData) (e :
   pub nothing_stationed : IsStationed t r told x
   nothing_stationed = asked_stationed t r told from e x [] is told x.store refl (asked_kept t r told from e x [] is)
 
-  pub nothing_put : HasPut t from.store.load from.standing.state (session_steps t (press (setting_of t r.titles) from.standing e).out) told told
+  pub nothing_put : HasPut t from.store.load from.standing.state (session_pieces t (press (setting_of t r.titles) from.standing e).out) told told
   nothing_put =
-      subst (λ (l : List Step). HasPut t from.store.load from.standing.state l told told) (asked_steps t r told from e x [] is)
+      subst (λ (l : List Piece). HasPut t from.store.load from.standing.state l told told) (asked_pieces t r told from e x [] is)
       (put_nothing t from.store.load from.standing.state told (stored t r from.store.load from.standing.state is.before.load is.before.kept.encoding.state) is.before.kept.rest)

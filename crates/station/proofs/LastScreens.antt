@@ -55,15 +55,15 @@ until_stops : (a b : List Line) (c : Line) → is_call c ≡ true → screens_un
 until_stops [] b c h = rw h refl
 until_stops (l ∷ a) b c h = ap (λ (x : List Line). cond (is_call l) [] (cond (is_screen l) (l ∷ x) x)) (until_stops a b c h)
 
-by_step : (p : Bool) (u w : List Line) (x y z : List (List Line)) → u ≡ w → x ≡ y ++ z → cond p (u ∷ x) x ≡ cond p (w ∷ y) y ++ z
-by_step true u w x y z e h = ap (λ (l : List Line). l ∷ x) e ∙ ap (λ (l : List (List Line)). w ∷ l) h
-by_step false u w x y z e h = h
+by_piece : (p : Bool) (u w : List Line) (x y z : List (List Line)) → u ≡ w → x ≡ y ++ z → cond p (u ∷ x) x ≡ cond p (w ∷ y) y ++ z
+by_piece true u w x y z e h = ap (λ (l : List Line). l ∷ x) e ∙ ap (λ (l : List (List Line)). w ∷ l) h
+by_piece false u w x y z e h = h
 
 -- a call begins the screens of the next line
 by_called : (a b : List Line) (c : Line) → is_call c ≡ true → screens_by_call (a ++ c ∷ b) ≡ screens_by_call a ++ screens_until_call b ∷ screens_by_call b
 by_called [] b c h = rw h refl
 by_called (l ∷ a) b c h =
-    by_step (is_call l) (screens_until_call (a ++ c ∷ b)) (screens_until_call a) (screens_by_call (a ++ c ∷ b)) (screens_by_call a) (screens_until_call b ∷ screens_by_call b)
+    by_piece (is_call l) (screens_until_call (a ++ c ∷ b)) (screens_until_call a) (screens_by_call (a ++ c ∷ b)) (screens_by_call a) (screens_until_call b ∷ screens_by_call b)
     (until_stops a b c h) (by_called a b c h)
 
 until_more : (a : List Line) (c : Line) → is_call c ≡ false → is_screen c ≡ false → screens_until_call (a ++ c ∷ []) ≡ screens_until_call a

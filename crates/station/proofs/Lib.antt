@@ -12,7 +12,7 @@ pub mod Typing
 pub mod Performing
 pub mod Reaching
 pub mod Leading
-pub mod Steps
+pub mod Pieces
 pub mod Doing
 pub mod Starting
 pub mod Fims

@@ -11,13 +11,13 @@ use Rattle.clerk_term.specs.declared.replies.Mode.{Mode}
 use Rattle.clerk_term.specs.declared.replies.Mode.TheVariants as mode
 use Rattle.image_codec.specs.State.{State}
 use Rattle.station.specs.Setting.{Setting, IsSetting}
-use Rattle.state_store.specs.Steps.{Step, state_after}
+use Rattle.state_store.specs.Pieces.{Piece, state_after}
 use Rattle.station.specs.Acts.{last_state}
 use Rattle.station.specs.Output.{Output, Says, Commits, Reports}
 use Rattle.station.specs.Run.{IsRun, ends}
 use Rattle.station.specs.Press.{Standing, press, after, outputs, idle_at}
 use Rattle.station.specs.Stands.{StandsFor, IsReached, idle}
-use Rattle.station.specs.Text.{output_steps, session_steps}
+use Rattle.station.specs.Text.{output_pieces, session_pieces}
 use Rattle.station.specs.Valid.{IsStanding, IsPlaced}
 use Rattle.station.proofs.Doing.{state_after_outputs}
 use Rattle.station.proofs.Faithful.{press_faithful}
@@ -106,25 +106,25 @@ pub after_one : (v : Setting) (x : Standing) (es : List Event) (e : Event) → a
 after_one v x [] e = refl
 after_one v x (d ∷ es) e = after_one v (press v x d).standing es e
 
-steps_of_more : (t : TablesData) (v : Setting) (x : Standing) (es more : List Event)
-    → session_steps t (outputs v x (es ++ more)) ≡ session_steps t (outputs v x es) ++ session_steps t (outputs v (after v x es) more)
-steps_of_more t v x es more = ap (session_steps t) (outputs-append v x es more) ∙ flat_map-append (output_steps t) (outputs v x es) (outputs v (after v x es) more)
+pieces_of_more : (t : TablesData) (v : Setting) (x : Standing) (es more : List Event)
+    → session_pieces t (outputs v x (es ++ more)) ≡ session_pieces t (outputs v x es) ++ session_pieces t (outputs v (after v x es) more)
+pieces_of_more t v x es more = ap (session_pieces t) (outputs-append v x es more) ∙ flat_map-append (output_pieces t) (outputs v x es) (outputs v (after v x es) more)
 
-pub steps_one : (t : TablesData) (v : Setting) (x y : Standing) (es : List Event) (e : Event) → y ≡ after v x es
-    → session_steps t (outputs v x (es ++ e ∷ [])) ≡ session_steps t (outputs v x es) ++ session_steps t (press v y e).out
-steps_one t v x y es e at =
-    steps_of_more t v x es (e ∷ [])
-    ∙ (ap (λ (o : List Output). session_steps t (outputs v x es) ++ session_steps t o) (append-nil (press v (after v x es) e).out)
-    ∙ ap (λ (z : Standing). session_steps t (outputs v x es) ++ session_steps t (press v z e).out) (sym at))
+pub pieces_one : (t : TablesData) (v : Setting) (x y : Standing) (es : List Event) (e : Event) → y ≡ after v x es
+    → session_pieces t (outputs v x (es ++ e ∷ [])) ≡ session_pieces t (outputs v x es) ++ session_pieces t (press v y e).out
+pieces_one t v x y es e at =
+    pieces_of_more t v x es (e ∷ [])
+    ∙ (ap (λ (o : List Output). session_pieces t (outputs v x es) ++ session_pieces t o) (append-nil (press v (after v x es) e).out)
+    ∙ ap (λ (z : Standing). session_pieces t (outputs v x es) ++ session_pieces t (press v z e).out) (sym at))
 
-pub steps_rest : (t : TablesData) (v : Setting) (x y : Standing) (es more : List Event) (e : Event) → y ≡ after v x es
-    → (rest : List Step) × (session_steps t (outputs v x (es ++ e ∷ more)) ≡ (session_steps t (outputs v x es) ++ session_steps t (press v y e).out) ++ rest)
-steps_rest t v x y es more e at =
+pub pieces_rest : (t : TablesData) (v : Setting) (x y : Standing) (es more : List Event) (e : Event) → y ≡ after v x es
+    → (rest : List Piece) × (session_pieces t (outputs v x (es ++ e ∷ more)) ≡ (session_pieces t (outputs v x es) ++ session_pieces t (press v y e).out) ++ rest)
+pieces_rest t v x y es more e at =
     let z = after v x (es ++ e ∷ []) in (
-      session_steps t (outputs v z more),
-      ap (λ (f : List Event). session_steps t (outputs v x f)) (sym (append_assoc es (e ∷ []) more))
-          ∙ (steps_of_more t v x (es ++ e ∷ []) more
-          ∙ ap (λ (ls : List Step). ls ++ session_steps t (outputs v z more)) (steps_one t v x y es e at)),
+      session_pieces t (outputs v z more),
+      ap (λ (f : List Event). session_pieces t (outputs v x f)) (sym (append_assoc es (e ∷ []) more))
+          ∙ (pieces_of_more t v x (es ++ e ∷ []) more
+          ∙ ap (λ (ls : List Piece). ls ++ session_pieces t (outputs v z more)) (pieces_one t v x y es e at)),
     )
 
 last-append : (s : State) (a b : List Output) → last_state s (a ++ b) ≡ last_state (last_state s a) b
@@ -140,9 +140,9 @@ last_after v x (e ∷ es) =
     last-append x.state (press v x e).out (outputs v y es)
     ∙ (ap (λ (s : State). last_state s (outputs v y es)) (press_faithful v x e).last ∙ last_after v y es)
 
--- the state after the steps of events is that where the station stands
-pub steps_after : (t : TablesData) (v : Setting) (x : Standing) (es : List Event) → state_after x.state (session_steps t (outputs v x es)) ≡ (after v x es).state
-steps_after t v x es = state_after_outputs t x.state (outputs v x es) ∙ last_after v x es
+-- the state after the pieces of events is that where the station stands
+pub pieces_after : (t : TablesData) (v : Setting) (x : Standing) (es : List Event) → state_after x.state (session_pieces t (outputs v x es)) ≡ (after v x es).state
+pieces_after t v x es = state_after_outputs t x.state (outputs v x es) ∙ last_after v x es
 
 -- one event more is a run, which puts out what the press does
 pub press_run : (v : Setting) (s : State) (x : Standing) (e : Event) (es : List Event) (out : List Output) → IsSetting v → StandsFor v s x es out

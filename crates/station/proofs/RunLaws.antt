@@ -116,7 +116,7 @@ idle_answer v s k r = answer_of v (idle_at s) k r (refl, refl)
 idle_answer_at : (v : Setting) (s : State) (k : ClerkKey) (a : ClerkAnswer) → length s.came ≡ length v.roll → reply_at v s mode.Idle k ≡ a → IsAnswer v s [] k a
 idle_answer_at v s k a r e = subst (IsAnswer v s [] k) e (idle_answer v s k r)
 
--- a step keeps the roll
+-- an act keeps the roll
 pub roll_kept : (v : Setting) (s : State) (place : ℕ) (choices : List Choice) → length s.came ≡ length v.roll → length (with_ballot v.lines s place choices).came ≡ length v.roll
 roll_kept v s place choices r = length-set s.came place true ∙ r
 

@@ -23,7 +23,7 @@ use Rattle.station.specs.Start.{FailsToStart, IsCutAtOpening, IsRecovered, Opens
 use Rattle.station.specs.Station.{IsStationed}
 use Rattle.station.specs.Text.{line_text}
 use Rattle.station.specs.declared.line.Line.TheVariants.{Poll}
-use Rattle.station.proofs.Steps.{keeps_shown}
+use Rattle.station.proofs.Pieces.{keeps_shown}
 use Rattle.station.proofs.Stepping.{idle_stands}
 
 -- a recovery that failed is so told
@@ -76,5 +76,5 @@ module _ (t : TablesData) (r : RollData) (store : StoreData) (s : State) (a b c 
         between = b;
         recovered = recovered;
         stopped = stopped;
-        survives = λ steps. safe_more t store.load s (opening t s) steps a c (opening_call t r store.load s line [] a b c ran (stopped.ops, stopped.does, stopped.plays));
+        survives = λ pieces. safe_more t store.load s (opening t s) pieces a c (opening_call t r store.load s line [] a b c ran (stopped.ops, stopped.does, stopped.plays));
       }

@@ -14,7 +14,7 @@ use Rattle.state_store.specs.Calls.{FailsToRecover, IsRecovery, Recovers, both_s
 use Rattle.state_store.specs.Load.{load_of}
 use Rattle.state_store.specs.Played.{HasPut, HasStopped, IsSafe}
 use Rattle.state_store.specs.Rest.{AreAtRest}
-use Rattle.state_store.specs.Steps.{Step, quiet}
+use Rattle.state_store.specs.Pieces.{Piece, quiet}
 use Rattle.state_store.specs.declared.load.Load.{Load}
 use Rattle.state_store.specs.declared.store.StoreError.{StoreError}
 use Rattle.state_store.specs.declared.store.StoreError.TheVariants as store
@@ -29,7 +29,7 @@ use Rattle.station.specs.declared.station.StartError.TheVariants as start
 abbrev pub opening_line : TablesData → State → List ℕ
 opening_line t s = line_text t (Poll s.phase (number_came s.came))
 
-abbrev pub opening : TablesData → State → List Step
+abbrev pub opening : TablesData → State → List Piece
 opening t s = quiet (opening_line t s ∷ [])
 
 -- The flashes were synced and recovered, which touched no slot that was right already, and left them at rest with a state of this
@@ -61,14 +61,14 @@ start_error (store.Foreign d) = start.Foreign d
 start_error store.NoImage = start.NoImage
 
 -- The display failed in the opening line, behind a recovery. What a power cut leaves is what it would leave of a session, whatever
--- steps were to come.
+-- pieces were to come.
 pub record IsCutAtOpening (t : TablesData) (r : RollData) (old new : Told) : Type 0 where
   pub load : Load
   pub state : State
   pub between : Told
   pub recovered : IsRecovered t r load state old between
   pub stopped : HasStopped t load state (opening t state) Display between new
-  pub survives : (steps : List Step) → IsSafe t load state (opening t state ++ steps) old new
+  pub survives : (pieces : List Piece) → IsSafe t load state (opening t state ++ pieces) old new
 
 -- what there is where a station doesn't start
 abbrev pub FailsToStart : TablesData → RollData → Told → Told → StartError → Type 0

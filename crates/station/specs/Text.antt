@@ -8,7 +8,7 @@ use Rattle.turnout.specs.declared.phase.Phase.TheVariants as phase
 use Rattle.vote_kinds.specs.Ballot.{IsField, line_of}
 use Rattle.voter_term.specs.Screen.{screen_text}
 use Rattle.poll_report.specs.Counts.{count_lines}
-use Rattle.state_store.specs.Steps.{Step, quiet, telling}
+use Rattle.state_store.specs.Pieces.{Piece, quiet, telling}
 use Rattle.station.specs.Output.{Output, Says, Commits, Reports}
 use Rattle.station.specs.declared.line.Line.{Line}
 use Rattle.station.specs.declared.line.Line.TheVariants as line
@@ -38,14 +38,14 @@ title_text title.Zeresima = codes "ZERESIMA" ++ 10 ∷ []
 title_text title.Boletim = codes "BOLETIM" ++ 10 ∷ []
 
 -- what an output puts out, in order: a state that it tells is committed just before its line
-abbrev pub output_steps : TablesData → Output → List Step
-output_steps t (Says l) = quiet (line_text t l ∷ [])
-output_steps t (Commits s l) = telling s (line_text t l)
-output_steps t (Reports title s) = quiet (title_text title ∷ count_lines t s.bags)
+abbrev pub output_pieces : TablesData → Output → List Piece
+output_pieces t (Says l) = quiet (line_text t l ∷ [])
+output_pieces t (Commits s l) = telling s (line_text t l)
+output_pieces t (Reports title s) = quiet (title_text title ∷ count_lines t s.bags)
 
 -- what a session puts out
-abbrev pub session_steps : TablesData → List Output → List Step
-session_steps t out = flat_map (output_steps t) out
+abbrev pub session_pieces : TablesData → List Output → List Piece
+session_pieces t out = flat_map (output_pieces t) out
 
 -- A line whose numbers have the digits of its format. A screen is that of a panel of the tables, with no more digits than its
 -- office.

@@ -8,7 +8,7 @@ ghost use Rattle.key_script.specs.declared.keys.Event.{Event};
 ghost use Rattle.image_codec.specs.CodecLaws.{Ballot};
 ghost use Rattle.image_codec.specs.Encoding.{IsStateOf};
 ghost use Rattle.image_codec.specs.State.{State, filled_up};
-ghost use Rattle.state_store.specs.Steps.{commits_in, lines_in, state_after, text_in};
+ghost use Rattle.state_store.specs.Pieces.{commits_in, lines_in, state_after, text_in};
 ghost use Rattle.station.specs.Setting.{Setting, setting_of};
 ghost use Rattle.station.specs.Output.{Output, commits_of};
 ghost use Rattle.station.specs.Run.{IsRun, Visit};
@@ -17,7 +17,7 @@ ghost use Rattle.station.specs.Screens.{AreOfLastScreens, confirmed_in};
 ghost use Rattle.station.specs.Press.{Standing};
 ghost use Rattle.station.specs.Stands.{StandsFor};
 ghost use Rattle.station.specs.States.{IsHistory};
-ghost use Rattle.station.specs.Text.{session_steps};
+ghost use Rattle.station.specs.Text.{session_pieces};
 
 /// From each state each list of events has exactly one run.
 pub fn one_run()
@@ -35,13 +35,13 @@ pub fn run_grows()
 {}
 
 /// The states that a run commits follow one another by one opening, one voter or one seal, and the run leads to the last. They are
-/// the states that the steps of the session commit. Each of them is a state of a poll of the tables, where the run begins at one.
+/// the states that the pieces of the session commit. Each of them is a state of a poll of the tables, where the run begins at one.
 pub fn run_commits()
     ensures history { (v : Setting) (s last : State) (es : List Event) (out : List Output) → length s.came ≡ length v.roll
         → IsRun v s es last out → IsHistory v s (commits_of out) last }
-    ensures commits { (t : TablesData) (out : List Output) → commits_in (session_steps t out) ≡ commits_of out }
+    ensures commits { (t : TablesData) (out : List Output) → commits_in (session_pieces t out) ≡ commits_of out }
     ensures last { (t : TablesData) (titles : List ℕ) (s last : State) (es : List Event) (out : List Output) → length s.came ≡ length titles
-        → IsRun (setting_of t titles) s es last out → state_after s (session_steps t out) ≡ last }
+        → IsRun (setting_of t titles) s es last out → state_after s (session_pieces t out) ≡ last }
     ensures valid { (t : TablesData) (titles : List ℕ) (s last : State) (es : List Event) (out : List Output)
         → IsStateOf t (length titles) s → AllByRecursion IsEvent es → IsRun (setting_of t titles) s es last out
         → AllByRecursion (IsStateOf t (length titles)) (commits_of out) × IsStateOf t (length titles) last }
@@ -51,7 +51,7 @@ pub fn run_commits()
 pub fn fims_and_ballots()
     ensures { (t : TablesData) (titles : List ℕ) (s last : State) (es : List Event) (out : List Output) → length s.came ≡ length titles
         → (run : IsRun (setting_of t titles) s es last out)
-        → fims_reached (lines_in (session_steps t out)) (length (text_in (session_steps t out))) ≡ length (ballots_of run) }
+        → fims_reached (lines_in (session_pieces t out)) (length (text_in (session_pieces t out))) ≡ length (ballots_of run) }
 {}
 
 /// One event more commits at most one state more, so the committed states are those after the prefixes of the events.

@@ -5,11 +5,11 @@ ghost use Rattle.urna_outside.specs.Told.{port_of};
 ghost use Rattle.image_codec.specs.Encoding.{IsStateOf};
 ghost use Rattle.image_codec.specs.State.{State};
 ghost use Rattle.state_store.specs.Played.{Puts};
-ghost use Rattle.state_store.specs.Steps.{state_after, telling};
+ghost use Rattle.state_store.specs.Pieces.{state_after, telling};
 ghost use Rattle.state_store.specs.Store.{AreDevices, IsBelow, IsLoadedWith, Keeps};
 ghost use Rattle.station.specs.Acts.{IsAct, output_of, outputs_of};
 ghost use Rattle.station.specs.Doing.{AreDoable};
-ghost use Rattle.station.specs.Text.{IsLine, line_text, output_steps, session_steps};
+ghost use Rattle.station.specs.Text.{IsLine, line_text, output_pieces, session_pieces};
 
 use crate::line::{Line, Title};
 use crate::session::Session;
@@ -51,9 +51,9 @@ pub(crate) fn perform_all<M: Machine>(
     requires may { AreDoable tables.now (M.told m.old) store session.now.standing.state acts.now }
     ensures load { IfOk result (λ next. next.load ≡ store.load) }
     ensures kept { (s : State) → Keeps tables.now (M.told m.old) store s
-        → IfOk result (λ next. Keeps tables.now (M.told m.new) next (state_after s (session_steps tables.now (outputs_of session.now.standing.state acts.now)))) }
+        → IfOk result (λ next. Keeps tables.now (M.told m.new) next (state_after s (session_pieces tables.now (outputs_of session.now.standing.state acts.now)))) }
     ensures puts { (s : State) → Keeps tables.now (M.told m.old) store s
-        → Puts (λ port. port) result tables.now store.load s (session_steps tables.now (outputs_of session.now.standing.state acts.now)) (M.told m.old) (M.told m.new) }
+        → Puts (λ port. port) result tables.now store.load s (session_pieces tables.now (outputs_of session.now.standing.state acts.now)) (M.told m.old) (M.told m.new) }
 {
     let mut store = store;
     for act in acts {
@@ -80,9 +80,9 @@ fn perform<M: Machine>(
     requires may { AreDoable tables.now (M.told m.old) store session.now.standing.state (act ∷ []) }
     ensures load { IfOk result (λ next. next.load ≡ store.load) }
     ensures kept { (s : State) → Keeps tables.now (M.told m.old) store s
-        → IfOk result (λ next. Keeps tables.now (M.told m.new) next (state_after s (output_steps tables.now (output_of session.now.standing.state act)))) }
+        → IfOk result (λ next. Keeps tables.now (M.told m.new) next (state_after s (output_pieces tables.now (output_of session.now.standing.state act)))) }
     ensures puts { (s : State) → Keeps tables.now (M.told m.old) store s
-        → Puts (λ port. port) result tables.now store.load s (output_steps tables.now (output_of session.now.standing.state act)) (M.told m.old) (M.told m.new) }
+        → Puts (λ port. port) result tables.now store.load s (output_pieces tables.now (output_of session.now.standing.state act)) (M.told m.old) (M.told m.new) }
 {
     match act {
         Act::Say(line) => match show_line(m, line.text(tables).as_bytes()) {

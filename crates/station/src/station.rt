@@ -16,7 +16,7 @@ ghost use Rattle.station.specs.Setting.{setting_of};
 ghost use Rattle.station.specs.Stands.{IsReached, StandsFor, StandsOn};
 ghost use Rattle.station.specs.Start.{FailsToStart, IsStarted, start_error};
 ghost use Rattle.station.specs.Station.{IsAsked, IsStationed, StationData};
-ghost use Rattle.station.specs.Text.{session_steps};
+ghost use Rattle.station.specs.Text.{session_pieces};
 ghost use Rattle.station.specs.Valid.{IsStanding};
 
 use crate::line::Line;
@@ -111,13 +111,13 @@ impl Station {
         requires devices { AreDevices (M.told m.old).sizes }
         requires stationed { IsStationed tables.now roll.now (M.told m.old) self }
         ensures run { IfOk result (λ next. (put : List Output)
-            × HasPut tables.now self.store.load self.standing.state (session_steps tables.now put) (M.told m.old) (M.told m.new)
+            × HasPut tables.now self.store.load self.standing.state (session_pieces tables.now put) (M.told m.old) (M.told m.new)
             × ((s : State) (es : List Event) (out : List Output) → StandsFor (setting_of tables.now roll.now.titles) s self.standing es out
             → StandsOn (setting_of tables.now roll.now.titles) s next.standing.mode next.standing (es ++ event ∷ []) (out ++ put))) }
         ensures stationed { IfOk result (IsStationed tables.now roll.now (M.told m.new)) }
         ensures load { IfOk result (λ next. next.store.load ≡ self.store.load) }
         ensures cut { IfErr result (λ port. (put : List Output)
-            × HasStopped tables.now self.store.load self.standing.state (session_steps tables.now put) port (M.told m.old) (M.told m.new)
+            × HasStopped tables.now self.store.load self.standing.state (session_pieces tables.now put) port (M.told m.old) (M.told m.new)
             × ((s : State) (es : List Event) (out : List Output) → StandsFor (setting_of tables.now roll.now.titles) s self.standing es out
             → (t : State) × IsRun (setting_of tables.now roll.now.titles) s (es ++ event ∷ []) t (out ++ put))) }
     {
@@ -129,7 +129,7 @@ impl Station {
     /// The events lead from the station's state to that of the next by a run, whose states were committed and whose lines were
     /// shown: those of the events until the station was last idle, and of those since, for which it stands. The caller owes that the
     /// tables, the roll and the machine are those of the station. A port is answered only where its count of faults rose; then the
-    /// steps of the run were put out up to the fault, the station is consumed, and no further call was made on the machine.
+    /// pieces of the run were put out up to the fault, the station is consumed, and no further call was made on the machine.
     pub fn run<M: Machine>(
         self,
         tables: &Tables,
@@ -143,12 +143,12 @@ impl Station {
         ensures run { IfOk result (λ next. (out : List Output)
             × IsRun (setting_of tables.now roll.now.titles) self.standing.state script.now next.standing.state out
             × IsReached (setting_of tables.now roll.now.titles) self.standing.state script.now out next.standing
-            × HasPut tables.now self.store.load self.standing.state (session_steps tables.now out) (M.told m.old) (M.told m.new)) }
+            × HasPut tables.now self.store.load self.standing.state (session_pieces tables.now out) (M.told m.old) (M.told m.new)) }
         ensures stationed { IfOk result (IsStationed tables.now roll.now (M.told m.new)) }
         ensures load { IfOk result (λ next. next.store.load ≡ self.store.load) }
         ensures cut { IfErr result (λ port. (t : State) × (out : List Output)
             × IsRun (setting_of tables.now roll.now.titles) self.standing.state script.now t out
-            × HasStopped tables.now self.store.load self.standing.state (session_steps tables.now out) port (M.told m.old) (M.told m.new)) }
+            × HasStopped tables.now self.store.load self.standing.state (session_pieces tables.now out) port (M.told m.old) (M.told m.new)) }
     {
         let mut station = self;
         for event in script.events() {
@@ -191,7 +191,7 @@ impl Station {
         ensures stationed { IfOk result (IsStationed tables.now roll.now (M.told m.new)) }
         ensures puts { (from : StationData) (event : Event) → IsAsked tables.now roll.now (M.told m.old) from event self acts.now
             → Puts (λ port. port) result tables.now from.store.load from.standing.state
-            (session_steps tables.now (press (setting_of tables.now roll.now.titles) from.standing event).out) (M.told m.old) (M.told m.new) }
+            (session_pieces tables.now (press (setting_of tables.now roll.now.titles) from.standing event).out) (M.told m.old) (M.told m.new) }
     {
         let Station { session, store } = self;
         match perform_all(&session, store, tables, roll, m, acts) {
@@ -216,7 +216,7 @@ impl Station {
         ensures stationed { IfOk result (IsStationed tables.now roll.now (M.told m.new)) }
         ensures load { IfOk result (λ next. next.store.load ≡ self.store.load) }
         ensures puts { Puts (λ port. port) result tables.now self.store.load self.standing.state
-            (session_steps tables.now (press (setting_of tables.now roll.now.titles) self.standing event).out) (M.told m.old) (M.told m.new) }
+            (session_pieces tables.now (press (setting_of tables.now roll.now.titles) self.standing event).out) (M.told m.old) (M.told m.new) }
     {
         let mut station = self;
         let acts = station.take_event(tables, roll, event);

@@ -5,7 +5,7 @@ use Rattle.std.proofs.Math.Seq.{take-append_seam}
 use Rattle.urna_outside.specs.Flash.{Flash, IsImage, part}
 use Rattle.urna_outside.proofs.Keeping.{in_image}
 use Rattle.urna_outside.proofs.Places.{part_by_bytes, same_part}
-use Rattle.gate_slot.specs.Slot.{room, gate_place, padding_place, body_place, gate_in, body_in}
+use Rattle.gate_slot.specs.Slot.{room, gate_offset, padding_offset, body_offset, gate_in, body_in}
 use Rattle.twin_image.specs.Frame.{padding, device_image, IsOfFrame, HasFrame, FrameStands}
 use Rattle.twin_image.specs.Slots.{KeepsFrame}
 use Rattle.twin_image.specs.Twin.{IsOfTwin, IsTwin}
@@ -47,13 +47,13 @@ pub whole_device : (size : ℕ) (header body content : List ℕ) → length cont
     → gate_in size 0 content ≡ 0xA5 → body_in size 0 content ≡ body → gate_in size 1 content ≡ 0xA5 → body_in size 1 content ≡ body
     → content ≡ device_image size header body
 whole_device size header body c long frame gate_0 body_0 gate_1 body_1 =
-    let at_0 : gate_place size 0 ≡ 512 = omega arith in
-    let next : gate_place size 0 + 512 + size ≡ gate_place size 1 = omega arith in
+    let at_0 : gate_offset size 0 ≡ 512 = omega arith in
+    let next : gate_offset size 0 + 512 + size ≡ gate_offset size 1 = omega arith in
     let slot : List ℕ → List ℕ = λ rest. 0xA5 ∷ padding ++ (body ++ rest) in
     let front = cut c 0 512 512 refl ∙ ap (λ (l : List ℕ). l ++ drop 512 c) frame.at_front in
-    let first = ap (λ (k : ℕ). drop k c) (sym at_0) ∙ slot_cut c (gate_place size 0) size body (omega arith) gate_0 frame.first body_0 ∙ ap (λ (k : ℕ). slot (drop k c)) next in
-    let second = slot_cut c (gate_place size 1) size body (omega arith) gate_1 frame.second body_1 in
-    let end = drop_all (gate_place size 1 + 512 + size) c (omega arith) in
+    let first = ap (λ (k : ℕ). drop k c) (sym at_0) ∙ slot_cut c (gate_offset size 0) size body (omega arith) gate_0 frame.first body_0 ∙ ap (λ (k : ℕ). slot (drop k c)) next in
+    let second = slot_cut c (gate_offset size 1) size body (omega arith) gate_1 frame.second body_1 in
+    let end = drop_all (gate_offset size 1 + 512 + size) c (omega arith) in
     front
     ∙ ap (λ (l : List ℕ). header ++ l) (first ∙ ap slot (second ∙ ap slot end ∙ ap (λ (l : List ℕ). 0xA5 ∷ padding ++ l) (append-nil body)))
     ∙ regroup header (0xA5 ∷ padding) body
@@ -93,8 +93,8 @@ module _ (size : ℕ) (header body : List ℕ) (header_long : length header ≡ 
       let second : image ≡ (header ++ gate ++ body ++ 0xA5 ∷ []) ++ (padding ++ body) = simp append_assoc in
       record {
         at_front = ap (λ (l : List ℕ). part l 0 512) front ∙ part_of [] header (gate ++ body ++ gate ++ body) 0 512 refl header_long;
-        first = ap (λ (l : List ℕ). part l (padding_place size 0) 511) first ∙ part_of (header ++ 0xA5 ∷ []) padding (body ++ gate ++ body) (padding_place size 0) 511 (omega (arith, length-append header (0xA5 ∷ []))) length-padding;
-        second = ap (λ (l : List ℕ). part l (padding_place size 1) 511) second ∙ part_of (header ++ gate ++ body ++ 0xA5 ∷ []) padding body (padding_place size 1) 511 (omega (arith, length-append (header ++ gate ++ body) (0xA5 ∷ []), length-append (header ++ gate) body, length-append header gate, length-padding)) length-padding;
+        first = ap (λ (l : List ℕ). part l (padding_offset size 0) 511) first ∙ part_of (header ++ 0xA5 ∷ []) padding (body ++ gate ++ body) (padding_offset size 0) 511 (omega (arith, length-append header (0xA5 ∷ []))) length-padding;
+        second = ap (λ (l : List ℕ). part l (padding_offset size 1) 511) second ∙ part_of (header ++ gate ++ body ++ 0xA5 ∷ []) padding body (padding_offset size 1) 511 (omega (arith, length-append (header ++ gate ++ body) (0xA5 ∷ []), length-append (header ++ gate) body, length-append header gate, length-padding)) length-padding;
       }
 
   -- and its slots are open with the body
@@ -104,8 +104,8 @@ module _ (size : ℕ) (header body : List ℕ) (header_long : length header ≡ 
       let gate : List ℕ = 0xA5 ∷ padding in
       let first : image ≡ header ++ 0xA5 ∷ (padding ++ body ++ gate ++ body) = simp append_assoc in
       let second : image ≡ (header ++ gate ++ body) ++ 0xA5 ∷ (padding ++ body) = simp append_assoc in (
-        ap (λ (l : List ℕ). get_or l (gate_place size 0) 0) first ∙ byte_of header (padding ++ body ++ gate ++ body) 0xA5 (gate_place size 0) (omega (arith, header_long)),
-        ap (λ (l : List ℕ). get_or l (gate_place size 1) 0) second ∙ byte_of (header ++ gate ++ body) (padding ++ body) 0xA5 (gate_place size 1) (omega (arith, length-append (header ++ gate) body, length-append header gate, length-padding)),
+        ap (λ (l : List ℕ). get_or l (gate_offset size 0) 0) first ∙ byte_of header (padding ++ body ++ gate ++ body) 0xA5 (gate_offset size 0) (omega (arith, header_long)),
+        ap (λ (l : List ℕ). get_or l (gate_offset size 1) 0) second ∙ byte_of (header ++ gate ++ body) (padding ++ body) 0xA5 (gate_offset size 1) (omega (arith, length-append (header ++ gate) body, length-append header gate, length-padding)),
       )
 
   pub device_bodies : (body_in size 0 (device_image size header body) ≡ body) × (body_in size 1 (device_image size header body) ≡ body)
@@ -114,8 +114,8 @@ module _ (size : ℕ) (header body : List ℕ) (header_long : length header ≡ 
       let gate : List ℕ = 0xA5 ∷ padding in
       let first : image ≡ (header ++ gate) ++ (body ++ (gate ++ body)) = simp append_assoc in
       let second : image ≡ (header ++ gate ++ body ++ gate) ++ (body ++ []) = simp (append_assoc, append-nil) in (
-        ap (λ (l : List ℕ). part l (body_place size 0) size) first ∙ part_of (header ++ gate) body (gate ++ body) (body_place size 0) size (omega (arith, length-append header gate, length-padding)) body_long,
-        ap (λ (l : List ℕ). part l (body_place size 1) size) second ∙ part_of (header ++ gate ++ body ++ gate) body [] (body_place size 1) size (omega (arith, length-append (header ++ gate ++ body) gate, length-append (header ++ gate) body, length-append header gate, length-padding)) body_long,
+        ap (λ (l : List ℕ). part l (body_offset size 0) size) first ∙ part_of (header ++ gate) body (gate ++ body) (body_offset size 0) size (omega (arith, length-append header gate, length-padding)) body_long,
+        ap (λ (l : List ℕ). part l (body_offset size 1) size) second ∙ part_of (header ++ gate ++ body ++ gate) body [] (body_offset size 1) size (omega (arith, length-append (header ++ gate ++ body) gate, length-append (header ++ gate) body, length-append header gate, length-padding)) body_long,
       )
 
 -- no place of the frame is one of a slot
@@ -140,8 +140,8 @@ frame_kept size header before image fits keeps has =
     λ at n within places. same_part image before at n keeps.same_length within (λ k low high. keeps.bytes k (frame_apart size k (places k low high))) in
     record {
       at_front = same 0 512 (omega arith) (λ k low high. inl (omega arith)) ∙ has.at_front;
-      first = same (padding_place size 0) 511 (omega arith) (λ k low high. inr (inl (low, high))) ∙ has.first;
-      second = same (padding_place size 1) 511 (omega arith) (λ k low high. inr (inr (low, high))) ∙ has.second;
+      first = same (padding_offset size 0) 511 (omega arith) (λ k low high. inr (inl (low, high))) ∙ has.first;
+      second = same (padding_offset size 1) 511 (omega arith) (λ k low high. inr (inr (low, high))) ∙ has.second;
     }
 
 -- A device with this frame whose two slots are live with this body is the whole device.
@@ -157,6 +157,6 @@ pub frame_image : (size : ℕ) (header : List ℕ) (flash : Flash) (image : List
 frame_image size header flash image long stands is =
     record {
       at_front = ap (λ (n : ℕ). part image 0 n) (sym long) ∙ in_image flash 0 header image stands.at_front is;
-      first = ap (λ (n : ℕ). part image (padding_place size 0) n) (sym length-padding) ∙ in_image flash (padding_place size 0) padding image stands.first is;
-      second = ap (λ (n : ℕ). part image (padding_place size 1) n) (sym length-padding) ∙ in_image flash (padding_place size 1) padding image stands.second is;
+      first = ap (λ (n : ℕ). part image (padding_offset size 0) n) (sym length-padding) ∙ in_image flash (padding_offset size 0) padding image stands.first is;
+      second = ap (λ (n : ℕ). part image (padding_offset size 1) n) (sym length-padding) ∙ in_image flash (padding_offset size 1) padding image stands.second is;
     }

@@ -16,7 +16,7 @@ use Rattle.urna_outside.proofs.Stops.{stops_within, within_shows}
 use Rattle.gate_slot.specs.Device.{OnFlash, KeepsRest}
 use Rattle.gate_slot.specs.Front.{IsFrontOf}
 use Rattle.gate_slot.proofs.Fronts.{fronts_later, none_yet}
-use Rattle.gate_slot.specs.Slot.{room, gate_place, body_place, padding_place, gate_in, IsGate, IsBody, IsGateShut, IsGateOpen, IsFilled, HasBody, IsOneWrite, shut_ops}
+use Rattle.gate_slot.specs.Slot.{room, gate_offset, body_offset, padding_offset, gate_in, IsGate, IsBody, IsGateShut, IsGateOpen, IsFilled, HasBody, IsOneWrite, shut_ops}
 use Rattle.gate_slot.proofs.Written.{body_fits, gate_bounded}
 use Rattle.gate_slot.proofs.Images.{gate_image, body_image}
 use Rattle.twin_image.specs.Frame.{IsOfFrame, FrameStands, padding}
@@ -77,46 +77,46 @@ module _ (size : ℕ) (In : ℕ → Type 0) (f g : Flash) (keeps : KeepsBut In f
   pub shut_kept : ((k : ℕ) → IsOfGates size k → ¬ In k) → AreShut size f → AreShut size g
   shut_kept apart shut =
       record {
-        first = (shut.first.0, shut.first.1, stays In f g (gate_place size 0) (shut.first.0 ∷ []) (λ k low high. apart k (inl (low, high))) keeps shut.first.2);
-        second = (shut.second.0, shut.second.1, stays In f g (gate_place size 1) (shut.second.0 ∷ []) (λ k low high. apart k (inr (low, high))) keeps shut.second.2);
+        first = (shut.first.0, shut.first.1, stays In f g (gate_offset size 0) (shut.first.0 ∷ []) (λ k low high. apart k (inl (low, high))) keeps shut.first.2);
+        second = (shut.second.0, shut.second.1, stays In f g (gate_offset size 1) (shut.second.0 ∷ []) (λ k low high. apart k (inr (low, high))) keeps shut.second.2);
       }
 
   pub body_kept : (body : List ℕ) → length body ≡ size → ((k : ℕ) → IsOfBodies size k → ¬ In k) → HaveBody size body f → HaveBody size body g
   body_kept body long apart has =
       record {
-        first = stays In f g (body_place size 0) body (λ k low high. apart k (inl (low, omega arith))) keeps has.first;
-        second = stays In f g (body_place size 1) body (λ k low high. apart k (inr (low, omega arith))) keeps has.second;
+        first = stays In f g (body_offset size 0) body (λ k low high. apart k (inl (low, omega arith))) keeps has.first;
+        second = stays In f g (body_offset size 1) body (λ k low high. apart k (inr (low, omega arith))) keeps has.second;
       }
 
   pub stands_kept : (header : List ℕ) → length header ≡ 512 → ((k : ℕ) → IsOfFrame size k → ¬ In k) → FrameStands size header f → FrameStands size header g
   stands_kept header long apart stands =
       record {
         at_front = stays In f g 0 header (λ k low high. apart k (inl (omega arith))) keeps stands.at_front;
-        first = stays In f g (padding_place size 0) padding (λ k low high. apart k (inr (inl (low, omega (arith, length-padding))))) keeps stands.first;
-        second = stays In f g (padding_place size 1) padding (λ k low high. apart k (inr (inr (low, omega (arith, length-padding))))) keeps stands.second;
+        first = stays In f g (padding_offset size 0) padding (λ k low high. apart k (inr (inl (low, omega (arith, length-padding))))) keeps stands.first;
+        second = stays In f g (padding_offset size 1) padding (λ k low high. apart k (inr (inr (low, omega (arith, length-padding))))) keeps stands.second;
       }
 
 -- one slot's gate or body, where the other slot's is written
 pub first_shut_kept : (size : ℕ) (f g : Flash) → KeepsBut (IsGate size 1) f g → IsGateShut size 0 f → IsGateShut size 0 g
 first_shut_kept size f g keeps shut =
-    (shut.0, shut.1, stays (IsGate size 1) f g (gate_place size 0) (shut.0 ∷ []) (λ k low high gate. omega (arith, gate.0)) keeps shut.2)
+    (shut.0, shut.1, stays (IsGate size 1) f g (gate_offset size 0) (shut.0 ∷ []) (λ k low high gate. omega (arith, gate.0)) keeps shut.2)
 
 pub first_body_kept : (size : ℕ) (body : List ℕ) (f g : Flash) → length body ≡ size → KeepsBut (IsBody size 1) f g → HasBody size 0 body f → HasBody size 0 body g
 first_body_kept size body f g long keeps has =
-    stays (IsBody size 1) f g (body_place size 0) body (λ k low high other. omega (arith, other.0)) keeps has
+    stays (IsBody size 1) f g (body_offset size 0) body (λ k low high other. omega (arith, other.0)) keeps has
 
 pub first_open_kept : (size : ℕ) (f g : Flash) → KeepsBut (IsGate size 1) f g → IsGateOpen size 0 f → IsGateOpen size 0 g
 first_open_kept size f g keeps opened =
-    stays (IsGate size 1) f g (gate_place size 0) (0xA5 ∷ []) (λ k low high gate. omega (arith, gate.0)) keeps opened
+    stays (IsGate size 1) f g (gate_offset size 0) (0xA5 ∷ []) (λ k low high gate. omega (arith, gate.0)) keeps opened
 
 pub second_filled_kept : (size : ℕ) (f g : Flash) → KeepsBut (IsGate size 0) f g → IsFilled size 1 f → IsFilled size 1 g
 second_filled_kept size f g keeps filled =
-    let gate = stays (IsGate size 0) f g (gate_place size 1) (filled.shut.0 ∷ []) (λ k low high other. omega (arith, other.1)) keeps filled.shut.2 in
+    let gate = stays (IsGate size 0) f g (gate_offset size 1) (filled.shut.0 ∷ []) (λ k low high other. omega (arith, other.1)) keeps filled.shut.2 in
     record {
       shut = (filled.shut.0, filled.shut.1, gate);
       body = filled.body;
       long = filled.long;
-      stands = stays (IsGate size 0) f g (body_place size 1) filled.body (λ k low high other. omega (arith, other.1)) keeps filled.stands;
+      stands = stays (IsGate size 0) f g (body_offset size 1) filled.body (λ k low high other. omega (arith, other.1)) keeps filled.stands;
     }
 
 -- what survives one write
@@ -147,7 +147,7 @@ shuts_both d size a b c rest first second start told =
     let ops = shutting_ops size d 0 (flash_of d start).content in
     let mid = after ops start in
     let later = told_after ops a b start one told in
-    let same = (rest start told mid later).own.content (gate_place size 1) (λ gate. omega (arith, gate.1)) in
+    let same = (rest start told mid later).own.content (gate_offset size 1) (λ gate. omega (arith, gate.1)) in
     let again : shutting_ops size d 1 (flash_of d mid).content ≡ shutting_ops size d 1 (flash_of d start).content = ap (λ (gate : ℕ). cond (eqb gate 0xA5) (shut_ops size d 1) []) same in
     does-append ops (shutting_ops size d 1 (flash_of d start).content) a b c one (subst (λ (l : List Op). Does l b c) again (second mid later))
 
@@ -170,7 +170,7 @@ shuts_cut_second d size a b c rest first opened other start told next more =
     let ops = shutting_ops size d 0 content in
     let mid = after ops start in
     let later = told_after ops a b start one told in
-    let same = (rest start told mid later).own.content (gate_place size 1) (λ gate. omega (arith, gate.1)) in
+    let same = (rest start told mid later).own.content (gate_offset size 1) (λ gate. omega (arith, gate.1)) in
     let again : shutting_ops size d 1 (flash_of d mid).content ≡ shutting_ops size d 1 content = ap (λ (gate : ℕ). cond (eqb gate 0xA5) (shut_ops size d 1) []) same in
     let two = shutting_cut d size 1 (flash_of d mid).content (next ∷ more) b c (none_yet [] next more) opened (other mid later) in
     subst (λ (ops : List Op). Runs (IsFrontOf ops) a c) (sym (append_assoc ops (shutting_ops size d 1 content) (next ∷ more)))

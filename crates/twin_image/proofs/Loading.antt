@@ -16,7 +16,7 @@ use Rattle.urna_outside.proofs.Stages.{stage_stronger}
 use Rattle.gate_slot.specs.Device.{OnFlash}
 use Rattle.gate_slot.specs.Front.{IsFrontOf}
 use Rattle.gate_slot.proofs.Fronts.{front_first, fronts_later, none_yet}
-use Rattle.gate_slot.specs.Slot.{room, body_place, fill_ops, publish_ops}
+use Rattle.gate_slot.specs.Slot.{room, body_offset, fill_ops, publish_ops}
 use Rattle.gate_slot.proofs.Written.{body_fits}
 use Rattle.twin_image.specs.Frame.{FrameStands, device_image}
 use Rattle.twin_image.specs.Lay.{IsEarly, IsLate, LeavesLaid, LaysOn, Lays, frame_ops, header_for, lay_ops, load_ops}
@@ -58,7 +58,7 @@ load_none size internal external body start =
     let shut = shutting_ops size Internal 0 content ++ shutting_ops size Internal 1 content in
     let fill = fill_ops size Internal 0 body ++ fill_ops size Internal 1 body in
     let publish = publish_ops size Internal 0 ++ publish_ops size Internal 1 in
-    let none = none_yet shut (Put Internal (body_place size 0) body) (Sync Internal ∷ fill_ops size Internal 1 body) in
+    let none = none_yet shut (Put Internal (body_offset size 0) body) (Sync Internal ∷ fill_ops size Internal 1 body) in
     let frame = frame_ops size Internal internal in
     front_first (lay_ops size Internal internal body content) (lay_ops size External external body start.external.content) []
     (front_first (shut ++ fill ++ frame) publish [] (front_first (shut ++ fill) frame [] none))

@@ -13,7 +13,7 @@ use Rattle.urna_outside.proofs.Keeping.{within_keeps}
 use Rattle.urna_outside.proofs.Places.{same_part}
 use Rattle.urna_outside.proofs.Stops.{stops_none}
 use Rattle.urna_outside.proofs.Stages.{left_image, stage_weaker, stage_stronger, stages-append}
-use Rattle.gate_slot.specs.Slot.{room, gate_place, body_place, gate_in, body_in, shut_ops, fill_ops, publish_ops}
+use Rattle.gate_slot.specs.Slot.{room, gate_offset, body_offset, gate_in, body_in, shut_ops, fill_ops, publish_ops}
 use Rattle.gate_slot.proofs.Written.{body_fits}
 use Rattle.twin_image.specs.Heal.{MendsTo, Mends, MendsBoth, MendsTwin, IsMend, AreMends}
 use Rattle.twin_image.specs.Twin.{IsOfSlot, IsOfTwin, IsLive, TurnsTo, Turns, turning_ops}
@@ -34,19 +34,19 @@ same_mends size index body before image same =
     }
 
 -- an image of a clean flash has its slots
-pub image_same : (size index : ℕ) (f : Flash) (image : List ℕ) → body_place size index + size ≤ length f.content → IsClean f → IsImage f image → SameSlot size index f.content image
+pub image_same : (size index : ℕ) (f : Flash) (image : List ℕ) → body_offset size index + size ≤ length f.content → IsClean f → IsImage f image → SameSlot size index f.content image
 image_same size index f image fits clean is =
     record {
-      gate = is.clean (gate_place size index) (clean (gate_place size index));
-      body = same_part image f.content (body_place size index) size is.same_length fits (λ k low high. is.clean k (clean k));
+      gate = is.clean (gate_offset size index) (clean (gate_offset size index));
+      body = same_part image f.content (body_offset size index) size is.same_length fits (λ k low high. is.clean k (clean k));
     }
 
 -- and so has a flash that keeps them
-pub kept_same : (In : ℕ → Type 0) (size index : ℕ) (f h : Flash) → body_place size index + size ≤ length f.content → ((k : ℕ) → gate_place size index ≤ k → k < body_place size index + size → ¬ In k) → KeepsBut In f h → SameSlot size index f.content h.content
+pub kept_same : (In : ℕ → Type 0) (size index : ℕ) (f h : Flash) → body_offset size index + size ≤ length f.content → ((k : ℕ) → gate_offset size index ≤ k → k < body_offset size index + size → ¬ In k) → KeepsBut In f h → SameSlot size index f.content h.content
 kept_same In size index f h fits apart keeps =
     record {
-      gate = keeps.content (gate_place size index) (apart (gate_place size index) (omega arith) (omega arith));
-      body = same_part h.content f.content (body_place size index) size keeps.size fits (λ k low high. keeps.content k (apart k (omega arith) high));
+      gate = keeps.content (gate_offset size index) (apart (gate_offset size index) (omega arith) (omega arith));
+      body = same_part h.content f.content (body_offset size index) size keeps.size fits (λ k low high. keeps.content k (apart k (omega arith) high));
     }
 
 module _ (d : Dev) (size index : ℕ) (below : index < 2) (body : List ℕ) where
@@ -87,14 +87,14 @@ module _ (d : Dev) (size index : ℕ) (below : index < 2) (body : List ℕ) wher
   mends_more a b run = stage_weaker d (IsOfSlot size index) (IsOfSlot size index) 0 3 Mending Mending a b (λ k is. is) (omega arith) (λ start told left p. p) run
 
 -- an image of a flash that keeps a slot of a clean one
-pub image_kept : (In : ℕ → Type 0) (size index : ℕ) (f h : Flash) (image : List ℕ) → body_place size index + size ≤ length f.content → IsClean f → ((k : ℕ) → gate_place size index ≤ k → k < body_place size index + size → ¬ In k) → KeepsBut In f h → IsImage h image → SameSlot size index f.content image
+pub image_kept : (In : ℕ → Type 0) (size index : ℕ) (f h : Flash) (image : List ℕ) → body_offset size index + size ≤ length f.content → IsClean f → ((k : ℕ) → gate_offset size index ≤ k → k < body_offset size index + size → ¬ In k) → KeepsBut In f h → IsImage h image → SameSlot size index f.content image
 image_kept In size index f h image fits clean apart keeps is =
     record {
-      gate = one (gate_place size index) (omega arith) (omega arith);
-      body = same_part image f.content (body_place size index) size (is.same_length ∙ keeps.size) fits (λ k low high. one k (omega arith) high);
+      gate = one (gate_offset size index) (omega arith) (omega arith);
+      body = same_part image f.content (body_offset size index) size (is.same_length ∙ keeps.size) fits (λ k low high. one k (omega arith) high);
     }
   where
-    one : (k : ℕ) → gate_place size index ≤ k → k < body_place size index + size → get_or image k 0 ≡ get_or f.content k 0
+    one : (k : ℕ) → gate_offset size index ≤ k → k < body_offset size index + size → get_or image k 0 ≡ get_or f.content k 0
     one k low high = is.clean k (keeps.clean k (apart k low high) (clean k)) ∙ keeps.content k (apart k low high)
 
 mends_from : (size index : ℕ) (body start mid image : List ℕ) → SameSlot size index start mid → MendsTo size index body mid image → MendsTo size index body start image

@@ -13,7 +13,7 @@ use Rattle.urna_outside.proofs.Runs.{places_of, run_keeps}
 use Rattle.gate_slot.specs.Device.{OnFlash, KeepsRest}
 use Rattle.gate_slot.specs.declared.slot.Step.{Step}
 use Rattle.urna_outside.proofs.Stages.{left_image, stage_weaker, stage_stronger, stages-append}
-use Rattle.gate_slot.specs.Slot.{room, gate_place, body_place, gate_in, body_in}
+use Rattle.gate_slot.specs.Slot.{room, gate_offset, body_offset, gate_in, body_in}
 use Rattle.gate_slot.proofs.Written.{gate_fits, body_fits, stands_through}
 use Rattle.gate_slot.proofs.Images.{gate_image, body_image}
 use Rattle.twin_image.specs.Twin.{IsOfSlot, IsOfTwin, IsLive, IsTwin, TurnsTo, Turns, HoldsEither, Renews, StepLeaves}
@@ -28,19 +28,19 @@ live_image size index body f image long live is =
     (gate_image size index 0xA5 f image live.gate is, body_image size index body f image long live.body_stands is)
 
 -- the other slot stays live
-pub live_stays : (d : Dev) (In : ℕ → Type 0) (size index : ℕ) (body : List ℕ) → length body ≡ size → ((k : ℕ) → gate_place size index ≤ k → k < body_place size index + size → ¬ In k)
+pub live_stays : (d : Dev) (In : ℕ → Type 0) (size index : ℕ) (body : List ℕ) → length body ≡ size → ((k : ℕ) → gate_offset size index ≤ k → k < body_offset size index + size → ¬ In k)
     → (fs gs : Flashes) → KeepsOthers d In fs gs → IsLive size index body (flash_of d fs) → IsLive size index body (flash_of d gs)
 live_stays d In size index body long apart fs gs keeps live =
     record {
-      gate = stands_through d In (gate_place size index) (0xA5 ∷ []) (λ k low high. apart k low (omega arith)) fs gs keeps live.gate;
-      body_stands = stands_through d In (body_place size index) body (λ k low high. apart k (omega arith) (omega arith)) fs gs keeps live.body_stands;
+      gate = stands_through d In (gate_offset size index) (0xA5 ∷ []) (λ k low high. apart k low (omega arith)) fs gs keeps live.gate;
+      body_stands = stands_through d In (body_offset size index) body (λ k low high. apart k (omega arith) (omega arith)) fs gs keeps live.body_stands;
     }
 
-pub apart_second : (size k : ℕ) → gate_place size 1 ≤ k → k < body_place size 1 + size → ¬ IsOfSlot size 0 k
+pub apart_second : (size k : ℕ) → gate_offset size 1 ≤ k → k < body_offset size 1 + size → ¬ IsOfSlot size 0 k
 apart_second size k low high (inl gate) = omega (arith, gate.1)
 apart_second size k low high (inr body) = omega (arith, body.1)
 
-pub apart_first : (size k : ℕ) → gate_place size 0 ≤ k → k < body_place size 0 + size → ¬ IsOfSlot size 1 k
+pub apart_first : (size k : ℕ) → gate_offset size 0 ≤ k → k < body_offset size 0 + size → ¬ IsOfSlot size 1 k
 apart_first size k low high (inl gate) = omega (arith, gate.0)
 apart_first size k low high (inr body) = omega (arith, body.0)
 

@@ -13,7 +13,7 @@ use Rattle.urna_outside.proofs.Places.{length-part}
 use Rattle.urna_outside.proofs.Stops.{stops_within}
 use Rattle.urna_outside.proofs.Runs.{places_of}
 use Rattle.urna_outside.proofs.Stages.{left_image, stage_weaker, stages-append}
-use Rattle.gate_slot.specs.Slot.{room, gate_place, body_place, gate_in, body_in, IsGate, IsBody, IsGateShut, HasBody, IsOneWrite, shut_ops, fill_ops, publish_ops}
+use Rattle.gate_slot.specs.Slot.{room, gate_offset, body_offset, gate_in, body_in, IsGate, IsBody, IsGateShut, HasBody, IsOneWrite, shut_ops, fill_ops, publish_ops}
 use Rattle.gate_slot.proofs.Written.{gate_fits, body_fits, gate_bounded, body_bounded, stands_through}
 use Rattle.gate_slot.specs.Device.{OnFlash}
 use Rattle.gate_slot.specs.Front.{IsFrontOf}
@@ -54,7 +54,7 @@ pub turning_cut : (d : Dev) (size index : ℕ) (new : List ℕ) (a b : Told) →
 turning_cut d size index new a b opened other start told =
     let content = (flash_of d start).content in
     let fill = fill_ops size d index new in
-    let none = none_yet [] (Put d (body_place size index) new) (Sync d ∷ []) in
+    let none = none_yet [] (Put d (body_offset size index) new) (Sync d ∷ []) in
     fronts_first (shutting_ops size d index content ++ fill) (publish_ops size d index) a b
     (shutting_cut d size index content fill a b none opened (other start told))
 
@@ -86,12 +86,12 @@ module _ (d : Dev) (size index : ℕ) (below : index < 2) where
   -- a write of the gate leaves the body
   pub body_stays : (body : List ℕ) (fs gs : Flashes) → length body ≡ size → KeepsOthers d (IsGate size index) fs gs → HasBody size index body (flash_of d fs) → HasBody size index body (flash_of d gs)
   body_stays body fs gs long keeps =
-      stands_through d (IsGate size index) (body_place size index) body (λ k low high is. omega (arith, is.1)) fs gs keeps
+      stands_through d (IsGate size index) (body_offset size index) body (λ k low high is. omega (arith, is.1)) fs gs keeps
 
   -- and one of the body the gate
-  pub gate_stays : (gate : ℕ) (fs gs : Flashes) → KeepsOthers d (IsBody size index) fs gs → Stably (flash_of d fs) (gate_place size index) (gate ∷ []) → Stably (flash_of d gs) (gate_place size index) (gate ∷ [])
+  pub gate_stays : (gate : ℕ) (fs gs : Flashes) → KeepsOthers d (IsBody size index) fs gs → Stably (flash_of d fs) (gate_offset size index) (gate ∷ []) → Stably (flash_of d gs) (gate_offset size index) (gate ∷ [])
   gate_stays gate fs gs keeps =
-      stands_through d (IsBody size index) (gate_place size index) (gate ∷ []) (λ k low high is. omega (arith, is.0)) fs gs keeps
+      stands_through d (IsBody size index) (gate_offset size index) (gate ∷ []) (λ k low high is. omega (arith, is.0)) fs gs keeps
 
   abbrev Unturned : Flashes → Left → Type 0
   Unturned start left = WasOpen size index (flash_of d start).content (left_on d left)
@@ -108,8 +108,8 @@ module _ (d : Dev) (size index : ℕ) (below : index < 2) where
           let old = body_in size index f.content in
           let long = (sized start told).content d in
           let within = body_fits size index (size_of d a.sizes) below fits in
-          let old_long = length-part f.content (body_place size index) size (omega arith) in
-          let stands = stands_clean f (body_place size index) old (clean start told) (omega arith) (ap (λ (n : ℕ). part f.content (body_place size index) n) old_long) in
+          let old_long = length-part f.content (body_offset size index) size (omega arith) in
+          let stands = stands_clean f (body_offset size index) old (clean start told) (omega arith) (ap (λ (n : ℕ). part f.content (body_offset size index) n) old_long) in
           (body_image size index old (flash_of d fs) (left_on d left) old_long (body_stays old start fs old_long keeps stands) (left_image d fs [] left is), is_open start told)) run
 
       none : (start : Flashes) → a.flashes ≡ Some start → gate_in size index (flash_of d start).content ≢ 0xA5 → Runs (Stage a d (IsGate size index) 1 Unturned) a b
@@ -124,8 +124,8 @@ module _ (d : Dev) (size index : ℕ) (below : index < 2) where
               let one = gate_fits size index (size_of d a.sizes) below fits in
               let same : now ≡ start = cc in
               stops_within d (λ k. ⊥) now [] (Unturned now) tt (places_of d (λ k. ⊥) a now (sized now said) (λ k no. absurd no)) (λ fs left keeps is gate.
-              let there = stands_one (flash_of d now) (gate_place size index) (clean now said) (omega arith) in
-              let still = stands_through d (λ k. ⊥) (gate_place size index) _ (λ k low high no. no) now fs keeps there in
+              let there = stands_one (flash_of d now) (gate_offset size index) (clean now said) (omega arith) in
+              let still = stands_through d (λ k. ⊥) (gate_offset size index) _ (λ k low high no. no) now fs keeps there in
               let seen = gate_image size index _ (flash_of d fs) (left_on d left) still (left_image d fs [] left is) in
               absurd (shut (ap (λ (x : Flashes). gate_in size index (flash_of d x).content) (sym same) ∙ sym seen ∙ gate)));
         },

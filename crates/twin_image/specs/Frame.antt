@@ -2,7 +2,7 @@
 use Rattle.std.specs.Prelude.{◌≡◌, ℕ, ◌<◌, ◌⊎◌, List, ◌∷◌, ◌++◌, replicate}
 use Rattle.urna_outside.specs.Flash.{Flash, Stably, part}
 use Rattle.urna_outside.specs.Confined.{IsInRange}
-use Rattle.gate_slot.specs.Slot.{open_gate, header_size, padding_size, padding_place}
+use Rattle.gate_slot.specs.Slot.{open_gate, header_size, padding_size, padding_offset}
 
 -- the zeros behind a gate
 unfoldable pub padding : List ℕ
@@ -14,16 +14,16 @@ device_image size header body = header ++ open_gate ∷ padding ++ body ++ open_
 
 -- a place of the header or of a padding
 abbrev pub IsOfFrame : ℕ → ℕ → Type 0
-IsOfFrame size k = (k < header_size) ⊎ IsInRange (padding_place size 0) padding_size k ⊎ IsInRange (padding_place size 1) padding_size k
+IsOfFrame size k = (k < header_size) ⊎ IsInRange (padding_offset size 0) padding_size k ⊎ IsInRange (padding_offset size 1) padding_size k
 
 -- the content begins with this header, and zeros stand behind each gate
 pub record HasFrame (size : ℕ) (header content : List ℕ) : Type 0 where
   pub at_front : part content 0 header_size ≡ header
-  pub first : part content (padding_place size 0) padding_size ≡ padding
-  pub second : part content (padding_place size 1) padding_size ≡ padding
+  pub first : part content (padding_offset size 0) padding_size ≡ padding
+  pub second : part content (padding_offset size 1) padding_size ≡ padding
 
 -- they do so in every image
 pub record FrameStands (size : ℕ) (header : List ℕ) (flash : Flash) : Type 0 where
   pub at_front : Stably flash 0 header
-  pub first : Stably flash (padding_place size 0) padding
-  pub second : Stably flash (padding_place size 1) padding
+  pub first : Stably flash (padding_offset size 0) padding
+  pub second : Stably flash (padding_offset size 1) padding

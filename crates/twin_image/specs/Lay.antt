@@ -7,7 +7,7 @@ use Rattle.urna_outside.specs.Stop.{left_on}
 use Rattle.urna_outside.specs.Told.{Told, Sizes, size_of}
 use Rattle.urna_outside.specs.declared.device.Dev.{Dev}
 use Rattle.urna_outside.specs.declared.device.Dev.TheVariants.{Internal, External}
-use Rattle.gate_slot.specs.Slot.{room, open_gate, header_size, IsGate, IsBody, gate_in, body_in, padding_place, fill_ops, publish_ops}
+use Rattle.gate_slot.specs.Slot.{room, open_gate, header_size, IsGate, IsBody, gate_in, body_in, padding_offset, fill_ops, publish_ops}
 use Rattle.twin_image.specs.Frame.{HasFrame, device_image, padding}
 use Rattle.twin_image.specs.Twin.{WasOpen, shutting_ops}
 
@@ -28,7 +28,7 @@ AreLaid size internal external body flashes =
 -- the header and the zeros behind the gates are written and synced
 abbrev pub frame_ops : ℕ → Dev → List ℕ → List Op
 frame_ops size d header =
-    Put d 0 header ∷ Put d (padding_place size 0) padding ∷ Put d (padding_place size 1) padding ∷ Sync d ∷ []
+    Put d 0 header ∷ Put d (padding_offset size 0) padding ∷ Put d (padding_offset size 1) padding ∷ Sync d ∷ []
 
 -- over this content: both slots are shut, both are filled, the frame is written, both are published
 abbrev pub lay_ops : ℕ → Dev → List ℕ → List ℕ → List ℕ → List Op

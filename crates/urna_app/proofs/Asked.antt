@@ -8,19 +8,11 @@ use Rattle.election_tables.specs.TablesData.{IsTables, TablesData, section_with}
 use Rattle.election_tables.specs.declared.tables.sections.Section.{Section}
 use Rattle.state_store.specs.Load.{IsSectionOf}
 use Rattle.state_store.proofs.Sections.{found_section}
-
--- what a search finds passes its test
-found_true : {X : Type 0} (test : X → Bool) (xs : List X) (x : X) → find test xs ≡ Some x → test x ≡ true
-found_true test [] x is = absurd (cc)
-found_true test (y ∷ ys) x is = step (test y) refl (found_true test ys x) is
-  where
-    step : (b : Bool) → test y ≡ b → (find test ys ≡ Some x → test x ≡ true) → cond b (Some y) (find test ys) ≡ Some x → test x ≡ true
-    step true passes rest found = let same : y ≡ x = cc in subst (λ z. test z ≡ true) same passes
-    step false passes rest found = rest found
+use Rattle.election_tables.proofs.Rising.{find_passes}
 
 pub named : (sections : List Section) (zone number : ℕ) (s : Section) → section_with zone number sections ≡ Some s → (s.zone ≡ zone) × (s.number ≡ number)
 named sections zone number s is =
-    let both = and_parts (s.zone == zone) (s.number == number) (found_true (λ (x : Section). (x.zone == zone) && (x.number == number)) sections s is) in
+    let both = and_parts (s.zone == zone) (s.number == number) (find_passes (λ (x : Section). (x.zone == zone) && (x.number == number)) sections s is) in
     (eqb-true s.zone zone both.0, eqb-true s.number number both.1)
 
 -- a section of the tables is the one of its zone and number

@@ -28,7 +28,7 @@ use Rattle.state_store.specs.Held.{HeldByBoth, bodies_of_both}
 use Rattle.state_store.specs.Load.{IsSectionOf}
 use Rattle.state_store.specs.Played.{Survives}
 use Rattle.state_store.specs.Rest.{AreAtRest}
-use Rattle.state_store.specs.Steps.{state_after}
+use Rattle.state_store.specs.Pieces.{state_after}
 use Rattle.state_store.specs.Load.{load_of}
 use Rattle.state_store.specs.declared.load.Load.{Load}
 use Rattle.state_store.proofs.Going.{found_once, loaded_once, loaded_or_foreign}
@@ -39,7 +39,7 @@ use Rattle.station.specs.Output.{Output}
 use Rattle.station.specs.Run.{IsRun}
 use Rattle.station.specs.Setting.{setting_of}
 use Rattle.station.specs.Start.{FailsToStart, IsCutAtOpening, IsRecovered, opening}
-use Rattle.station.specs.Text.{session_steps}
+use Rattle.station.specs.Text.{session_pieces}
 use Rattle.station.specs.declared.station.StartError.{StartError}
 use Rattle.station.specs.declared.station.StartError.TheVariants as starting
 use Rattle.station.proofs.Performing.{tables_setting}
@@ -85,24 +85,24 @@ module _ (t : TablesData) (r : RollData) (s last : State) (es : List Event) (out
 
   -- a session that was held or cut short
   session_stops : (load : Load) (first u : State) (b : Told) (put : List Output) → IsRecovered t r load first m b → IsRun (setting_of t r.titles) first es u put
-      → AtEachStop (after both_synced start) rest (Survives t load first (opening t first ++ session_steps t put) start) → AreKept
+      → AtEachStop (after both_synced start) rest (Survives t load first (opening t first ++ session_pieces t put) start) → AreKept
   session_stops load first u b put recovered ran survives ops stop left is =
       let here = recovered_here load first b recovered in
       let again : IsRun (setting_of t r.titles) s es u put = subst (λ (x : State). IsRun (setting_of t r.titles) x es u put) here.0 ran in
       let same : put ≡ out = (run_unique (setting_of t r.titles) s u last es put out (tables_setting t r.titles tables) again run).1 in
       session_kept t r s last es out run roll load here.1 start left
-      (subst (λ (o : List Output). Survives t load s (opening t s ++ session_steps t o) start left) same
-      (subst (λ (x : State). Survives t load x (opening t x ++ session_steps t put) start left) here.0 (survives ops stop left is)))
+      (subst (λ (o : List Output). Survives t load s (opening t s ++ session_pieces t o) start left) same
+      (subst (λ (x : State). Survives t load x (opening t x ++ session_pieces t put) start left) here.0 (survives ops stop left is)))
 
   pub voted_kept : HasVoted t r es m n → AreKept
   voted_kept voted =
       session_stops voted.load voted.first voted.last voted.opens.between voted.out voted.opens.recovered voted.run
-      (safe_stops m n start rest traced t voted.load voted.first (opening t voted.first ++ session_steps t voted.out) voted.survives)
+      (safe_stops m n start rest traced t voted.load voted.first (opening t voted.first ++ session_pieces t voted.out) voted.survives)
 
   pub cut_kept : (p : Port) → HasVotedTo t r es p m n → AreKept
   cut_kept p h =
       session_stops h.load h.first h.last h.opens.between h.out h.opens.recovered h.run
-      (safe_stops m n start rest traced t h.load h.first (opening t h.first ++ session_steps t h.out) h.survives)
+      (safe_stops m n start rest traced t h.load h.first (opening t h.first ++ session_pieces t h.out) h.survives)
 
   -- where it was held, both flashes are at rest with all ballots in the end
   pub voted_counted : HasVoted t r es m n → HasAlso (ballot_lines t) s (ballots_of run) last × ForSome n.flashes (AreAtRest (load_of t r section) last)
@@ -110,8 +110,8 @@ module _ (t : TablesData) (r : RollData) (s last : State) (es : List Event) (out
       let here = recovered_here voted.load voted.first voted.opens.between voted.opens.recovered in
       let again : IsRun (setting_of t r.titles) s es voted.last voted.out = subst (λ (x : State). IsRun (setting_of t r.titles) x es voted.last voted.out) here.0 voted.run in
       let same : voted.out ≡ out = (run_unique (setting_of t r.titles) s voted.last last es voted.out out (tables_setting t r.titles tables) again run).1 in
-      let end : state_after voted.first (session_steps t voted.out) ≡ last =
-      ap (λ (x : State). state_after x (session_steps t voted.out)) here.0 ∙ ap (λ (o : List Output). state_after s (session_steps t o)) same ∙ run_last t r.titles roll run in (
+      let end : state_after voted.first (session_pieces t voted.out) ≡ last =
+      ap (λ (x : State). state_after x (session_pieces t voted.out)) here.0 ∙ ap (λ (o : List Output). state_after s (session_pieces t o)) same ∙ run_last t r.titles roll run in (
         run_counts t r.titles roll run,
         λ x is. subst (λ (load : Load). AreAtRest load last x) (load_here voted.load voted.first voted.opens.between voted.opens.recovered)
             (subst (λ (y : State). AreAtRest voted.load y x) end (voted.put.rest x is)),
@@ -120,9 +120,9 @@ module _ (t : TablesData) (r : RollData) (s last : State) (es : List Event) (out
   pub opening_cut_kept : IsCutAtOpening t r m n → AreKept
   opening_cut_kept h ops stop left is =
       let here = recovered_here h.load h.state h.between h.recovered in
-      let steps = session_steps t out in
-      let survives = safe_stops m n start rest traced t h.load h.state (opening t h.state ++ steps) (h.survives steps) ops stop left is in
-      session_kept t r s last es out run roll h.load here.1 start left (subst (λ (x : State). Survives t h.load x (opening t x ++ steps) start left) here.0 survives)
+      let pieces = session_pieces t out in
+      let survives = safe_stops m n start rest traced t h.load h.state (opening t h.state ++ pieces) (h.survives pieces) ops stop left is in
+      session_kept t r s last es out run roll h.load here.1 start left (subst (λ (x : State). Survives t h.load x (opening t x ++ pieces) start left) here.0 survives)
 
   silent : (left : Left) → left.shown ≡ [] → HeldByBoth t (length r.titles) left.internal left.external s → KeepFrames start left → Kept left
   silent left none held frames = kept_silent t r s start (session_lines t s out) (ballots_of run) left none held frames

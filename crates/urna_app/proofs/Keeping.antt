@@ -19,7 +19,7 @@ use Rattle.image_codec.proofs.Growing.{also_none}
 use Rattle.state_store.specs.Calls.{AreFound, KeepFrames, both_synced}
 use Rattle.state_store.specs.Held.{HeldAlone, HeldByBoth, bodies_of_both}
 use Rattle.state_store.specs.Played.{Follows, IsSafe, IsStateOrNext, Survives}
-use Rattle.state_store.specs.Steps.{Step, commits_in, commits_reached, lines_reached}
+use Rattle.state_store.specs.Pieces.{Piece, commits_in, commits_reached, lines_reached}
 use Rattle.state_store.specs.declared.load.Load.{Load}
 use Rattle.state_store.proofs.Holding.{hold_encoding}
 use Rattle.station.specs.Cast.{ballots_of, fims_reached}
@@ -27,7 +27,7 @@ use Rattle.station.specs.Output.{Output}
 use Rattle.station.specs.Run.{IsRun}
 use Rattle.station.specs.Setting.{setting_of}
 use Rattle.station.specs.Start.{opening}
-use Rattle.station.specs.Text.{session_steps}
+use Rattle.station.specs.Text.{session_pieces}
 use Rattle.station.proofs.Casting.{run_shown}
 use Rattle.station.proofs.Fims.{AreShown, fims_none}
 use Rattle.urna_app.specs.Headline.{HoldsShown, KeepsVotes, session_lines}
@@ -76,8 +76,8 @@ module _ (t : TablesData) (r : RollData) (s : State) (start : Flashes) (lines : 
 
 module _ (t : TablesData) (r : RollData) (s last : State) (es : List Event) (out : List Output) (run : IsRun (setting_of t r.titles) s es last out) (roll : length s.came ≡ length r.titles) (load : Load)
     (voters : load.section.voters ≡ length r.titles) (start : Flashes) (left : Left) where
-  abbrev steps : List Step
-  steps = opening t s ++ session_steps t out
+  abbrev pieces : List Piece
+  pieces = opening t s ++ session_pieces t out
 
   abbrev lines : List (List ℕ)
   lines = session_lines t s out
@@ -86,12 +86,12 @@ module _ (t : TablesData) (r : RollData) (s last : State) (es : List Event) (out
   Kept = KeepsVotes t r s start lines (ballots_of run) left
 
   -- behind it, in a session
-  kept_shown : 0 < length left.shown → Follows t (length r.titles) s steps left → KeepFrames start left → Kept
+  kept_shown : 0 < length left.shown → Follows t (length r.titles) s pieces left → KeepFrames start left → Kept
   kept_shown some follows frames =
       let n : ℕ = length left.shown in
       let shown = run_shown t r.titles roll run (lines_reached lines n) in
-      let states = commits_in steps in
-      let c = commits_reached steps n in
+      let states = commits_in pieces in
+      let c = commits_reached pieces n in
       let f = fims_reached lines n in
       record {
         rest = follows.rest;
@@ -103,10 +103,10 @@ module _ (t : TablesData) (r : RollData) (s last : State) (es : List Event) (out
         frames = frames;
       }
 
-  pub session_kept : Survives t load s steps start left → Kept
+  pub session_kept : Survives t load s pieces start left → Kept
   session_kept survives = elim (text_cases left.shown) [
     | inl none ↦ kept_silent t r s start lines (ballots_of run) left none (subst (λ (k : ℕ). HeldByBoth t k left.internal left.external s) voters (survives.0 none)) survives.2
-    | inr some ↦ kept_shown some (subst (λ (k : ℕ). Follows t k s steps left) voters (survives.1 some)) survives.2
+    | inr some ↦ kept_shown some (subst (λ (k : ℕ). Follows t k s pieces left) voters (survives.1 some)) survives.2
   ]
 
 -- ---- what was done
@@ -117,10 +117,10 @@ module _ (m n : Told) (start : Flashes) (rest : List Op) (traced : IsTraced m n 
   behind_is ops behind does is = append_cancel_left both_synced behind rest (sym is ∙ traced_is m n start (both_synced ++ rest) ops traced does)
 
   -- what holds of a safe call holds at the stops of the trail
-  pub safe_stops : (t : TablesData) (load : Load) (s : State) (steps : List Step) → IsSafe t load s steps m n
-      → AtEachStop (after both_synced start) rest (Survives t load s steps start)
-  safe_stops t load s steps safe =
-      subst (λ (l : List Op). AtEachStop (after both_synced start) l (Survives t load s steps start)) (behind_is safe.0 safe.2.0 safe.1 safe.2.1) (safe.2.2 start traced.flashes)
+  pub safe_stops : (t : TablesData) (load : Load) (s : State) (pieces : List Piece) → IsSafe t load s pieces m n
+      → AtEachStop (after both_synced start) rest (Survives t load s pieces start)
+  safe_stops t load s pieces safe =
+      subst (λ (l : List Op). AtEachStop (after both_synced start) l (Survives t load s pieces start)) (behind_is safe.0 safe.2.0 safe.1 safe.2.1) (safe.2.2 start traced.flashes)
 
   pub not_done : Does [] m n → ⊥
   not_done does = let is = traced_is m n start (both_synced ++ rest) [] traced does in absurd (cc)

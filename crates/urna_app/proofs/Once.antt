@@ -19,14 +19,12 @@ use Rattle.urna_app.specs.declared.status.Doc.{Doc}
 use Rattle.urna_app.specs.declared.status.Doc.TheVariants as doc
 use Rattle.urna_app.specs.declared.status.Status.{Status}
 use Rattle.urna_app.specs.declared.status.Status.TheVariants as status
+use Rattle.election_tables.proofs.Reading.{one_document}
 
 -- The documents of the same bytes
 
 no_members : (bytes : List ℕ) (ms : Members) → IsNoDocument bytes → IsDocument bytes ms → ⊥
 no_members bytes ms none h = let parsed = h.1 in let not_parsed = none h.0 in absurd (cc)
-
-one_document : (bytes : List ℕ) (ms ns : Members) → IsDocument bytes ms → IsDocument bytes ns → ms ≡ ns
-one_document bytes ms ns h k = let p = h.1 in let q = k.1 in cc
 
 same_rule : (bytes : List ℕ) (k n : ℕ) → BreaksFirst bytes k → BreaksFirst bytes n → k ≡ n
 same_rule bytes k n h i =

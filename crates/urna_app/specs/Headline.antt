@@ -21,14 +21,14 @@ use Rattle.state_store.specs.Calls.{AreFound, KeepFrames, both_synced}
 use Rattle.state_store.specs.Held.{HeldAlone, HeldByBoth}
 use Rattle.state_store.specs.Laws.{AreWhole}
 use Rattle.state_store.specs.Rest.{AreAtRest}
-use Rattle.state_store.specs.Steps.{lines_in}
+use Rattle.state_store.specs.Pieces.{lines_in}
 use Rattle.state_store.specs.Load.{load_of}
 use Rattle.station.specs.Cast.{ballots_of, fims_reached}
 use Rattle.station.specs.Output.{Output}
 use Rattle.station.specs.Run.{IsRun}
 use Rattle.station.specs.Setting.{setting_of}
 use Rattle.station.specs.Start.{opening_line}
-use Rattle.station.specs.Text.{session_steps}
+use Rattle.station.specs.Text.{session_pieces}
 use Rattle.urna_app.specs.Carga.{IsAsked, IsGivenLoad}
 use Rattle.urna_app.specs.Command.{Carga, ToLoad, ToVote, Vota, command_of}
 use Rattle.urna_app.specs.Ending.{Ends}
@@ -65,7 +65,7 @@ pub record KeepsVotes (t : TablesData) (r : RollData) (s : State) (start : Flash
 
 -- the lines of a session: the opening line, and what the run puts out
 abbrev pub session_lines : TablesData → State → List Output → List (List ℕ)
-session_lines t s out = opening_line t s ∷ lines_in (session_steps t out)
+session_lines t s out = opening_line t s ∷ lines_in (session_pieces t out)
 
 -- The words are vota with files that hold these tables, this roll and these keys, and the operations over these flashes were the
 -- two opening syncs, and then these.

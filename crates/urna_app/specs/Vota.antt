@@ -14,7 +14,7 @@ use Rattle.station.specs.Output.{Output}
 use Rattle.station.specs.Run.{IsRun}
 use Rattle.station.specs.Setting.{setting_of}
 use Rattle.station.specs.Start.{FailsToStart, Opens, opening}
-use Rattle.station.specs.Text.{session_steps}
+use Rattle.station.specs.Text.{session_pieces}
 use Rattle.station.specs.declared.station.StartError.{StartError}
 use Rattle.urna_app.specs.Command.{Vota}
 use Rattle.urna_app.specs.Documents.{HasTables, HasRoll, HasKeys, IsFault, IsFirstFault}
@@ -51,8 +51,8 @@ pub record HasVoted (t : TablesData) (r : RollData) (es : List Event) (old new :
   pub between : Told
   pub opens : Opens t r load first old between
   pub run : IsRun (setting_of t r.titles) first es last out
-  pub put : HasPut t load first (session_steps t out) between new
-  pub survives : IsSafe t load first (opening t first ++ session_steps t out) old new
+  pub put : HasPut t load first (session_pieces t out) between new
+  pub survives : IsSafe t load first (opening t first ++ session_pieces t out) old new
 
 -- The same up to a fault of a port.
 pub record HasVotedTo (t : TablesData) (r : RollData) (es : List Event) (port : Port) (old new : Told) : Type 0 where
@@ -63,8 +63,8 @@ pub record HasVotedTo (t : TablesData) (r : RollData) (es : List Event) (port : 
   pub between : Told
   pub opens : Opens t r load first old between
   pub run : IsRun (setting_of t r.titles) first es last out
-  pub stopped : HasStopped t load first (session_steps t out) port between new
-  pub survives : IsSafe t load first (opening t first ++ session_steps t out) old new
+  pub stopped : HasStopped t load first (session_pieces t out) port between new
+  pub survives : IsSafe t load first (opening t first ++ session_pieces t out) old new
 
 -- ---- the endings
 

@@ -1,5 +1,6 @@
 -- Bags of choices: the order in which members come doesn't count
 use Rattle.std.proofs.Common.{◌≡◌, ℕ, zero, suc, ◌+◌, ◌≤◌, ◌<◌, ◌≢◌, Bool, true, false, cond, List, [], ◌∷◌, ◌++◌, length, ◌⊎◌, inl, inr, refl, sym, ap, subst, ◌∙◌, nat_le, nat_lt, arith, ◌==◌}
+use Rattle.std.proofs.lemmas.Bool.{cases_Bool}
 use Rattle.std.proofs.lemmas.Bool.Decides.{nat_tests}
 use Rattle.std.proofs.lemmas.List.Sums.{sum_by-cons}
 use Rattle.std.specs.List.{AllByRecursion}
@@ -7,10 +8,6 @@ use Rattle.vote_kinds.specs.declared.choice.Choice.{Choice}
 use Rattle.vote_kinds.specs.declared.choice.Choice.TheVariants as choice
 use Rattle.vote_kinds.specs.Choice.{choice_le, is_same, kind_of, number_of}
 use Rattle.vote_record.specs.Bag.{IsInOrder, count_of, with_choice, bag_at, with_vote}
-
-pub test_cases : (b : Bool) → (b ≡ true) ⊎ (b ≡ false)
-test_cases true = inl refl
-test_cases false = inr refl
 
 -- the order on two numbers
 abbrev order : ℕ → ℕ → ℕ → ℕ → Bool
@@ -62,7 +59,7 @@ pair : (a b : Choice) (t : List Choice) → cond (choice_le a b) (a ∷ b ∷ t)
 pair a b t = pair_either a b t (choice_le a b) (choice_le b a) refl refl
 
 not_before : (a b d : Choice) → choice_le a d ≡ true → choice_le b d ≡ false → choice_le b a ≡ false
-not_before a b d h g = elim (test_cases (choice_le b a)) [
+not_before a b d h g = elim (cases_Bool (choice_le b a)) [
   | inl e ↦ let f = le_trans b a d e h in absurd (cc)
   | inr e ↦ e
 ]
@@ -104,7 +101,7 @@ count_cons c d bag = sum_by-cons (λ e. cond (is_same c e) 1 0) d bag
 
 pub count_of-with_choice : (c d : Choice) (bag : List Choice) → count_of c (with_choice d bag) ≡ cond (is_same c d) 1 0 + count_of c bag
 count_of-with_choice c d [] = count_cons c d []
-count_of-with_choice c d (e ∷ bag) = elim (test_cases (choice_le d e)) [
+count_of-with_choice c d (e ∷ bag) = elim (cases_Bool (choice_le d e)) [
   | inl t ↦ rw t (count_cons c d (e ∷ bag))
   | inr f ↦ rw f (let more = count_of-with_choice c d bag in let one = count_cons c e (with_choice d bag) in let rest = count_cons c e bag in omega arith)
 ]
@@ -122,14 +119,14 @@ le_refl a = grind (arith, nat_tests)
 
 among : (y x : Choice) (xs : List Choice) → AllByRecursion (λ e. choice_le x e ≡ true) xs → 1 ≤ count_of y xs → choice_le x y ≡ true
 among y x [] all n = absurd (omega arith)
-among y x (e ∷ xs) all n = elim (test_cases (is_same y e)) [
+among y x (e ∷ xs) all n = elim (cases_Bool (is_same y e)) [
   | inl t ↦ subst (λ (z : Choice). choice_le x z ≡ true) (sym (same_true y e t)) all.0
   | inr f ↦ among y x xs all.1 (let c = count_cons y e xs in let d : count_of y (e ∷ xs) ≡ 0 + count_of y xs = c ∙ ap (λ (b : Bool). cond b 1 0 + count_of y xs) f in omega arith)
 ]
 
 -- the first of a bag in order is at or before each member
 first_le : (y x : Choice) (xs : List Choice) → AllByRecursion (λ e. choice_le x e ≡ true) xs → 1 ≤ count_of y (x ∷ xs) → choice_le x y ≡ true
-first_le y x xs all n = elim (test_cases (is_same y x)) [
+first_le y x xs all n = elim (cases_Bool (is_same y x)) [
   | inl t ↦ subst (λ (z : Choice). choice_le x z ≡ true) (sym (same_true y x t)) (le_refl x)
   | inr f ↦ among y x xs all (let c = count_cons y x xs in let d : count_of y (x ∷ xs) ≡ 0 + count_of y xs = c ∙ ap (λ (b : Bool). cond b 1 0 + count_of y xs) f in omega arith)
 ]
@@ -186,7 +183,7 @@ pub with_choice-last : (c : Choice) (bag : List Choice) → IsInOrder bag → Al
 with_choice-last c [] p all = refl
 with_choice-last c (d ∷ bag) p all =
     let rest : d ∷ with_choice c bag ≡ d ∷ (bag ++ c ∷ []) = ap (λ (t : List Choice). d ∷ t) (with_choice-last c bag p.1 all.1) in
-    elim (test_cases (choice_le c d)) [
+    elim (cases_Bool (choice_le c d)) [
       | inl t ↦
           let e : c ≡ d = le_antisym c d t all.0 in
           let front : with_choice c bag ≡ c ∷ bag = with_choice-front c bag (subst (λ (x : Choice). AllByRecursion (λ y. choice_le x y ≡ true) bag) (sym e) p.0) in

@@ -1,12 +1,13 @@
 -- A bag as a sorted vector: where a binary search puts a new member
 use Rattle.std.proofs.Common.{◌≡◌, ℕ, zero, suc, ◌-◌, ◌≤◌, ◌<◌, Bool, true, false, not, List, [], ◌∷◌, ◌++◌, length, get_or, inl, inr, refl, sym, ap, subst, arith}
+use Rattle.std.proofs.lemmas.Bool.{cases_Bool}
 use Rattle.std.specs.List.{AllByRecursion, insert}
 use Rattle.std.specs.List.Sorted.{IsPartitionedBy, IsPartitionPoint}
 use Rattle.vote_kinds.specs.declared.choice.Choice.{Choice}
 use Rattle.vote_kinds.specs.Choice.{choice_le}
 use Rattle.vote_record.specs.Bag.{IsInOrder, with_choice}
 use Rattle.vote_record.specs.BagData.{BagData, IsStored}
-use Rattle.vote_record.proofs.Bags.{test_cases, le_refl, le_trans, in_order-with_choice, length-with_choice, with_choice-last}
+use Rattle.vote_record.proofs.Bags.{le_refl, le_trans, in_order-with_choice, length-with_choice, with_choice-last}
 use Rattle.std.proofs.lemmas.List.{get_or_read}
 use Rattle.std.proofs.lemmas.List.Elements.{recursion_from_All}
 
@@ -45,7 +46,7 @@ not_false false h = sym h
 
 -- the members that do not come after a choice stand in front
 pub partitioned : (c : Choice) (bag : List Choice) → IsInOrder bag → IsPartitionedBy (λ y. not (choice_le c y)) bag
-partitioned c bag order i j d le lt h = elim (test_cases (choice_le c (get_or bag i d))) [
+partitioned c bag order i j d le lt h = elim (cases_Bool (choice_le c (get_or bag i d))) [
   | inl t ↦ let e = le_trans c (get_or bag i d) (get_or bag j d) t (ordered_at bag i j d order le lt) in let f = not_true (choice_le c (get_or bag j d)) h in absurd (cc)
   | inr f ↦ ap not f
 ]

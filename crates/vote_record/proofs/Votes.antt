@@ -1,5 +1,6 @@
 -- The votes of a record are choices of their panels
 use Rattle.std.proofs.Common.{◌≡◌, ℕ, zero, suc, Bool, true, false, cond, List, [], ◌∷◌, inl, inr, refl, sym, ap, subst, arith}
+use Rattle.std.proofs.lemmas.Bool.{cases_Bool}
 use Rattle.std.specs.List.{AllByRecursion}
 use Rattle.election_tables.specs.TablesData.{TablesData}
 use Rattle.vote_kinds.specs.declared.choice.Choice.{Choice}
@@ -7,7 +8,7 @@ use Rattle.vote_kinds.specs.Choice.{choice_le, is_same}
 use Rattle.vote_record.specs.Bag.{count_of, with_choice, bag_at, with_vote}
 use Rattle.vote_record.specs.RdvData.{RdvData, IsVote, empty_record, with_vote_in}
 use Rattle.vote_record.specs.Laws.{HasOnlyVotes}
-use Rattle.vote_record.proofs.Bags.{test_cases, count_cons, same_true}
+use Rattle.vote_record.proofs.Bags.{count_cons, same_true}
 use Rattle.vote_record.proofs.Empty.{bag_at-replicate}
 
 -- what is so of all members and of one more is so of the bag with it
@@ -38,7 +39,7 @@ keeps_to_votes t r panel c has vote other = all-with_vote (IsVote t) panel other
 -- a choice of which is not so what is so of all members is none of them
 none_counted : (P : Choice → Type 0) (c : Choice) (bag : List Choice) → AllByRecursion P bag → ¬ P c → count_of c bag ≡ 0
 none_counted P c [] all none = refl
-none_counted P c (d ∷ bag) all none = elim (test_cases (is_same c d)) [
+none_counted P c (d ∷ bag) all none = elim (cases_Bool (is_same c d)) [
   | inl same ↦ absurd (none (subst P (sym (same_true c d same)) all.0))
   | inr other ↦
       let first : cond {A = ℕ} (is_same c d) 1 0 ≡ 0 = ap (λ (b : Bool). cond {A = ℕ} b 1 0) other in

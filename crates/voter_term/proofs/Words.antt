@@ -4,7 +4,7 @@ use Rattle.std.specs.List.{after_last, prefix_len, suffix_len}
 use Rattle.std.proofs.lemmas.List.{take-append-le, take_all, length-append, drop-append-le, append-nil, drop_all, length-take-le, reverse-append, length-reverse}
 use Rattle.std.proofs.lemmas.List.Elements.{filter-append}
 use Rattle.std.proofs.lemmas.List.Sums.{fold-append, prefix_len-le-length}
-use Rattle.std.proofs.lemmas.Bool.{ltb-true, ltb-false, false_from_ne_true}
+use Rattle.std.proofs.lemmas.Bool.{ltb-true, ltb-false, false_from_ne_true, cases_Bool}
 use Rattle.key_script.specs.declared.keys.Key.{Key}
 use Rattle.key_script.specs.declared.keys.Key.TheVariants as key
 use Rattle.vote_kinds.specs.declared.choice.Field.TheVariants as field
@@ -14,10 +14,6 @@ use Rattle.voter_term.specs.Panel.{next_field}
 
 test_is_false : (m n : ℕ) → m ≡ n → ltb m n ≡ false
 test_is_false m n e = false_from_ne_true (ltb m n) (λ t. omega (arith, ltb-true m n t))
-
-test_cases : (b : Bool) → (b ≡ true) ⊎ (b ≡ false)
-test_cases true = inl refl
-test_cases false = inr refl
 
 suffix_len-more : {A : Type 0} (q : A → Bool) (w : List A) (k : A) → suffix_len q (w ++ k ∷ []) ≡ cond (q k) (1 + suffix_len q w) 0
 suffix_len-more q w k = ap (prefix_len q) (reverse-append w (k ∷ []))
@@ -53,7 +49,7 @@ longer n d e ds t =
 -- one more digit
 digits_more : (n d : ℕ) (e : ℕ) (ds : List ℕ) → 0 < n → field_of_digits (take n ((e ∷ ds) ++ d ∷ [])) ≡ next_field n (field_of_digits (take n (e ∷ ds))) (key.Digit d)
 digits_more n d e ds h =
-    elim (test_cases (ltb (length (e ∷ ds)) n)) [
+    elim (cases_Bool (ltb (length (e ∷ ds)) n)) [
       | inl t ↦
           let less = ltb-true _ _ t in
           ap field_of_digits (take_all n ((e ∷ ds) ++ d ∷ []) (omega (arith, length-append (e ∷ ds) (d ∷ []))))

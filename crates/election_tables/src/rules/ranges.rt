@@ -8,7 +8,7 @@ use super::distinct::pairs_differ;
 use super::fields::{is_name, is_valid_date, is_within};
 use crate::document::{CandidateEntry, Document, PartyEntry, SectionEntry};
 use crate::limits::{
-    GREATEST_PLACE, GREATEST_PROCESS, MOST_CANDIDATES, MOST_OFFICES, MOST_PARTIES, MOST_SECTIONS,
+    GREATEST_PROCESS, GREATEST_SECTION, MOST_CANDIDATES, MOST_OFFICES, MOST_PARTIES, MOST_SECTIONS,
     MOST_VOTERS,
 };
 use std::alloc::{AllocError, Global};
@@ -16,8 +16,8 @@ use std::alloc::{AllocError, Global};
 fn section_in_range(section: &SectionEntry) -> bool
     ensures { result ≡ section_in_range section.now }
 {
-    is_within(section.zone, 1, GREATEST_PLACE)
-        && is_within(section.number, 1, GREATEST_PLACE)
+    is_within(section.zone, 1, GREATEST_SECTION)
+        && is_within(section.number, 1, GREATEST_SECTION)
         && is_within(section.voters, 1, MOST_VOTERS)
 }
 

@@ -1,6 +1,6 @@
 use Rattle.std.proofs.Common.{◌≡◌, ◌↔◌, ℕ, Bool, true, IsTrue, List, length, subst}
 use Rattle.urna_outside.specs.Flash.{flash_of, part}
-use Rattle.gate_slot.specs.Slot.{header_size, padding_place, padding_size}
+use Rattle.gate_slot.specs.Slot.{header_size, padding_offset, padding_size}
 use Rattle.twin_image.specs.Frame.{HasFrame, padding}
 use Rattle.image_codec.specs.Layout.{body_size}
 use Rattle.state_store.proofs.Looking.{looked, looked_twice, unlike, alike}
@@ -20,7 +20,7 @@ pub returns-clause-done : goal.returns-clause-done
 returns-clause-done g c = looked_twice _ _ _ c.stand_at.ensures.done (looked_twice _ _ _ c.stand_at-2.ensures.done c.stand_at-3.ensures.done)
 
 all_three : (header content : List ℕ) (first second third : Bool) → length header ≡ header_size → first ≡ true → second ≡ true
-    → (IsTrue first ↔ (part content 0 (length header) ≡ header)) → (IsTrue second ↔ (part content (padding_place body_size 0) padding_size ≡ padding)) → (IsTrue third ↔ (part content (padding_place body_size 1) padding_size ≡ padding))
+    → (IsTrue first ↔ (part content 0 (length header) ≡ header)) → (IsTrue second ↔ (part content (padding_offset body_size 0) padding_size ≡ padding)) → (IsTrue third ↔ (part content (padding_offset body_size 1) padding_size ≡ padding))
     → (IsTrue third ↔ HasFrame body_size header content)
 all_three header content first second third long one two head first_padding second_padding = (
   λ (yes : IsTrue third). record {

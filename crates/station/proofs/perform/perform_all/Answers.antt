@@ -2,17 +2,17 @@ use Rattle.std.proofs.Common.{◌+◌, List, take, drop, get_or, arith, subst}
 use Rattle.std.proofs.lemmas.List.{take_all}
 use Rattle.turnout.specs.declared.phase.Phase.TheVariants as phase
 use Rattle.state_store.specs.Played.{HasPut, HasStopped}
-use Rattle.state_store.specs.Steps.{state_after}
+use Rattle.state_store.specs.Pieces.{state_after}
 use Rattle.state_store.specs.Store.{Keeps}
 use Rattle.state_store.specs.declared.load.Load.{Load}
 use Rattle.state_store.proofs.Playing.{stopped_within}
 use Rattle.station.specs.Acts.{output_of, outputs_of}
-use Rattle.station.specs.Text.{output_steps, session_steps}
+use Rattle.station.specs.Text.{output_pieces, session_pieces}
 use Rattle.station.specs.declared.perform.Act.{Act}
 use Rattle.station.specs.declared.perform.Act.TheVariants.{Say}
 use Rattle.station.specs.declared.line.Line.TheVariants as line
 use Rattle.station.proofs.Doing.{acts_begin, acts_go_on}
-use Rattle.station.proofs.Steps.{acts_rest, full_steps}
+use Rattle.station.proofs.Pieces.{acts_rest, full_pieces}
 use Rattle.station.proofs.perform.perform_all.Goals as goal
 
 pub loop-act-init : goal.loop-act-init
@@ -30,11 +30,11 @@ returns-in-Err-clause-puts g c s kept =
     let h = c.loop-act.invariant in
     let b = g.M.Machine.told c.loop-act.m in
     let end = g.M.Machine.told c.perform.new.m in
-    let front = session_steps t (outputs_of u (take i acts)) in
-    let step = output_steps t (output_of u act) in
-    stopped_within t load s front step (session_steps t (outputs_of u (drop (i + 1) acts))) (session_steps t (outputs_of u acts)) c.in-Err.port _ _ _
-    (acts_rest t u acts i (Say (line.Poll phase.Ready 0)) c.loop-act-test.true) (full_steps t (outputs_of u (take i acts))) (h.put s kept)
-    (subst (λ (l : Load). HasStopped t l (state_after s front) step c.in-Err.port b end) h.load (c.in-Err.ensures.puts (state_after s front) (h.kept s kept)))
+    let front = session_pieces t (outputs_of u (take i acts)) in
+    let piece = output_pieces t (output_of u act) in
+    stopped_within t load s front piece (session_pieces t (outputs_of u (drop (i + 1) acts))) (session_pieces t (outputs_of u acts)) c.in-Err.port _ _ _
+    (acts_rest t u acts i (Say (line.Poll phase.Ready 0)) c.loop-act-test.true) (full_pieces t (outputs_of u (take i acts))) (h.put s kept)
+    (subst (λ (l : Load). HasStopped t l (state_after s front) piece c.in-Err.port b end) h.load (c.in-Err.ensures.puts (state_after s front) (h.kept s kept)))
 
 pub loop-act-preserved : goal.loop-act-preserved
 loop-act-preserved g c =
@@ -47,12 +47,12 @@ pub returns-clause-kept : goal.returns-clause-kept
 returns-clause-kept g c s kept =
     let acts = c.args.acts.now in
     let all = take_all c.loop-act.act-index acts (omega arith) in
-    subst (λ (l : List Act). Keeps c.args.tables.now (g.M.Machine.told c.loop-act.m) c.loop-act.store (state_after s (session_steps c.args.tables.now (outputs_of c.args.session.now.standing.state l)))) all
+    subst (λ (l : List Act). Keeps c.args.tables.now (g.M.Machine.told c.loop-act.m) c.loop-act.store (state_after s (session_pieces c.args.tables.now (outputs_of c.args.session.now.standing.state l)))) all
     (c.loop-act.invariant.kept s kept)
 
 pub returns-clause-puts : goal.returns-clause-puts
 returns-clause-puts g c s kept =
     let acts = c.args.acts.now in
     let all = take_all c.loop-act.act-index acts (omega arith) in
-    subst (λ (l : List Act). HasPut c.args.tables.now c.args.store.load s (session_steps c.args.tables.now (outputs_of c.args.session.now.standing.state l)) (g.M.Machine.told c.args.m.now) (g.M.Machine.told c.loop-act.m)) all
+    subst (λ (l : List Act). HasPut c.args.tables.now c.args.store.load s (session_pieces c.args.tables.now (outputs_of c.args.session.now.standing.state l)) (g.M.Machine.told c.args.m.now) (g.M.Machine.told c.loop-act.m)) all
     (c.loop-act.invariant.put s kept)

@@ -8,7 +8,7 @@ use Rattle.image_codec.specs.Encoding.{IsStateOf}
 use Rattle.image_codec.specs.State.{State}
 use Rattle.state_store.specs.Played.{HasPut, HasStopped}
 use Rattle.state_store.specs.Rest.{AreAtRest}
-use Rattle.state_store.specs.Steps.{telling}
+use Rattle.state_store.specs.Pieces.{telling}
 use Rattle.state_store.specs.declared.load.Load.{Load}
 use Rattle.state_store.proofs.Playing.{put_told, stopped_commit, stopped_told}
 use Rattle.state_store.proofs.Stored.{stored}

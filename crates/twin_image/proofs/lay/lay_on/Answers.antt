@@ -1,7 +1,7 @@
 use Rattle.std.proofs.Common.{◌≤◌, ◌∷◌, ◌++◌, sym, ◌∙◌, subst, arith}
 use Rattle.urna_outside.specs.Flash.{Put, Sync}
 use Rattle.urna_outside.specs.Told.{Sizes, size_of}
-use Rattle.gate_slot.specs.Slot.{room, body_place, fill_ops, publish_ops}
+use Rattle.gate_slot.specs.Slot.{room, body_offset, fill_ops, publish_ops}
 use Rattle.gate_slot.proofs.Fronts.{fronts_first, fronts_later}
 use Rattle.twin_image.specs.Lay.{frame_ops}
 use Rattle.twin_image.proofs.Laying.{laid_shut, laid_fill, laid_frame, laid, filled_twins, body_framed, twins_laid, frame_laid}
@@ -72,7 +72,7 @@ returns-in_default-clause-cut g c = λ fs told.
     let d = c.args.dev in
     let size = g.row.SIZE in
     let body = c.args.body.now in
-    let cut = c.in_default.ensures.cut fs told (Put d (body_place size 0) body) (Sync d ∷ fill_ops size d 1 body) in
+    let cut = c.in_default.ensures.cut fs told (Put d (body_offset size 0) body) (Sync d ∷ fill_ops size d 1 body) in
     fronts_first _ (publish_ops size d 0 ++ publish_ops size d 1) _ _ (fronts_first _ (frame_ops size d c.args.header.now) _ _ cut)
 
 pub returns-in_default-fill_both-clause-cut : goal.returns-in_default-fill_both-clause-cut

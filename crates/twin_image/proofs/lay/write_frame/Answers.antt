@@ -1,7 +1,7 @@
 use Rattle.std.proofs.Common.{[], ◌∷◌, rules}
 use Rattle.std.proofs.lemmas.Result.{on_err_weaker, on_ok_weaker}
 use Rattle.urna_outside.specs.Flash.{Put, Sync}
-use Rattle.gate_slot.specs.Slot.{padding_place}
+use Rattle.gate_slot.specs.Slot.{padding_offset}
 use Rattle.twin_image.specs.Frame.{padding}
 use Rattle.gate_slot.proofs.Fronts.{fronts_later, fronts_none, fronts_torn}
 use Rattle.twin_image.proofs.Writing.{framed_first, framed_second, framed_third, frame_synced}
@@ -42,22 +42,22 @@ returns-clause-exact g c =
 pub returns-in_err-write-clause-cut : goal.returns-in_err-write-clause-cut
 returns-in_err-write-clause-cut g c =
     let d = c.args.dev in
-    let more = Put d (padding_place g.row.SIZE 0) padding ∷ Put d (padding_place g.row.SIZE 1) padding ∷ Sync d ∷ [] in
+    let more = Put d (padding_offset g.row.SIZE 0) padding ∷ Put d (padding_offset g.row.SIZE 1) padding ∷ Sync d ∷ [] in
     let front = fronts_torn d 0 c.args.header.now more _ _ c.in_err-write.ensures.torn in search rules
 
 pub returns-in_err-write-2-clause-cut : goal.returns-in_err-write-2-clause-cut
 returns-in_err-write-2-clause-cut g c =
     let d = c.args.dev in
     let torn = rw (c.padding.ensures, c.zeros-padding.ensures) at c.in_err-write-2.ensures.torn in
-    let more = Put d (padding_place g.row.SIZE 1) padding ∷ Sync d ∷ [] in
-    let front = fronts_later _ _ _ _ _ c.in_ok-write.ensures.ok (fronts_torn d (padding_place g.row.SIZE 0) padding more _ _ torn) in search rules
+    let more = Put d (padding_offset g.row.SIZE 1) padding ∷ Sync d ∷ [] in
+    let front = fronts_later _ _ _ _ _ c.in_ok-write.ensures.ok (fronts_torn d (padding_offset g.row.SIZE 0) padding more _ _ torn) in search rules
 
 pub returns-in_err-write-3-clause-cut : goal.returns-in_err-write-3-clause-cut
 returns-in_err-write-3-clause-cut g c =
     let d = c.args.dev in
     let second = rw (c.padding.ensures, c.zeros-padding.ensures) at c.in_ok-write-2.ensures.ok in
     let torn = rw (c.padding-2.ensures, c.zeros-padding.ensures) at c.in_err-write-3.ensures.torn in
-    let last = fronts_torn d (padding_place g.row.SIZE 1) padding (Sync d ∷ []) _ _ torn in
+    let last = fronts_torn d (padding_offset g.row.SIZE 1) padding (Sync d ∷ []) _ _ torn in
     let front = fronts_later _ _ _ _ _ c.in_ok-write.ensures.ok (fronts_later _ _ _ _ _ second last) in search rules
 
 pub returns-clause-cut : goal.returns-clause-cut

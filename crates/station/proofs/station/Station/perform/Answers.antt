@@ -1,14 +1,14 @@
 use Rattle.std.proofs.Common.{◌≡◌, List, sym, ap, subst, ◌∙◌}
 use Rattle.image_codec.specs.Encoding.{IsStateOf}
 use Rattle.state_store.specs.Played.{HasPut, HasStopped}
-use Rattle.state_store.specs.Steps.{Step, state_after}
+use Rattle.state_store.specs.Pieces.{Piece, state_after}
 use Rattle.state_store.specs.Store.{IsLoadedWith, Keeps, StoreData}
 use Rattle.station.specs.Acts.{outputs_of}
 use Rattle.station.specs.Doing.{AreDoable}
 use Rattle.station.specs.Press.{Standing}
 use Rattle.station.specs.Station.{IsStationed, StationData}
-use Rattle.station.specs.Text.{session_steps}
-use Rattle.station.proofs.Doing.{asked_acts, asked_doable, asked_kept, asked_loaded, asked_state, asked_stationed, asked_steps}
+use Rattle.station.specs.Text.{session_pieces}
+use Rattle.station.proofs.Doing.{asked_acts, asked_doable, asked_kept, asked_loaded, asked_state, asked_stationed, asked_pieces}
 use Rattle.station.proofs.station.Station.perform.Goals as goal
 
 pub perform_all-requires-clause-acts : goal.perform_all-requires-clause-acts
@@ -65,7 +65,7 @@ returns-in-Ok-clause-stationed g c =
     subst (λ (y : StoreData). Keeps t told y asked.0.standing.state) (sym store) (asked_kept t r told asked.0 asked.1 x c.args.acts.now asked.2) in
     subst (λ (y : StationData). IsStationed t r end (record { standing = y.standing; digits = y.digits; store = c.in-Ok.store })) (sym c.self.view_is)
     (asked_stationed t r told asked.0 asked.1 x c.args.acts.now asked.2 end c.in-Ok.store (c.in-Ok.ensures.load ∙ ap (λ (y : StoreData). y.load) store)
-    (subst (λ (y : Standing). Keeps t end c.in-Ok.store (state_after asked.0.standing.state (session_steps t (outputs_of y.state c.args.acts.now)))) standing
+    (subst (λ (y : Standing). Keeps t end c.in-Ok.store (state_after asked.0.standing.state (session_pieces t (outputs_of y.state c.args.acts.now)))) standing
     (c.in-Ok.ensures.kept asked.0.standing.state kept)))
 
 pub returns-in-Ok-clause-puts : goal.returns-in-Ok-clause-puts
@@ -78,9 +78,9 @@ returns-in-Ok-clause-puts g c from event asked =
     let store : c.self.inside.store ≡ x.store = ap (λ (y : StationData). y.store) c.self.view_is in
     let end = g.M.Machine.told c.perform_all.new.m in
     let kept = subst (λ (y : StoreData). Keeps t told y from.standing.state) (sym store) (asked_kept t r told from event x c.args.acts.now asked) in
-    let steps = ap (λ (y : Standing). session_steps t (outputs_of y.state c.args.acts.now)) standing ∙ asked_steps t r told from event x c.args.acts.now asked in
-    subst (λ (l : List Step). HasPut t from.store.load from.standing.state l told end) steps
-    (subst (λ (y : StoreData). HasPut t y.load from.standing.state (session_steps t (outputs_of c.self.inside.session.standing.state c.args.acts.now)) told end) (store ∙ asked.store)
+    let pieces = ap (λ (y : Standing). session_pieces t (outputs_of y.state c.args.acts.now)) standing ∙ asked_pieces t r told from event x c.args.acts.now asked in
+    subst (λ (l : List Piece). HasPut t from.store.load from.standing.state l told end) pieces
+    (subst (λ (y : StoreData). HasPut t y.load from.standing.state (session_pieces t (outputs_of c.self.inside.session.standing.state c.args.acts.now)) told end) (store ∙ asked.store)
     (c.in-Ok.ensures.puts from.standing.state kept))
 
 pub returns-in-Err-clause-puts : goal.returns-in-Err-clause-puts
@@ -93,7 +93,7 @@ returns-in-Err-clause-puts g c from event asked =
     let store : c.self.inside.store ≡ x.store = ap (λ (y : StationData). y.store) c.self.view_is in
     let end = g.M.Machine.told c.perform_all.new.m in
     let kept = subst (λ (y : StoreData). Keeps t told y from.standing.state) (sym store) (asked_kept t r told from event x c.args.acts.now asked) in
-    let steps = ap (λ (y : Standing). session_steps t (outputs_of y.state c.args.acts.now)) standing ∙ asked_steps t r told from event x c.args.acts.now asked in
-    subst (λ (l : List Step). HasStopped t from.store.load from.standing.state l c.in-Err.port told end) steps
-    (subst (λ (y : StoreData). HasStopped t y.load from.standing.state (session_steps t (outputs_of c.self.inside.session.standing.state c.args.acts.now)) c.in-Err.port told end) (store ∙ asked.store)
+    let pieces = ap (λ (y : Standing). session_pieces t (outputs_of y.state c.args.acts.now)) standing ∙ asked_pieces t r told from event x c.args.acts.now asked in
+    subst (λ (l : List Piece). HasStopped t from.store.load from.standing.state l c.in-Err.port told end) pieces
+    (subst (λ (y : StoreData). HasStopped t y.load from.standing.state (session_pieces t (outputs_of c.self.inside.session.standing.state c.args.acts.now)) c.in-Err.port told end) (store ∙ asked.store)
     (c.in-Err.ensures.puts from.standing.state kept))

@@ -12,15 +12,15 @@ use Rattle.station.specs.Press.{Standing, press}
 use Rattle.station.specs.Run.{IsRun}
 use Rattle.station.specs.Stands.{StandsFor, StandsOn}
 use Rattle.station.specs.Station.{StationData}
-use Rattle.station.specs.Text.{session_steps}
+use Rattle.station.specs.Text.{session_pieces}
 use Rattle.station.proofs.Performing.{tables_setting}
 use Rattle.station.proofs.Reaching.{press_run}
 use Rattle.station.proofs.Stands.{goes, stands_on}
 use Rattle.station.proofs.station.Station.press.Goals as goal
 
 module _ (t : TablesData) (load : Load) (v : Setting) (setting : IsSetting v) (x : Standing) (e : Event) (a b : Told) where
-  pressed_on : (r : Result StationData Port) → IfOk r (λ next. next.standing ≡ (press v x e).standing) → Puts {E = Port} (λ p. p) r t load x.state (session_steps t (press v x e).out) a b
-      → IfOk r (λ next. (put : List Output) × HasPut t load x.state (session_steps t put) a b
+  pressed_on : (r : Result StationData Port) → IfOk r (λ next. next.standing ≡ (press v x e).standing) → Puts {E = Port} (λ p. p) r t load x.state (session_pieces t (press v x e).out) a b
+      → IfOk r (λ next. (put : List Output) × HasPut t load x.state (session_pieces t put) a b
       × ((s : State) (es : List Event) (out : List Output) → StandsFor v s x es out → StandsOn v s next.standing.mode next.standing (es ++ e ∷ []) (out ++ put)))
   pressed_on (Ok next) standing put = (
     (press v x e).out,
@@ -30,8 +30,8 @@ module _ (t : TablesData) (load : Load) (v : Setting) (setting : IsSetting v) (x
   )
   pressed_on (Err p) standing put = tt
 
-  pressed_cut : (r : Result StationData Port) → Puts {E = Port} (λ p. p) r t load x.state (session_steps t (press v x e).out) a b
-      → IfErr r (λ port. (put : List Output) × HasStopped t load x.state (session_steps t put) port a b
+  pressed_cut : (r : Result StationData Port) → Puts {E = Port} (λ p. p) r t load x.state (session_pieces t (press v x e).out) a b
+      → IfErr r (λ port. (put : List Output) × HasStopped t load x.state (session_pieces t put) port a b
       × ((s : State) (es : List Event) (out : List Output) → StandsFor v s x es out → (u : State) × IsRun v s (es ++ e ∷ []) u (out ++ put)))
   pressed_cut (Ok next) put = tt
   pressed_cut (Err p) stopped = (

@@ -16,11 +16,11 @@ use Rattle.station.specs.Setting.{setting_of}
 use Rattle.station.specs.Press.{Standing, press, after, outputs, idle_at}
 use Rattle.station.specs.Station.{IsAsked, IsStationed, StationData}
 use Rattle.station.specs.declared.perform.Act.{Act}
-use Rattle.station.specs.Text.{session_steps}
+use Rattle.station.specs.Text.{session_pieces}
 use Rattle.station.proofs.Doing.{nothing_put, nothing_stationed}
 use Rattle.station.proofs.Performing.{tables_setting}
-use Rattle.station.proofs.Reaching.{after_one, is_idle, reached_end, steps_after, steps_one, steps_rest}
-use Rattle.station.proofs.Steps.{full_steps}
+use Rattle.station.proofs.Reaching.{after_one, is_idle, reached_end, pieces_after, pieces_one, pieces_rest}
+use Rattle.station.proofs.Pieces.{full_pieces}
 use Rattle.station.proofs.station.Station.run.Invariants.{AreDone}
 use Rattle.station.proofs.station.Station.run.Goals as goal
 
@@ -42,12 +42,12 @@ loop-event-init g c =
 event_done : (t : TablesData) (r : RollData) (from x y : StationData) (script yielded left rest : List Event) (e : Event) (old before new : Told)
     → AreDone t r (setting_of t r.titles) from script yielded left x old before → left ≡ e ∷ rest
     → y.standing ≡ (press (setting_of t r.titles) x.standing e).standing → IsStationed t r new y → y.store.load ≡ x.store.load
-    → HasPut t x.store.load x.standing.state (session_steps t (press (setting_of t r.titles) x.standing e).out) before new
+    → HasPut t x.store.load x.standing.state (session_pieces t (press (setting_of t r.titles) x.standing e).out) before new
     → AreDone t r (setting_of t r.titles) from script (yielded ++ e ∷ []) rest y old new
 event_done t r from x y script yielded left rest e old before new done split standing stationed load put =
     let v = setting_of t r.titles in
-    let front = session_steps t (outputs v from.standing yielded) in
-    let step = session_steps t (press v x.standing e).out in
+    let front = session_pieces t (outputs v from.standing yielded) in
+    let piece = session_pieces t (press v x.standing e).out in
     let state : x.standing.state ≡ (after v from.standing yielded).state = ap (λ (z : Standing). z.state) done.standing in
     record {
       place = yielded_more _ _ _ _ _ done.place split;
@@ -56,10 +56,10 @@ event_done t r from x y script yielded left rest e old before new done split sta
       load = load ∙ done.load;
       devices = subst AreDevices (sym put.does.sizes) done.devices;
       put =
-          put_to t from.store.load from.standing.state front step (session_steps t (outputs v from.standing (yielded ++ e ∷ []))) old before new
-          (steps_one t v from.standing x.standing yielded e done.standing) (full_steps t (outputs v from.standing yielded)) done.put
-          (subst (λ (s : State). HasPut t from.store.load s step before new) (state ∙ sym (steps_after t v from.standing yielded))
-          (subst (λ (l : Load). HasPut t l x.standing.state step before new) done.load put));
+          put_to t from.store.load from.standing.state front piece (session_pieces t (outputs v from.standing (yielded ++ e ∷ []))) old before new
+          (pieces_one t v from.standing x.standing yielded e done.standing) (full_pieces t (outputs v from.standing yielded)) done.put
+          (subst (λ (s : State). HasPut t from.store.load s piece before new) (state ∙ sym (pieces_after t v from.standing yielded))
+          (subst (λ (l : Load). HasPut t l x.standing.state piece before new) done.load put));
     }
 
 no_acts : (acts : List Act) → true ≡ (length acts == 0) → acts ≡ []
@@ -126,20 +126,20 @@ returns-in-Err-clause-cut g c =
     let idle = is_idle v from.standing c.requires.stationed.stands c.requires.idle in
     let all : c.loop-event.yielded ++ e ∷ c.next.new.self ≡ script =
     ap (λ (es : List Event). c.loop-event.yielded ++ es) (sym c.in-Some.ensures.steps) ∙ done.place in
-    let rest = steps_rest t v from.standing x.standing c.loop-event.yielded c.next.new.self e done.standing in
-    let front = session_steps t (outputs v from.standing c.loop-event.yielded) in
-    let step = session_steps t (press v x.standing e).out in
+    let rest = pieces_rest t v from.standing x.standing c.loop-event.yielded c.next.new.self e done.standing in
+    let front = session_pieces t (outputs v from.standing c.loop-event.yielded) in
+    let piece = session_pieces t (press v x.standing e).out in
     let state : x.standing.state ≡ (after v from.standing c.loop-event.yielded).state = ap (λ (y : Standing). y.state) done.standing in
-    let stopped : HasStopped t load s (session_steps t (outputs v from.standing (c.loop-event.yielded ++ e ∷ c.next.new.self))) c.in-Err.port old new =
-    stopped_within t load s front step rest.0 _ c.in-Err.port old before new rest.1 (full_steps t (outputs v from.standing c.loop-event.yielded)) done.put
-    (subst (λ (u : State). HasStopped t load u step c.in-Err.port before new) (state ∙ sym (steps_after t v from.standing c.loop-event.yielded))
-    (subst (λ (l : Load). HasStopped t l x.standing.state step c.in-Err.port before new) done.load (c.in-Err.ensures.puts x e asked))) in
+    let stopped : HasStopped t load s (session_pieces t (outputs v from.standing (c.loop-event.yielded ++ e ∷ c.next.new.self))) c.in-Err.port old new =
+    stopped_within t load s front piece rest.0 _ c.in-Err.port old before new rest.1 (full_pieces t (outputs v from.standing c.loop-event.yielded)) done.put
+    (subst (λ (u : State). HasStopped t load u piece c.in-Err.port before new) (state ∙ sym (pieces_after t v from.standing c.loop-event.yielded))
+    (subst (λ (l : Load). HasStopped t l x.standing.state piece c.in-Err.port before new) done.load (c.in-Err.ensures.puts x e asked))) in
     let end = reached_end v s script (after v (idle_at s) script) valid refl in (
       (after v (idle_at s) script).state,
       outputs v (idle_at s) script,
       end.0,
-      subst (λ (y : Standing). HasStopped t load s (session_steps t (outputs v y script)) c.in-Err.port old new) idle
-          (subst (λ (es : List Event). HasStopped t load s (session_steps t (outputs v from.standing es)) c.in-Err.port old new) all stopped),
+      subst (λ (y : Standing). HasStopped t load s (session_pieces t (outputs v y script)) c.in-Err.port old new) idle
+          (subst (λ (es : List Event). HasStopped t load s (session_pieces t (outputs v from.standing es)) c.in-Err.port old new) all stopped),
     )
 
 pub returns-clause-run : goal.returns-clause-run
@@ -163,8 +163,8 @@ returns-clause-run g c =
       outputs v (idle_at s) script,
       end.0,
       end.1,
-      subst (λ (y : Standing). HasPut t load s (session_steps t (outputs v y script)) old new) idle
-          (subst (λ (es : List Event). HasPut t load s (session_steps t (outputs v from.standing es)) old new) all done.put),
+      subst (λ (y : Standing). HasPut t load s (session_pieces t (outputs v y script)) old new) idle
+          (subst (λ (es : List Event). HasPut t load s (session_pieces t (outputs v from.standing es)) old new) all done.put),
     )
 
 pub returns-clause-stationed : goal.returns-clause-stationed

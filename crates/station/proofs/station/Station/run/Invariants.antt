@@ -8,7 +8,7 @@ use Rattle.state_store.specs.Store.{AreDevices}
 use Rattle.station.specs.Press.{after, outputs}
 use Rattle.station.specs.Setting.{Setting, setting_of}
 use Rattle.station.specs.Station.{IsStationed, StationData}
-use Rattle.station.specs.Text.{session_steps}
+use Rattle.station.specs.Text.{session_pieces}
 use Rattle.station.proofs.station.Station.run.Given as goal
 
 -- the events so far, of a script, are done
@@ -18,7 +18,7 @@ pub record AreDone (t : TablesData) (r : RollData) (v : Setting) (from : Station
   pub stationed : IsStationed t r new x
   pub load : x.store.load ≡ from.store.load
   pub devices : AreDevices new.sizes
-  pub put : HasPut t from.store.load from.standing.state (session_steps t (outputs v from.standing yielded)) old new
+  pub put : HasPut t from.store.load from.standing.state (session_pieces t (outputs v from.standing yielded)) old new
 
 abbrev pub invariant-loop-event : goal.invariant-loop-event
 invariant-loop-event g l =

@@ -1,4 +1,4 @@
--- The steps of a session: their lines, their states, and what is kept over them
+-- The pieces of a session: their lines, their states, and what is kept over them
 use Rattle.std.proofs.Common.{◌≡◌, ◌<◌, ◌+◌, ℕ, List, [], ◌∷◌, ◌++◌, map, length, take, drop, get_or, refl, sym, ap, subst, ◌∙◌, arith, length-append}
 use Rattle.std.specs.Prelude.{codes}
 use Rattle.std.specs.Fmt.{decimal}
@@ -13,7 +13,7 @@ use Rattle.election_tables.specs.TablesData.{TablesData}
 use Rattle.turnout.specs.Turnout.{number_came}
 use Rattle.image_codec.specs.State.{State}
 use Rattle.state_store.specs.Rest.{AreAtRest}
-use Rattle.state_store.specs.Steps.{AreFull, Step, quiet, state_after}
+use Rattle.state_store.specs.Pieces.{AreFull, Piece, quiet, state_after}
 use Rattle.state_store.specs.Store.{IsLoadedWith, Keeps, StoreData}
 use Rattle.state_store.proofs.Playing.{put_shown}
 use Rattle.state_store.proofs.Stored.{stored}
@@ -34,7 +34,7 @@ use Rattle.station.specs.declared.line.Title.TheVariants as title
 use Rattle.station.specs.Acts.{output_of, outputs_of}
 use Rattle.station.specs.Doing.{kept_after}
 use Rattle.station.specs.Output.{Output, Says, Commits, Reports}
-use Rattle.station.specs.Text.{line_text, output_steps, session_steps, title_text}
+use Rattle.station.specs.Text.{line_text, output_pieces, session_pieces, title_text}
 use Rattle.station.specs.declared.perform.Act.{Act}
 use Rattle.station.specs.declared.perform.Act.TheVariants.{Say, Commit, Report}
 use Rattle.state_store.proofs.Counting.{state_after-quiet}
@@ -119,18 +119,18 @@ pub full_quiet : (lines : List (List ℕ)) → AllByRecursion IsFullLine lines �
 full_quiet [] all = tt
 full_quiet (x ∷ xs) all = (all.0, full_quiet xs all.1)
 
-full_output : (t : TablesData) (o : Output) → AreFull (output_steps t o)
+full_output : (t : TablesData) (o : Output) → AreFull (output_pieces t o)
 full_output t (Says l) = (full_line t l, tt)
 full_output t (Commits s l) = (full_line t l, tt)
 full_output t (Reports title s) = full_quiet (title_text title ∷ count_lines t s.bags) (full_title title, full_counts t s.bags)
 
-full-append : (xs ys : List Step) → AreFull xs → AreFull ys → AreFull (xs ++ ys)
+full-append : (xs ys : List Piece) → AreFull xs → AreFull ys → AreFull (xs ++ ys)
 full-append [] ys first second = second
 full-append (x ∷ xs) ys first second = (first.0, full-append xs ys first.1 second)
 
-pub full_steps : (t : TablesData) (out : List Output) → AreFull (session_steps t out)
-full_steps t [] = tt
-full_steps t (o ∷ out) = full-append (output_steps t o) (session_steps t out) (full_output t o) (full_steps t out)
+pub full_pieces : (t : TablesData) (out : List Output) → AreFull (session_pieces t out)
+full_pieces t [] = tt
+full_pieces t (o ∷ out) = full-append (output_pieces t o) (session_pieces t out) (full_output t o) (full_pieces t out)
 
 -- Acts in order
 
@@ -138,27 +138,27 @@ outputs_of-append : (s : State) (a b : List Act) → outputs_of s (a ++ b) ≡ o
 outputs_of-append s [] b = refl
 outputs_of-append s (x ∷ a) b = ap (λ (o : List Output). output_of s x ∷ o) (outputs_of-append s a b)
 
-steps-append : (t : TablesData) (s : State) (a b : List Act) → session_steps t (outputs_of s (a ++ b)) ≡ session_steps t (outputs_of s a) ++ session_steps t (outputs_of s b)
-steps-append t s a b = ap (session_steps t) (outputs_of-append s a b) ∙ flat_map-append (output_steps t) (outputs_of s a) (outputs_of s b)
+pieces-append : (t : TablesData) (s : State) (a b : List Act) → session_pieces t (outputs_of s (a ++ b)) ≡ session_pieces t (outputs_of s a) ++ session_pieces t (outputs_of s b)
+pieces-append t s a b = ap (session_pieces t) (outputs_of-append s a b) ∙ flat_map-append (output_pieces t) (outputs_of s a) (outputs_of s b)
 
 -- the acts up to an index, and one more
 pub acts_more : (t : TablesData) (s : State) (acts : List Act) (i : ℕ) (d : Act) → i < length acts
-    → session_steps t (outputs_of s (take (i + 1) acts)) ≡ session_steps t (outputs_of s (take i acts)) ++ output_steps t (output_of s (get_or acts i d))
+    → session_pieces t (outputs_of s (take (i + 1) acts)) ≡ session_pieces t (outputs_of s (take i acts)) ++ output_pieces t (output_of s (get_or acts i d))
 acts_more t s acts i d h =
-    ap (λ (a : List Act). session_steps t (outputs_of s a)) (take_more acts i d h)
-    ∙ (steps-append t s (take i acts) (get_or acts i d ∷ [])
-    ∙ ap (λ (ls : List Step). session_steps t (outputs_of s (take i acts)) ++ ls) (append-nil (output_steps t (output_of s (get_or acts i d)))))
+    ap (λ (a : List Act). session_pieces t (outputs_of s a)) (take_more acts i d h)
+    ∙ (pieces-append t s (take i acts) (get_or acts i d ∷ [])
+    ∙ ap (λ (ls : List Piece). session_pieces t (outputs_of s (take i acts)) ++ ls) (append-nil (output_pieces t (output_of s (get_or acts i d)))))
 
 pub acts_rest : (t : TablesData) (s : State) (acts : List Act) (i : ℕ) (d : Act) → i < length acts
-    → session_steps t (outputs_of s acts)
-    ≡ (session_steps t (outputs_of s (take i acts)) ++ output_steps t (output_of s (get_or acts i d))) ++ session_steps t (outputs_of s (drop (i + 1) acts))
+    → session_pieces t (outputs_of s acts)
+    ≡ (session_pieces t (outputs_of s (take i acts)) ++ output_pieces t (output_of s (get_or acts i d))) ++ session_pieces t (outputs_of s (drop (i + 1) acts))
 acts_rest t s acts i d h =
-    ap (λ (a : List Act). session_steps t (outputs_of s a)) (sym (take-append-drop (i + 1) acts))
-    ∙ (steps-append t s (take (i + 1) acts) (drop (i + 1) acts)
-    ∙ ap (λ (ls : List Step). ls ++ session_steps t (outputs_of s (drop (i + 1) acts))) (acts_more t s acts i d h))
+    ap (λ (a : List Act). session_pieces t (outputs_of s a)) (sym (take-append-drop (i + 1) acts))
+    ∙ (pieces-append t s (take (i + 1) acts) (drop (i + 1) acts)
+    ∙ ap (λ (ls : List Piece). ls ++ session_pieces t (outputs_of s (drop (i + 1) acts))) (acts_more t s acts i d h))
 
--- what is kept after an act is the state after its steps
-pub kept_by_act : (t : TablesData) (s u : State) (act : Act) → state_after s (output_steps t (output_of u act)) ≡ kept_after s u act
+-- what is kept after an act is the state after its pieces
+pub kept_by_act : (t : TablesData) (s u : State) (act : Act) → state_after s (output_pieces t (output_of u act)) ≡ kept_after s u act
 kept_by_act t s u (Say l) = refl
 kept_by_act t s u (Commit l) = refl
 kept_by_act t s u (Report title) = state_after-quiet s (title_text title ∷ count_lines t u.bags)

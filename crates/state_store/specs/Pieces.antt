@@ -4,34 +4,35 @@ use Rattle.std.specs.List.{AllByRecursion, concat}
 use Rattle.std.specs.Option.{option_to_list}
 use Rattle.image_codec.specs.State.{State}
 
-pub record Step : Type 0 where
+-- a line, and the state that is committed just before it, where it tells one
+pub record Piece : Type 0 where
   pub line : List ℕ
   pub commit : Option State
 
 -- lines that tell no state
-abbrev pub quiet : List (List ℕ) → List Step
+abbrev pub quiet : List (List ℕ) → List Piece
 quiet lines = map (λ line. record { line = line; commit = None }) lines
 
 -- a line that tells a state
-abbrev pub telling : State → List ℕ → List Step
+abbrev pub telling : State → List ℕ → List Piece
 telling s line = record { line = line; commit = Some s } ∷ []
 
-abbrev pub lines_in : List Step → List (List ℕ)
-lines_in steps = map (λ step. step.line) steps
+abbrev pub lines_in : List Piece → List (List ℕ)
+lines_in pieces = map (λ piece. piece.line) pieces
 
 -- the text of all lines
-abbrev pub text_in : List Step → List ℕ
-text_in steps = concat (lines_in steps)
+abbrev pub text_in : List Piece → List ℕ
+text_in pieces = concat (lines_in pieces)
 
 -- the states that are committed, in order
-abbrev pub commits_in : List Step → List State
+abbrev pub commits_in : List Piece → List State
 commits_in [] = []
-commits_in (step ∷ steps) = option_to_list step.commit ++ commits_in steps
+commits_in (piece ∷ pieces) = option_to_list piece.commit ++ commits_in pieces
 
--- the state that is kept after the steps
-abbrev pub state_after : State → List Step → State
+-- the state that is kept after the pieces
+abbrev pub state_after : State → List Piece → State
 state_after s [] = s
-state_after s (step ∷ steps) = state_after (unwrap_or step.commit s) steps
+state_after s (piece ∷ pieces) = state_after (unwrap_or piece.commit s) pieces
 
 -- how many lines the first n bytes of their text reach into by at least one byte
 abbrev pub lines_reached : List (List ℕ) → ℕ → ℕ
@@ -39,9 +40,9 @@ lines_reached [] n = 0
 lines_reached (line ∷ lines) n = if n == 0 then 0 else 1 + lines_reached lines (n - length line)
 
 -- how many of the lines that the first n bytes of the text reach into tell a state
-abbrev pub commits_reached : List Step → ℕ → ℕ
-commits_reached steps n = length (commits_in (take (lines_reached (lines_in steps) n) steps))
+abbrev pub commits_reached : List Piece → ℕ → ℕ
+commits_reached pieces n = length (commits_in (take (lines_reached (lines_in pieces) n) pieces))
 
 -- no line is empty
-abbrev pub AreFull : List Step → Type 0
-AreFull steps = AllByRecursion (λ step. 0 < length step.line) steps
+abbrev pub AreFull : List Piece → Type 0
+AreFull pieces = AllByRecursion (λ piece. 0 < length piece.line) pieces
