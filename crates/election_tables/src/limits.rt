@@ -19,7 +19,7 @@ pub(crate) const MOST_VOTERS: u64 = 600;
 pub(crate) const PROPORTIONAL_SEATS: u64 = 200;
 
 /// The greatest number of a zone, and of a section.
-pub(crate) const GREATEST_SECTION: u64 = 9_999;
+pub const GREATEST_SECTION: u64 = 9_999;
 
 /// The greatest number of an election.
 pub(crate) const GREATEST_PROCESS: u64 = 99_999;

@@ -29,7 +29,7 @@ count_offset = 18
 abbrev pub turnout_offset : ℕ
 turnout_offset = 22
 
--- how many bytes those marks take
+-- how many bytes the marks of those who came take
 abbrev pub turnout_size : ℕ
 turnout_size = 75
 

@@ -100,6 +100,7 @@ const MADE: [Step; 9] = [
 
 #[test]
 fn a_flash_is_whole_on_the_disk_before_it_has_its_name(rt: HostRuntime) {
+    remove_files(&rt);
     let opened = [Step::Open, Step::Lock, Step::Duplicate, Step::Write];
     let making = [(Call::Write(Dev::External, 3, &[7]), true, MADE.as_slice())];
     run_watched(&rt, &rt, Fault::Nothing, &making);
@@ -113,6 +114,7 @@ fn a_flash_is_whole_on_the_disk_before_it_has_its_name(rt: HostRuntime) {
 
 #[test]
 fn a_sync_syncs_the_file_and_at_first_the_folder(rt: HostRuntime) {
+    remove_files(&rt);
     let first = [Step::SyncData, Step::OpenFolder, Step::SyncFolder];
     let rows = [
         (Call::Write(Dev::Internal, 0, &[1]), true, MADE.as_slice()),
@@ -127,6 +129,7 @@ fn a_sync_syncs_the_file_and_at_first_the_folder(rt: HostRuntime) {
 
 #[test]
 fn a_sync_fails_where_a_part_of_it_does(rt: HostRuntime) {
+    remove_files(&rt);
     let steps = [
         Step::Open,
         Step::Lock,
@@ -198,6 +201,7 @@ fn a_making_that_fails_leaves_no_file(rt: HostRuntime) {
 /// Whoever has it locked, or has removed it, goes on with it.
 #[test]
 fn a_new_file_that_is_not_locked_stays(rt: HostRuntime) {
+    remove_files(&rt);
     let rows = [(
         Call::Sync(Dev::Internal),
         false,
@@ -212,6 +216,7 @@ fn a_new_file_that_is_not_locked_stays(rt: HostRuntime) {
 
 #[test]
 fn one_run_at_a_time_has_a_flash(rt: HostRuntime) {
+    remove_files(&rt);
     place(&rt, &rt, "internal.flash", &[0; 4]);
     place(&rt, &rt, "external.flash", &[0; 4]);
     let mut second = FileMachine::new(&rt, 4);
@@ -241,6 +246,7 @@ fn one_run_at_a_time_has_a_flash(rt: HostRuntime) {
 
 #[test]
 fn one_run_at_a_time_makes_a_flash(rt: HostRuntime) -> Result<(), Fail> {
+    remove_files(&rt);
     // Another run has made its file and fills it.
     place(&rt, &rt, "internal.flash.new", b"0");
     let other = fs::open(&rt, "internal.flash.new")?;
@@ -260,6 +266,7 @@ fn one_run_at_a_time_makes_a_flash(rt: HostRuntime) -> Result<(), Fail> {
 
 #[test]
 fn one_file_under_both_names_is_a_fault(rt: HostRuntime) {
+    remove_files(&rt);
     for is_link in [false, true] {
         place(&rt, &rt, "internal.flash", &[7; 4]);
         let linked = if is_link {
@@ -281,6 +288,7 @@ fn one_file_under_both_names_is_a_fault(rt: HostRuntime) {
 
 #[test]
 fn a_link_that_leads_nowhere_stays(rt: HostRuntime) -> Result<(), Fail> {
+    remove_files(&rt);
     symlink(&rt, "card/e", "external.flash")?;
     let calls = [
         (Call::Sync(Dev::External), false),
@@ -296,6 +304,7 @@ fn a_link_that_leads_nowhere_stays(rt: HostRuntime) -> Result<(), Fail> {
 
 #[test]
 fn what_a_leftover_leads_to_stays(rt: HostRuntime) -> Result<(), Fail> {
+    remove_files(&rt);
     place(&rt, &rt, "kept.tmp", b"kept");
     symlink(&rt, "kept.tmp", "internal.flash.new")?;
     fs::hard_link(&rt, "kept.tmp", "external.flash.new")?;
@@ -315,6 +324,7 @@ fn what_a_leftover_leads_to_stays(rt: HostRuntime) -> Result<(), Fail> {
 
 #[test]
 fn a_file_machine_makes_no_file_before_an_operation_on_it(rt: HostRuntime) {
+    remove_files(&rt);
     let mut m = FileMachine::new(&rt, 16);
     assert_eq!(rt; m.size(Dev::Internal), 16);
     make_all(&rt, &mut m, &[(Call::Show(b"URNA PRONTA 0\n"), true)]);
@@ -331,6 +341,7 @@ fn a_file_machine_makes_no_file_before_an_operation_on_it(rt: HostRuntime) {
 
 #[test]
 fn another_machine_reads_what_was_written_to_the_files(rt: HostRuntime) {
+    remove_files(&rt);
     let writes = [
         (Call::Write(Dev::Internal, 3, &[1, 2, 3]), true),
         (Call::Write(Dev::External, 12, &[4, 5, 6, 7]), true),

@@ -28,7 +28,7 @@ const PADDING: [u8; PADDING_SIZE] = [0; PADDING_SIZE];
 /// Where the zone and the section stand in a header, in four bytes each.
 const ZONE: u32 = 9;
 
-/// Whether these bytes, at most as many as a header has, stand on a device from a place on. It reads and does nothing else.
+/// Whether these bytes, at most as many as a header has, stand on a device from an offset on. It reads and does nothing else.
 pub(crate) fn stand_at<M: Machine>(m: &mut M, dev: Dev, at: u32, bytes: &[u8]) -> Result<bool, Dev>
     requires range { at + length bytes.now ≤ size_of dev (M.told m.old).sizes }
     requires short { length bytes.now ≤ header_size }

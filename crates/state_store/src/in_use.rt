@@ -16,7 +16,7 @@ use crate::store::LoadError;
 use gate_slot::OPEN;
 use urna_outside::{Dev, Machine};
 
-/// The byte of a device at a place.
+/// The byte of a device at an offset.
 #[tactic(auto, using(crate::proofs::Bytes::only_byte))]
 fn byte_at<M: Machine>(m: &mut M, dev: Dev, at: u32) -> Result<u8, Dev>
     requires { at < size_of dev (M.told m.old).sizes }

@@ -153,7 +153,7 @@ impl Station {
         let mut station = self;
         for event in script.events() {
             let acts = station.take_event(tables, roll, event);
-            // most keys ask for nothing, and the station isn't moved for them
+            // a key that asks for nothing doesn't move the station
             if acts.is_empty() {
                 continue;
             }

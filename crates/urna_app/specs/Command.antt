@@ -3,6 +3,7 @@ use Rattle.std.specs.Prelude.{ℕ, List, [], ◌∷◌, Option, Some, None, if�
 use Rattle.std.specs.Option.{option_and_then}
 use Rattle.std.specs.Str.{bytes_eq}
 use Rattle.urna_base.specs.Digits.{decimal_value}
+use Rattle.election_tables.specs.Limits.{greatest_section}
 
 -- vota TABLES ROLL KEYS OUT: the names of the files
 pub record Vota : Type 0 where
@@ -29,9 +30,9 @@ vota_of (a ∷ b ∷ c ∷ []) = None
 vota_of (a ∷ b ∷ c ∷ d ∷ []) = None
 vota_of (a ∷ b ∷ c ∷ d ∷ e ∷ f ∷ more) = None
 
--- a decimal from 1 to 9,999, without a leading zero
+-- a number of a zone or of a section
 abbrev pub in_range : ℕ → Option ℕ
-in_range n = if nat_le 1 n && nat_le n 9999 then Some n else None
+in_range n = if nat_le 1 n && nat_le n greatest_section then Some n else None
 
 abbrev pub place_of : List ℕ → Option ℕ
 place_of word = option_and_then in_range (decimal_value word)

@@ -2,6 +2,7 @@
 ghost use Rattle.std.specs.Prelude.{◌≡◌, IfNone, IfSome, List, None, Some, map, string_bytes, ℕ};
 ghost use Rattle.urna_app.specs.Command.{carga_of, place_of, vota_of};
 
+use election_tables::GREATEST_SECTION;
 use urna_base::decimal;
 
 /// The names of the files of `vota`.
@@ -62,12 +63,12 @@ pub(crate) fn carga_words(words: &[String]) -> Option<CargaNames<'_>>
     })
 }
 
-/// A zone or the number of a section: a decimal from 1 to 9,999.
+/// A zone or the number of a section: a decimal from 1 to `GREATEST_SECTION`.
 fn place(word: &str) -> Option<u32>
     ensures { result ≡ place_of word.now }
 {
     match decimal(word.as_bytes()) {
-        Some(number) if 1 <= number && number <= 9999 => Some(number as u32),
+        Some(number) if 1 <= number && number <= GREATEST_SECTION => Some(number as u32),
         _ => None,
     }
 }

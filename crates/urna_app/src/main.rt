@@ -91,7 +91,7 @@ fn run_program(rt: &HostRuntime) -> ExitCode {
     ExitCode::from(urna(rt.alloc(), &words, &mut machine, &mut cabinet).code())
 }
 
-/// A test can't call it.
+/// The program. No test can call it, so all that it does is `run_program`.
 fn main(rt: HostRuntime) -> ExitCode {
     run_program(&rt)
 }
