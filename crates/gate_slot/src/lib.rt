@@ -9,8 +9,6 @@
 
 mod law;
 mod slot;
-#[cfg(test)]
-mod tests;
 mod write;
 
 pub use law::facts_survive;

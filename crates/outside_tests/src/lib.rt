@@ -1,6 +1,6 @@
-//! The tests of the outside (the crate `urna_outside`): machines and cabinets in memory, and over real files. They need
-//! its public calls only, and stand in a crate of their own because a crate with tests is proved twice, with them and
-//! without them.
+//! The tests of the outside and of what stands on it: machines and cabinets in memory, and over real files
+//! (`urna_outside`), a slot (`gate_slot`) and the two slots of a device (`twin_image`). They need public calls only, and
+//! stand in a crate of their own because a crate with tests is proved twice, with them and without them.
 //!
 //! `calls` has the calls of a machine as rows of a table, so that a test is such a table; `watched` is the runtime that
 //! notes what is done to real files.
@@ -12,5 +12,9 @@ mod calls;
 mod files;
 #[cfg(test)]
 mod memory;
+#[cfg(test)]
+mod slot;
+#[cfg(test)]
+mod twins;
 #[cfg(test)]
 mod watched;

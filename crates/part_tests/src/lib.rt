@@ -1,4 +1,4 @@
-//! The tests of six parts: what each answers to values from outside, and each of its public calls once on its happy path.
+//! The tests of seven parts: what each answers to values from outside, and each of its public calls once on its happy path.
 //! They stand in a crate of their own because a crate with tests is proved twice, with them and without them; here nothing
 //! but the tests is. One module has the tests of one crate.
 #![tactic(auto)]
@@ -7,6 +7,8 @@
 mod codec;
 #[cfg(test)]
 mod marks;
+#[cfg(test)]
+mod numbers;
 #[cfg(test)]
 mod panel;
 #[cfg(test)]

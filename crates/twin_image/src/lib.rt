@@ -16,8 +16,6 @@ mod level;
 mod mend;
 mod ranked;
 mod survey;
-#[cfg(test)]
-mod tests;
 mod turn;
 mod twin;
 mod twins;

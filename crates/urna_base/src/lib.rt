@@ -14,8 +14,6 @@ mod memory;
 mod moment;
 mod print;
 mod read;
-#[cfg(test)]
-mod tests;
 
 pub use be::{be32, be64, put_be32, put_be64};
 pub use buffer::zeros;

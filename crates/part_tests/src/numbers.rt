@@ -1,12 +1,16 @@
+//! Numbers and bytes (the crate `urna_base`).
 ghost use Rattle.std.specs.Prelude.{◌≡◌, ◌^◌, ◌<◌, [], ◌∷◌, ◌++◌, codes};
 ghost use Rattle.std.specs.Fmt.{decimal};
 ghost use Rattle.urna_base.specs.Digits.{padded};
 
-use super::*;
 use std::test::Fail;
+use urna_base::{
+    LineBuffer, be32, be64, date_ok, decimal, decimal_into, digits, moment_ok, put_be32, put_be64,
+    put_decimal, put_digits, split_line, zeros,
+};
 
 /// A line of five pushes, as the layers above write them.
-#[tactic(auto, using(crate::proofs::DecimalLaws::line_lengths))]
+#[tactic(auto, using(urna_base::proofs::DecimalLaws::line_lengths))]
 fn sealed_line(moment: u64, came: u32) -> LineBuffer
     requires { moment < 10 ^ 14 }
     ensures { result ≡ codes "ENCERRADA " ++ padded 14 moment ++ codes " " ++ decimal came ++ 10 ∷ [] }

@@ -7,7 +7,7 @@ ghost use Rattle.urna_outside.specs.declared.device.Dev.TheVariants.{External};
 ghost use Rattle.gate_slot.specs.Device.{OnFlash};
 ghost use Rattle.gate_slot.specs.Slot.{room};
 
-use crate::{Live, Slot, Step, Torn, adopt};
+use gate_slot::{Live, Slot, Step, Torn, adopt};
 use std::process::Abort;
 use std::test::Fail;
 use urna_outside::{Dev, Machine, Recorder, Tear};

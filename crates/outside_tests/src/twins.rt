@@ -8,10 +8,10 @@ ghost use Rattle.urna_outside.specs.declared.device.Dev.TheVariants.{Internal};
 ghost use Rattle.gate_slot.specs.Device.{OnFlash};
 ghost use Rattle.gate_slot.specs.Slot.{room};
 
-use crate::renew;
 use gate_slot::{Live, Slot, Step, Torn, adopt};
 use std::process::Abort;
 use std::test::Fail;
+use twin_image::renew;
 use urna_outside::{Dev, Machine, Recorder, Tear};
 
 const OLD: [u8; 4] = [1; 4];
