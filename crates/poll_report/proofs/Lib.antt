@@ -1,1 +1,5 @@
 pub mod LineLists
+pub mod Totals
+pub mod Lists
+pub mod Listing
+pub mod Spelled

@@ -15,15 +15,15 @@ use Rattle.vote_kinds.proofs.Lookups.{office_known, candidates_known}
 use Rattle.election_tables.specs.declared.office.Office.{Office}
 use Rattle.poll_report.specs.Counts.{word_line, votes_line, candidate_line, candidate_lines, party_line, kind_lines, total_lines, panel_lines, lines_of_panels, count_lines}
 
--- one line of each element
+-- one line, or number, of each element
 
-taken_more : {X : Type 0} (f : X → List ℕ) (xs : List X) (i : ℕ) (line : List ℕ) → option_map f (slice_get xs i) ≡ Some line
+taken_more : {X Y : Type 0} (f : X → Y) (xs : List X) (i : ℕ) (line : Y) → option_map f (slice_get xs i) ≡ Some line
     → map f (take (suc i) xs) ≡ map f (take i xs) ++ line ∷ []
 taken_more f [] i line e = absurd (cc)
-taken_more f (x ∷ xs) zero line e = let same : f x ≡ line = cc in ap (λ (l : List ℕ). l ∷ []) same
-taken_more f (x ∷ xs) (suc i) line e = ap (λ (ls : List (List ℕ)). f x ∷ ls) (taken_more f xs i line e)
+taken_more f (x ∷ xs) zero line e = let same : f x ≡ line = cc in ap (λ l. l ∷ []) same
+taken_more f (x ∷ xs) (suc i) line e = ap (λ ls. f x ∷ ls) (taken_more f xs i line e)
 
-pub lines_more : {X : Type 0} (f : X → List ℕ) (xs : List X) (i : ℕ) (line : List ℕ) → option_map f (slice_get xs i) ≡ Some line
+pub lines_more : {X Y : Type 0} (f : X → Y) (xs : List X) (i : ℕ) (line : Y) → option_map f (slice_get xs i) ≡ Some line
     → map f (take (i + 1) xs) ≡ map f (take i xs) ++ line ∷ []
 lines_more f xs i line e = ap (λ (k : ℕ). map f (take k xs)) (add-one i) ∙ taken_more f xs i line e
 
