@@ -1,5 +1,5 @@
 -- The counts of the first candidates, parties and panels
-use Rattle.std.proofs.Common.{◌≡◌, ℕ, zero, suc, ◌+◌, ◌<◌, ◌≤◌, Bool, true, false, List, [], ◌∷◌, ◌++◌, map, length, take, slice_get, slice_index, Option, Some, None, option_map, unwrap_or, inl, inr, refl, sym, ap, ◌∙◌, add-one, arith}
+use Rattle.std.proofs.Common.{◌≡◌, ℕ, zero, suc, ◌+◌, ◌<◌, ◌≤◌, Bool, List, [], ◌∷◌, ◌++◌, map, length, take, slice_get, slice_index, Option, Some, None, option_map, unwrap_or, inl, inr, refl, sym, ap, ◌∙◌, add-one, arith}
 use Rattle.std.specs.Prelude.{nat_lt}
 use Rattle.std.specs.List.{filter}
 use Rattle.std.proofs.lemmas.Bool.{cases_Bool}
@@ -50,8 +50,14 @@ few_first f (x ∷ xs) (suc i) = let rest = few_first f xs i in omega arith
 pub few_listed : {X : Type 0} (choose : ℕ → Choice) (bag : List Choice) (f : X → ℕ) (xs : List X) (i : ℕ) → length (listed choose (map f (take i xs)) bag) ≤ i
 few_listed choose bag f xs i =
     let ns = map f (take i xs) in
-    omega (arith, length-filter has_votes (map (counted choose bag) ns), count_by-le-length has_votes (map (counted choose bag) ns),
-      few_first (counted choose bag) ns (length ns), few_first f xs i, ap (λ (l : List ℕ). length (map (counted choose bag) l)) (take_all (length ns) ns (omega arith)))
+    omega (
+      arith,
+      length-filter has_votes (map (counted choose bag) ns),
+      count_by-le-length has_votes (map (counted choose bag) ns),
+      few_first (counted choose bag) ns (length ns),
+      few_first f xs i,
+      ap (λ (l : List ℕ). length (map (counted choose bag) l)) (take_all (length ns) ns (omega arith)),
+    )
 
 pub candidate_number : (o : Option NamedCandidate) (r : Candidate) → option_map without_name o ≡ Some r → option_map (λ c. c.number) o ≡ Some r.number
 candidate_number None r e = absurd (cc)

@@ -1,6 +1,6 @@
 -- The numbers that are listed rise, and each has a vote
-use Rattle.std.proofs.Common.{◌≡◌, ℕ, ◌+◌, ◌<◌, ◌≤◌, Bool, true, false, List, [], ◌∷◌, ◌++◌, map, length, inl, inr, refl, ap, arith}
-use Rattle.std.specs.Prelude.{nat_lt, ◌&&◌}
+use Rattle.std.proofs.Common.{◌≡◌, ℕ, ◌<◌, true, false, List, [], ◌∷◌, ◌++◌, inl, inr, refl, ap, arith}
+use Rattle.std.specs.Prelude.{nat_lt}
 use Rattle.std.specs.List.{AllByRecursion}
 use Rattle.std.proofs.lemmas.Bool.{cases_Bool}
 use Rattle.std.proofs.lemmas.Bool.Decides.{nat_tests}
@@ -46,7 +46,9 @@ pub each_listed : (Is : Count → Type 0) (choose : ℕ → Choice) (bag : List 
 each_listed Is choose bag before [] rise above is = tt
 each_listed Is choose bag before (n ∷ ns) rise above is =
     elim (cases_Bool (nat_lt 0 (count_of (choose n) bag))) [
-    | inl t ↦ rw t ((is.0 t, above.0),
-        each_listed Is choose bag (before ++ counted choose bag n ∷ []) ns rise.1 (still_above before (counted choose bag n) ns above.1 rise.0) is.1)
-    | inr f ↦ rw f (each_listed Is choose bag before ns rise.1 above.1 is.1)
+      | inl t ↦ rw t (
+        (is.0 t, above.0),
+        each_listed Is choose bag (before ++ counted choose bag n ∷ []) ns rise.1 (still_above before (counted choose bag n) ns above.1 rise.0) is.1,
+      )
+      | inr f ↦ rw f (each_listed Is choose bag before ns rise.1 above.1 is.1)
     ]

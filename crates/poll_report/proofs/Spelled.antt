@@ -1,14 +1,13 @@
 -- The report of a section is one that has a spelling
-use Rattle.std.proofs.Common.{◌≡◌, ◌≢◌, ℕ, zero, suc, ◌+◌, ◌*◌, ◌<◌, ◌≤◌, Bool, true, false, List, [], ◌∷◌, ◌++◌, map, length, slice_get, Option, Some, None, unwrap_or, inl, inr, refl, sym, ap, ◌∙◌, subst, arith}
-use Rattle.std.specs.Prelude.{◌==◌, nat_eq, nat_lt, ◌&&◌, not, is_some, IsSomeAnd, IsTrue}
+use Rattle.std.proofs.Common.{◌≡◌, ◌≢◌, ℕ, zero, suc, ◌+◌, ◌*◌, ◌<◌, ◌≤◌, Bool, true, false, List, [], ◌∷◌, ◌++◌, map, length, slice_get, Option, Some, unwrap_or, inl, inr, refl, sym, ap, ◌∙◌, subst, arith}
+use Rattle.std.specs.Prelude.{◌==◌, nat_eq, nat_lt, ◌&&◌, IsSomeAnd, IsTrue}
 use Rattle.std.specs.List.{All, AllByRecursion, AllPairs, list_any}
 use Rattle.std.proofs.lemmas.Bool.{cases_Bool}
 use Rattle.std.proofs.lemmas.Bool.Decides.{nat_tests}
-use Rattle.std.proofs.lemmas.List.Elements.{recursion_from_All, All-head, All-tail, All-from_recursion}
+use Rattle.std.proofs.lemmas.List.Elements.{recursion_from_All, All-head, All-tail}
 use Rattle.std.proofs.lemmas.List.Kept.{AllPairs-from_increasing}
 use Rattle.std.proofs.lemmas.List.Sums.{count_by-le-length}
-use Rattle.election_tables.specs.Fields.{has_digits}
-use Rattle.election_tables.specs.Offices.{code_digits, code_proportional, allows, kinds_allow, row_of}
+use Rattle.election_tables.specs.Offices.{code_digits, code_proportional, allows}
 use Rattle.election_tables.specs.TablesData.{TablesData, IsTables, IsPanel, IsCandidate, IsParty, IsSection, places_in, places_of, section_with}
 use Rattle.election_tables.specs.declared.office.Kind.{Kind}
 use Rattle.election_tables.specs.declared.office.Kind.TheVariants as kind
@@ -18,6 +17,8 @@ use Rattle.election_tables.specs.declared.tables.parties.Party.{Party}
 use Rattle.election_tables.specs.declared.tables.sections.Section.{Section}
 use Rattle.vote_kinds.specs.declared.choice.Choice.{Choice}
 use Rattle.vote_kinds.specs.declared.choice.Choice.TheVariants as choice
+use Rattle.turnout.specs.Turnout.{number_came}
+use Rattle.turnout.proofs.Marks.{number_came-le-length}
 use Rattle.urna_base.specs.Moment.{is_between}
 use Rattle.vote_kinds.specs.Ballot.{BallotLine, line_for, lines_from, lines_by_panel, is_choice, is_proportional}
 use Rattle.vote_kinds.specs.Choice.{is_same}
@@ -26,8 +27,8 @@ use Rattle.vote_record.specs.RdvData.{RdvData, IsVote}
 use Rattle.vote_record.specs.Laws.{HasOnlyVotes}
 use Rattle.poll_report.specs.declared.report.Count.{Count}
 use Rattle.poll_report.specs.declared.report.OfficeCount.{OfficeCount}
-use Rattle.poll_report.specs.Report.{EachAfter, IsOfficeCount, MayCount, MayLegend, MayVote, digits_in, greatest_count, is_above, is_some_votes, is_vote, may_have_code, numbers_of, total_of, votes_of}
-use Rattle.poll_report.specs.Counted.{counted, counts_of_panels, listed, office_count, office_counts, party_counts}
+use Rattle.poll_report.specs.Report.{EachAfter, IsOfficeCount, IsReport, MayCount, MayLegend, MayVote, digits_in, greatest_count, is_above, is_some_votes, is_vote, may_have_code, numbers_of, votes_of}
+use Rattle.poll_report.specs.Counted.{HasReport, counted, counts_of_panels, listed, office_count, office_counts, party_counts, report_of}
 use Rattle.poll_report.proofs.Totals.{IsOneOf, Rises, all_counted, rises, votes_listed}
 use Rattle.poll_report.proofs.Lists.{each_listed, each_weaker, nothing_below}
 
@@ -72,9 +73,10 @@ candidates_vote : (digits : ℕ) (parties : List Party) (bag : List Choice) (cs 
     → AllByRecursion (λ n. nat_lt 0 (count_of (choice.Nominal n) bag) ≡ true → is_vote digits (counted (λ m. choice.Nominal m) bag n) ≡ true) (map (λ c. c.number) cs)
 candidates_vote digits parties bag [] few all = tt
 candidates_vote digits parties bag (c ∷ cs) few all =
-    let first : IsCandidate digits parties c = All-head (IsCandidate digits parties) c cs all in
-    ((λ some. rw (some_votes (choice.Nominal c.number) bag few some, first.number) refl),
-      candidates_vote digits parties bag cs few (All-tail (IsCandidate digits parties) c cs all))
+    let first : IsCandidate digits parties c = All-head (IsCandidate digits parties) c cs all in (
+      (λ some. rw (some_votes (choice.Nominal c.number) bag few some, first.number) refl),
+      candidates_vote digits parties bag cs few (All-tail (IsCandidate digits parties) c cs all),
+    )
 
 abbrev IsLegend : Count → Type 0
 IsLegend c = (is_between 10 99 c.number ≡ true) × (is_some_votes c.votes ≡ true)
@@ -123,11 +125,11 @@ office_spelled t bags came number p parties rise few fits =
     let same_parties = parties_listed p.office.kind t bag in
     record {
       nominal = subst (λ (d : ℕ). EachAfter (MayVote d) [] (listed (λ n. choice.Nominal n) candidates bag)) (sym same_digits)
-        (each_listed (λ c. is_vote digits c ≡ true) (λ n. choice.Nominal n) bag [] candidates candidates_rise (nothing_below candidates)
-        (candidates_vote digits t.parties bag p.candidates few_members panel.candidates));
+          (each_listed (λ c. is_vote digits c ≡ true) (λ n. choice.Nominal n) bag [] candidates candidates_rise (nothing_below candidates)
+          (candidates_vote digits t.parties bag p.candidates few_members panel.candidates));
       parties = subst (λ (cs : List Count). EachAfter MayLegend [] cs) (sym same_parties)
-        (each_weaker (λ b c. IsLegend c × (is_above (numbers_of b) c.number ≡ true)) MayLegend (λ b c h. (h.0.0, h.0.1, h.1)) [] (listed (λ n. choice.Party n) ps bag)
-        (each_listed IsLegend (λ n. choice.Party n) bag [] ps parties_rise (nothing_below ps) (kind_parties_vote p.office.kind bag t.parties few_members parties)));
+          (each_weaker (λ b c. IsLegend c × (is_above (numbers_of b) c.number ≡ true)) MayLegend (λ b c h. (h.0.0, h.0.1, h.1)) [] (listed (λ n. choice.Party n) ps bag)
+          (each_listed IsLegend (λ n. choice.Party n) bag [] ps parties_rise (nothing_below ps) (kind_parties_vote p.office.kind bag t.parties few_members parties)));
       majority = no_parties p.office.kind p.office.code t bag panel.office.kind;
       places = refl;
       total = let total_of_parties = ap votes_of same_parties in omega (arith, fits.1);
@@ -141,9 +143,10 @@ Differ (p ∷ panels) = AllByRecursion (λ q. p.office.code ≢ q.office.code) p
 
 differ : (panels : List Panel) → AllPairs (λ p q. p.office.code ≢ q.office.code) panels → Differ panels
 differ [] h = tt
-differ (p ∷ panels) h =
-    (recursion_from_All (λ q. p.office.code ≢ q.office.code) panels (λ k d within. h zero (suc k) d (omega arith) (omega arith)),
-      differ panels (λ i j d below within. h (suc i) (suc j) d (omega arith) (omega arith)))
+differ (p ∷ panels) h = (
+  recursion_from_All (λ q. p.office.code ≢ q.office.code) panels (λ k d within. h zero (suc k) d (omega arith) (omega arith)),
+  differ panels (λ i j d below within. h (suc i) (suc j) d (omega arith) (omega arith)),
+)
 
 abbrev has_code : List ℕ → ℕ → Bool
 has_code codes code = list_any (λ c. c == code) codes
@@ -201,11 +204,12 @@ offices_spelled t bags came first before (p ∷ panels) parties rise few fits ro
     let o = office_count t p bag in
     let same : first + 0 ≡ first = omega arith in
     let here : Fits t bags came first p = subst (λ (n : ℕ). Fits t bags came n p) same (fits zero p refl) in
-    let longer = length_snoc before o in
-    ((may_code before p (omega arith) new.0 here.0.office.digits, office_spelled t bags came first p parties rise few here),
+    let longer = length_snoc before o in (
+      (may_code before p (omega arith) new.0 here.0.office.digits, office_spelled t bags came first p parties rise few here),
       offices_spelled t bags came (first + 1) (before ++ o ∷ []) panels parties rise few
-        (λ k q there. let next : first + suc k ≡ first + 1 + k = omega arith in subst (λ (n : ℕ). Fits t bags came n q) next (fits (suc k) q there))
-        (omega arith) (without_one before o panels new.1 apart.0) apart.1)
+          (λ k q there. let next : first + suc k ≡ first + 1 + k = omega arith in subst (λ (n : ℕ). Fits t bags came n q) next (fits (suc k) q there))
+          (omega arith) (without_one before o panels new.1 apart.0) apart.1,
+    )
 
 -- ---- what the record owes
 
@@ -236,17 +240,17 @@ each_vote : (t : TablesData) (k : ℕ) (p : Panel) (bag : List Choice) → slice
 each_vote t k p [] line h = tt
 each_vote t k p (c ∷ bag) line h = (subst (λ (o : Option BallotLine). IsSomeAnd o (λ l. is_choice l c ≡ true)) line h.0, each_vote t k p bag line h.1)
 
-pub counts_spelled : (t : TablesData) (r : RdvData) (came : ℕ) → IsTables t → HasOnlyVotes t r → map length r.bags ≡ map (λ places. came * places) (places_of t) → came ≤ greatest_count
+counts_spelled : (t : TablesData) (r : RdvData) (came : ℕ) → IsTables t → HasOnlyVotes t r → map length r.bags ≡ map (λ places. came * places) (places_of t) → came ≤ greatest_count
     → EachAfter (MayCount came) [] (office_counts t r.bags)
 unfolding office_counts
 counts_spelled t r came tables votes full few =
     let numbers = map (λ q. q.number) t.parties in
     offices_spelled t r.bags came 0 [] t.panels tables.parties (rises numbers (AllPairs-from_increasing numbers tables.parties_rise)) few
     (λ k p there.
-      let on : 0 + k ≡ k = omega arith in
-      let at : slice_get (lines_by_panel t) k ≡ Some (line_for t k p) = line_there t k p there in
-      subst (λ (n : ℕ). Fits t r.bags came n p) (sym on)
-        (panel_there (IsPanel t.parties) t.panels k p tables.panels there, bag_total came r.bags t.panels k p full there, each_vote t k p (bag_at r.bags k) at (votes k)))
+    let on : 0 + k ≡ k = omega arith in
+    let at : slice_get (lines_by_panel t) k ≡ Some (line_for t k p) = line_there t k p there in
+    subst (λ (n : ℕ). Fits t r.bags came n p) (sym on)
+    (panel_there (IsPanel t.parties) t.panels k p tables.panels there, bag_total came r.bags t.panels k p full there, each_vote t k p (bag_at r.bags k) at (votes k)))
     (omega (arith, tables.panel_count.1)) (without_none t.panels) (differ t.panels tables.codes)
   where
     panel_there : (P : Panel → Type 0) (panels : List Panel) (k : ℕ) (p : Panel) → All P panels → slice_get panels k ≡ Some p → P p
@@ -256,20 +260,40 @@ counts_spelled t r came tables votes full few =
 
 -- ---- the section
 
-pub section_there : (zone number : ℕ) (sections : List Section) (s : Section) → All IsSection sections → section_with zone number sections ≡ Some s → IsSection s
+section_there : (zone number : ℕ) (sections : List Section) (s : Section) → All IsSection sections → section_with zone number sections ≡ Some s → IsSection s
 section_there zone number [] s all e = absurd (cc)
 section_there zone number (q ∷ sections) s all e = elim (cases_Bool ((q.zone == zone) && (q.number == number))) [
   | inl t ↦ let same : q ≡ s = let there : Some q ≡ Some s = rw t at e in cc in subst IsSection same (All-head IsSection q sections all)
   | inr f ↦ section_there zone number sections s (All-tail IsSection q sections all) (rw f at e)
 ]
 
-pub between : (low high n : ℕ) → low ≤ n → n ≤ high → is_between low high n ≡ true
+between : (low high n : ℕ) → low ≤ n → n ≤ high → is_between low high n ≡ true
 between low high n h k = grind (arith, nat_tests)
 
-pub some_offices : (t : TablesData) (bags : List (List Choice)) → IsTables t → 0 < length (office_counts t bags)
+some_offices : (t : TablesData) (bags : List (List Choice)) → IsTables t → 0 < length (office_counts t bags)
 unfolding office_counts
 some_offices t bags tables = some t.panels tables.panel_count.0
   where
     some : (panels : List Panel) → 1 ≤ length panels → 0 < length (counts_of_panels t bags 0 panels)
     some [] h = absurd (omega arith)
     some (p ∷ panels) h = omega arith
+
+pub report_spelled : (t : TablesData) (section : Section) (votes : RdvData) (came : List Bool) (opened closed : ℕ) → IsTables t
+    → HasReport t section votes came opened closed → IsReport (report_of t section votes.bags came opened closed)
+report_spelled t section votes came opened closed tables has =
+    let of = section_there section.zone section.number t.sections section tables.sections has.section in
+    let some_came = number_came-le-length came in
+    record {
+      process = between _ _ _ tables.process.0 tables.process.1;
+      date = tables.date;
+      turn = between _ _ _ tables.turn.0 tables.turn.1;
+      zone = between _ _ _ of.zone.0 of.zone.1;
+      section = between _ _ _ of.number.0 of.number.1;
+      able = omega (arith, of.voters.1);
+      came = omega (arith, has.voters);
+      opened = has.opened;
+      closed = has.closed;
+      order = has.order;
+      some = some_offices t votes.bags tables;
+      offices = counts_spelled t votes (number_came came) tables has.votes has.totals (omega (arith, has.voters, of.voters.1));
+    }

@@ -1,7 +1,7 @@
 -- All members of a bag are counted, each once
-use Rattle.std.proofs.Common.{◌≡◌, ℕ, zero, suc, ◌+◌, ◌<◌, ◌≤◌, Bool, true, false, cond, List, [], ◌∷◌, map, length, inl, inr, refl, sym, ap, ◌∙◌, subst, arith}
+use Rattle.std.proofs.Common.{◌≡◌, ℕ, zero, suc, ◌+◌, ◌<◌, Bool, true, false, cond, List, [], ◌∷◌, map, length, inl, inr, refl, sym, ap, ◌∙◌, subst, arith}
 use Rattle.std.specs.Prelude.{◌==◌, nat_eq, nat_lt, ◌||◌}
-use Rattle.std.specs.List.{AllByRecursion, AllPairs, filter, list_any, sum_by}
+use Rattle.std.specs.List.{AllByRecursion, AllPairs, list_any, sum_by}
 use Rattle.std.proofs.lemmas.Bool.{cases_Bool}
 use Rattle.std.proofs.lemmas.Bool.Decides.{nat_tests}
 use Rattle.std.proofs.lemmas.List.Elements.{recursion_from_All}
@@ -22,9 +22,10 @@ Rises (n ∷ ns) = AllByRecursion (λ m. n < m) ns × Rises ns
 
 pub rises : (ns : List ℕ) → AllPairs (λ x y. x < y) ns → Rises ns
 rises [] h = tt
-rises (n ∷ ns) h =
-    (recursion_from_All (λ m. n < m) ns (λ k d within. h zero (suc k) d (omega arith) (omega arith)),
-      rises ns (λ i j d below within. h (suc i) (suc j) d (omega arith) (omega arith)))
+rises (n ∷ ns) h = (
+  recursion_from_All (λ m. n < m) ns (λ k d within. h zero (suc k) d (omega arith) (omega arith)),
+  rises ns (λ i j d below within. h (suc i) (suc j) d (omega arith) (omega arith)),
+)
 
 pub votes_cons : (c : Count) (cs : List Count) → votes_of (c ∷ cs) ≡ c.votes + votes_of cs
 votes_cons c cs = sum_by-cons (λ (x : Count). x.votes) c cs
@@ -36,8 +37,8 @@ votes_listed choose (n ∷ ns) bag =
     let rest = votes_listed choose ns bag in
     let whole = votes_cons (counted choose bag n) (map (counted choose bag) ns) in
     elim (cases_Bool (nat_lt 0 (count_of (choose n) bag))) [
-    | inl t ↦ let kept = votes_cons (counted choose bag n) (listed choose ns bag) in rw t (omega arith)
-    | inr f ↦ let none : count_of (choose n) bag ≡ 0 = grind (arith, nat_tests) in rw f (omega arith)
+      | inl t ↦ let kept = votes_cons (counted choose bag n) (listed choose ns bag) in rw t (omega arith)
+      | inr f ↦ let none : count_of (choose n) bag ≡ 0 = grind (arith, nat_tests) in rw f (omega arith)
     ]
 
 -- how many of these numbers a choice chooses
@@ -82,17 +83,17 @@ once m [] rise there = absurd (cc)
 once m (n ∷ ns) rise there =
     let first = sum_by-cons (λ (k : ℕ). cond {A = ℕ} (k == m) 1 0) n ns in
     elim (cases_Bool (nat_eq m n)) [
-    | inl t ↦
-      let same : m ≡ n = grind (arith, nat_tests) in
-      let here : (n == m) ≡ true = grind (arith, nat_tests) in
-      let one_here : cond {A = ℕ} (n == m) 1 0 ≡ 1 = ap (λ (b : Bool). cond {A = ℕ} b 1 0) here in
-      let rest = not_above m ns (subst (λ (k : ℕ). AllByRecursion (λ i. k < i) ns) (sym same) rise.0) in
-      omega arith
-    | inr f ↦
-      let other : (n == m) ≡ false = grind (arith, nat_tests) in
-      let zero_here : cond {A = ℕ} (n == m) 1 0 ≡ 0 = ap (λ (b : Bool). cond {A = ℕ} b 1 0) other in
-      let rest = once m ns rise.1 (sym (ap (λ (b : Bool). b || list_any (nat_eq m) ns) f) ∙ there) in
-      omega arith
+      | inl t ↦
+          let same : m ≡ n = grind (arith, nat_tests) in
+          let here : (n == m) ≡ true = grind (arith, nat_tests) in
+          let one_here : cond {A = ℕ} (n == m) 1 0 ≡ 1 = ap (λ (b : Bool). cond {A = ℕ} b 1 0) here in
+          let rest = not_above m ns (subst (λ (k : ℕ). AllByRecursion (λ i. k < i) ns) (sym same) rise.0) in
+          omega arith
+      | inr f ↦
+          let other : (n == m) ≡ false = grind (arith, nat_tests) in
+          let zero_here : cond {A = ℕ} (n == m) 1 0 ≡ 0 = ap (λ (b : Bool). cond {A = ℕ} b 1 0) other in
+          let rest = once m ns rise.1 (sym (ap (λ (b : Bool). b || list_any (nat_eq m) ns) f) ∙ there) in
+          omega arith
     ]
 
 -- one of these candidates, one of these parties, blank or null
@@ -110,7 +111,7 @@ all_votes candidates parties bag =
 -- a member raises one of the four numbers by one
 one_more : (candidates parties : List ℕ) (d : Choice) → Rises candidates → Rises parties → IsOneOf candidates parties d
     → hits (λ n. choice.Nominal n) d candidates + hits (λ n. choice.Party n) d parties
-      + cond {A = ℕ} (is_same choice.Blank d) 1 0 + cond {A = ℕ} (is_same choice.Null d) 1 0 ≡ 1
+    + cond {A = ℕ} (is_same choice.Blank d) 1 0 + cond {A = ℕ} (is_same choice.Null d) 1 0 ≡ 1
 one_more candidates parties (choice.Nominal n) cs ps one =
     let here = once n candidates cs one in
     let other = nothing_hit (λ k. choice.Party k) (choice.Nominal n) parties (λ k. refl) in

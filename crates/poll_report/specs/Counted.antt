@@ -1,7 +1,8 @@
 -- The report of a section and what was counted there (docs/RULES.md, "The report"): each number is a number of members of a bag.
-use Rattle.std.specs.Prelude.{ℕ, ◌+◌, Bool, List, [], ◌∷◌, map, length, nat_lt}
+use Rattle.std.specs.Prelude.{◌≡◌, ℕ, ◌+◌, ◌*◌, ◌≤◌, Bool, true, List, [], ◌∷◌, Some, map, length, nat_lt}
 use Rattle.std.specs.List.{filter}
-use Rattle.election_tables.specs.TablesData.{TablesData, places_in}
+use Rattle.urna_base.specs.Moment.{is_moment}
+use Rattle.election_tables.specs.TablesData.{TablesData, places_in, places_of, section_with}
 use Rattle.election_tables.specs.declared.office.Kind.{Kind}
 use Rattle.election_tables.specs.declared.office.Kind.TheVariants as kind
 use Rattle.election_tables.specs.declared.tables.panels.Panel.{Panel}
@@ -10,6 +11,8 @@ use Rattle.turnout.specs.Turnout.{number_came}
 use Rattle.vote_kinds.specs.declared.choice.Choice.{Choice}
 use Rattle.vote_kinds.specs.declared.choice.Choice.TheVariants as choice
 use Rattle.vote_record.specs.Bag.{count_of, bag_at}
+use Rattle.vote_record.specs.Laws.{HasOnlyVotes}
+use Rattle.vote_record.specs.RdvData.{RdvData}
 use Rattle.poll_report.specs.declared.report.Count.{Count}
 use Rattle.poll_report.specs.declared.report.OfficeCount.{OfficeCount}
 use Rattle.poll_report.specs.declared.report.Report.{Report}
@@ -62,3 +65,14 @@ report_of t section bags came opened closed = record {
   closed = closed;
   offices = office_counts t bags;
 }
+
+-- What a report is made of: a record of the tables that has the votes of all who came, a section of the tables with as many voters as
+-- the turnout has, and two moments, of which closing isn't below opening.
+pub record HasReport (t : TablesData) (of : Section) (r : RdvData) (came : List Bool) (start end : ℕ) : Type 0 where
+  pub votes : HasOnlyVotes t r
+  pub totals : map length r.bags ≡ map (λ places. number_came came * places) (places_of t)
+  pub section : section_with of.zone of.number t.sections ≡ Some of
+  pub voters : of.voters ≡ length came
+  pub opened : is_moment start ≡ true
+  pub closed : is_moment end ≡ true
+  pub order : start ≤ end

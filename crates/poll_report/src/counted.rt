@@ -1,14 +1,11 @@
 //! The report of a section: each number in it is a number of members of a bag.
 ghost use Rattle.std.specs.Prelude.{◌≡◌, ◌+◌, ◌*◌, ◌^◌, ◌<◌, ◌≤◌, [], ◌∷◌, ◌++◌, true, length, map, nat_lt, IfOk, OnOk, Some};
 ghost use Rattle.std.specs.List.{filter};
-ghost use Rattle.election_tables.specs.TablesData.{IsTables, candidates_at, places_of, section_with};
-ghost use Rattle.turnout.specs.Turnout.{number_came};
-ghost use Rattle.urna_base.specs.Moment.{is_moment};
+ghost use Rattle.election_tables.specs.TablesData.{IsTables, candidates_at};
 ghost use Rattle.vote_kinds.specs.Ballot.{panel_at};
 ghost use Rattle.vote_kinds.specs.declared.choice.Choice.TheVariants as choice;
 ghost use Rattle.vote_record.specs.Bag.{bag_at};
-ghost use Rattle.vote_record.specs.Laws.{HasOnlyVotes};
-ghost use Rattle.poll_report.specs.Counted.{listed, office_count, office_counts, party_counts, report_of};
+ghost use Rattle.poll_report.specs.Counted.{HasReport, listed, office_count, office_counts, party_counts, report_of};
 ghost use Rattle.poll_report.specs.Report.{IsReport};
 
 use crate::report::{Count, Counts, OfficeCount, OfficeCounts, Report};
@@ -35,13 +32,7 @@ impl Report {
         opened: u64,
         closed: u64,
     ) -> Result<Report, Memory>
-        requires votes { HasOnlyVotes tables.now votes.now }
-        requires totals { map length votes.now.bags ≡ map (λ places. number_came turnout.now * places) (places_of tables.now) }
-        requires section { section_with section.zone section.number tables.now.sections ≡ Some section }
-        requires voters { section.voters ≡ length turnout.now }
-        requires opened { is_moment opened ≡ true }
-        requires closed { is_moment closed ≡ true }
-        requires order { opened ≤ closed }
+        requires { HasReport tables.now section votes.now turnout.now opened closed }
         ensures counted { IfOk result (λ r. r ≡ report_of tables.now section votes.now.bags turnout.now opened closed) }
         ensures spelled { IfOk result IsReport }
     {

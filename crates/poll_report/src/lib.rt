@@ -7,6 +7,7 @@
 
 mod counted;
 mod counts;
+pub mod laws;
 pub mod report;
 
 pub use counts::show_counts;

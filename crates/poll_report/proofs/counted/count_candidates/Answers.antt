@@ -1,4 +1,4 @@
-use Rattle.std.proofs.Common.{◌≡◌, ◌++◌, ◌∷◌, [], List, map, take, ap, sym, ◌∙◌, slice_get, subst, arith}
+use Rattle.std.proofs.Common.{◌++◌, ◌∷◌, [], List, ap, sym, ◌∙◌, slice_get, arith}
 use Rattle.std.specs.List.{filter}
 use Rattle.election_tables.specs.TablesData.{candidates_at}
 use Rattle.vote_kinds.specs.declared.choice.Choice.TheVariants as choice
@@ -17,4 +17,4 @@ loop-i-preserved c =
     let xs = candidates_at c.args.panel c.args.tables.now in
     c.in_ok-list.ensures ∙ ap (λ (l : List Count). l ++ filter has_votes (record { number = c.candidate-number.result.number; votes = c.count-votes.result } ∷ [])) c.loop-i.invariant
     ∙ sym (listed_more (λ n. choice.Nominal n) (bag_at c.args.votes.now.bags c.args.panel) (λ x. x.number) xs c.loop-i.i c.candidate-number.result.number c.count-votes.result
-      (candidate_number (slice_get xs c.loop-i.i) c.candidate-number.result c.candidate-number.ensures.candidate) c.count-votes.ensures)
+    (candidate_number (slice_get xs c.loop-i.i) c.candidate-number.result c.candidate-number.ensures.candidate) c.count-votes.ensures)

@@ -1,4 +1,4 @@
-use Rattle.std.proofs.Common.{◌≡◌, ◌++◌, ◌∷◌, [], List, ap, sym, ◌∙◌, subst, arith}
+use Rattle.std.proofs.Common.{◌++◌, ◌∷◌, [], List, ap, sym, ◌∙◌, arith}
 use Rattle.vote_kinds.specs.Ballot.{panel_at}
 use Rattle.vote_record.specs.Bag.{bag_at}
 use Rattle.poll_report.specs.declared.report.OfficeCount.{OfficeCount}
