@@ -4,11 +4,11 @@ use Rattle.std.specs.Prelude.{◌==◌, nat_eq, nat_lt, ◌&&◌, IsSomeAnd, IsT
 use Rattle.std.specs.List.{All, AllByRecursion, AllPairs, list_any}
 use Rattle.std.proofs.lemmas.Bool.{cases_Bool}
 use Rattle.std.proofs.lemmas.Bool.Decides.{nat_tests}
-use Rattle.std.proofs.lemmas.List.Elements.{recursion_from_All, All-head, All-tail}
+use Rattle.std.proofs.lemmas.List.Elements.{recursion_from_All, All-contains, All-head, All-tail}
 use Rattle.std.proofs.lemmas.List.Kept.{AllPairs-from_increasing}
 use Rattle.std.proofs.lemmas.List.Sums.{count_by-le-length}
 use Rattle.election_tables.specs.Offices.{code_digits, code_proportional, allows}
-use Rattle.election_tables.specs.TablesData.{TablesData, IsTables, IsPanel, IsCandidate, IsParty, IsSection, places_in, places_of, section_with}
+use Rattle.election_tables.specs.TablesData.{TablesData, IsTables, IsPanel, IsCandidate, IsParty, IsSection, places_in, places_of}
 use Rattle.election_tables.specs.declared.office.Kind.{Kind}
 use Rattle.election_tables.specs.declared.office.Kind.TheVariants as kind
 use Rattle.election_tables.specs.declared.tables.candidates.NamedCandidate.{NamedCandidate}
@@ -260,13 +260,6 @@ counts_spelled t r came tables votes full few =
 
 -- ---- the section
 
-section_there : (zone number : ℕ) (sections : List Section) (s : Section) → All IsSection sections → section_with zone number sections ≡ Some s → IsSection s
-section_there zone number [] s all e = absurd (cc)
-section_there zone number (q ∷ sections) s all e = elim (cases_Bool ((q.zone == zone) && (q.number == number))) [
-  | inl t ↦ let same : q ≡ s = let there : Some q ≡ Some s = rw t at e in cc in subst IsSection same (All-head IsSection q sections all)
-  | inr f ↦ section_there zone number sections s (All-tail IsSection q sections all) (rw f at e)
-]
-
 between : (low high n : ℕ) → low ≤ n → n ≤ high → is_between low high n ≡ true
 between low high n h k = grind (arith, nat_tests)
 
@@ -281,7 +274,7 @@ some_offices t bags tables = some t.panels tables.panel_count.0
 pub report_spelled : (t : TablesData) (section : Section) (votes : RdvData) (came : List Bool) (opened closed : ℕ) → IsTables t
     → HasReport t section votes came opened closed → IsReport (report_of t section votes.bags came opened closed)
 report_spelled t section votes came opened closed tables has =
-    let of = section_there section.zone section.number t.sections section tables.sections has.section in
+    let of = All-contains IsSection t.sections section tables.sections has.section in
     let some_came = number_came-le-length came in
     record {
       process = between _ _ _ tables.process.0 tables.process.1;

@@ -1,8 +1,8 @@
 -- The report of a section and what was counted there (docs/RULES.md, "The report"): each number is a number of members of a bag.
-use Rattle.std.specs.Prelude.{◌≡◌, ℕ, ◌+◌, ◌*◌, ◌≤◌, Bool, true, List, [], ◌∷◌, Some, map, length, nat_lt}
-use Rattle.std.specs.List.{filter}
+use Rattle.std.specs.Prelude.{◌≡◌, ℕ, ◌+◌, ◌*◌, ◌≤◌, Bool, true, List, [], ◌∷◌, map, length, nat_lt}
+use Rattle.std.specs.List.{Contains, filter}
 use Rattle.urna_base.specs.Moment.{is_moment}
-use Rattle.election_tables.specs.TablesData.{TablesData, places_in, places_of, section_with}
+use Rattle.election_tables.specs.TablesData.{TablesData, places_in, places_of}
 use Rattle.election_tables.specs.declared.office.Kind.{Kind}
 use Rattle.election_tables.specs.declared.office.Kind.TheVariants as kind
 use Rattle.election_tables.specs.declared.tables.panels.Panel.{Panel}
@@ -71,7 +71,7 @@ report_of t section bags came opened closed = record {
 pub record HasReport (t : TablesData) (of : Section) (r : RdvData) (came : List Bool) (start end : ℕ) : Type 0 where
   pub votes : HasOnlyVotes t r
   pub totals : map length r.bags ≡ map (λ places. number_came came * places) (places_of t)
-  pub section : section_with of.zone of.number t.sections ≡ Some of
+  pub section : Contains t.sections of
   pub voters : of.voters ≡ length came
   pub opened : is_moment start ≡ true
   pub closed : is_moment end ≡ true
