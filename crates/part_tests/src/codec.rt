@@ -1,5 +1,6 @@
 //! The states of a poll, and their bodies, worked out by hand from docs/FORMATS.md (the crate `image_codec`).
-ghost use Rattle.std.specs.Prelude.{◌≡◌, ◌+◌, ◌≤◌, length, vec_len, IfOk};
+ghost use Rattle.std.specs.Prelude.{◌≡◌, ◌+◌, ◌<◌, ◌≤◌, length, vec_len, IfOk};
+ghost use Rattle.election_tables.specs.Limits.{most_voters};
 
 use election_tables::Tables;
 use image_codec::{State, decode, encode_into, rank_of};
@@ -29,25 +30,43 @@ const OPENED: u64 = 20261004080000;
 
 const CLOSED: u64 = 20261004170000;
 
+/// What a state tells: its rank and phase, who of three places came, and in the first panel the votes for candidates 13 and 45 and
+/// the blank ones.
+type Told = (u32, Phase, [bool; 3], [u32; 3]);
+
+fn told(state: &State) -> Told
+    requires { 0 < length state.now.bags }
+{
+    let turnout = state.turnout();
+    let votes = state.votes();
+    (
+        state.rank(),
+        state.phase(),
+        [turnout.came(0), turnout.came(1), turnout.came(2)],
+        [
+            votes.count(0, Choice::Nominal(13)),
+            votes.count(0, Choice::Nominal(45)),
+            votes.count(0, Choice::Blank),
+        ],
+    )
+}
+
 #[test]
 fn a_poll_of_two_voters_of_whom_one_came(rt: HostRuntime) -> Result<(), Fail> {
     let tables = Tables::read(rt.alloc(), TABLES)?;
-    assert!(rt; tables.panels() == 1);
-    assert!(rt; moment_ok(OPENED) && moment_ok(CLOSED));
+    assert!(rt; tables.panels() == 1 && moment_ok(OPENED) && moment_ok(CLOSED));
     let mut state = State::ready(rt.alloc(), &tables, 2)?;
-    assert_eq!(rt; state.rank(), 0);
+    let ready = state.rank();
     state.begin(OPENED);
     state.ballot(&tables, 1, &[Choice::Blank]);
-    assert_eq!(rt; state.rank(), 2);
-    assert_eq!(rt; state.turnout().came(1), true);
-    assert_eq!(rt; state.votes().count(0, Choice::Blank), 1);
+    let voted = state.rank();
     state.seal(CLOSED);
-    assert_eq!(rt; state.rank(), 3);
+    assert_eq!(rt; (ready, voted), (0, 2));
     let sealed = Phase::Sealed {
         opened: OPENED,
         closed: CLOSED,
     };
-    assert_eq!(rt; state.phase(), sealed);
+    assert_eq!(rt; told(&state), (3, sealed, [false, true, false], [0, 0, 1]));
     Ok(())
 }
 
@@ -71,28 +90,6 @@ fn body_of(alloc: Global, front: &[u8], bags: &[u8]) -> Result<Vec<u8>, Memory>
     Ok(body)
 }
 
-#[test]
-fn a_sealed_poll_is_read_and_written_again(rt: HostRuntime) -> Result<(), Fail> {
-    let tables = Tables::read(rt.alloc(), TABLES)?;
-    assert!(rt; tables.panels() == 1);
-    let body = body_of(rt.alloc(), &SEALED, &VOTES)?;
-    assert_eq!(rt; rank_of(&tables, 3, &body), Some(4));
-    let state = decode(rt.alloc(), &tables, 3, &body)?.ok_or("the body is an encoding")?;
-    let sealed = Phase::Sealed {
-        opened: 20261004080000,
-        closed: 20261004170000,
-    };
-    assert_eq!(rt; state.phase(), sealed);
-    let came = [0, 1, 2].map(|place| state.turnout().came(place));
-    assert_eq!(rt; came.as_slice(), [true, false, true].as_slice());
-    assert_eq!(rt; state.votes().count(0, Choice::Nominal(45)), 1);
-    assert_eq!(rt; state.votes().count(0, Choice::Blank), 1);
-    let mut written = body_of(rt.alloc(), &[255; 97], &[255; 1000])?;
-    encode_into(&state, &tables, &mut written);
-    assert!(rt; written.as_slice() == body.as_slice());
-    Ok(())
-}
-
 /// An open poll whose one voter came, and chose candidate 13.
 const POLLING: [u8; 23] = [
     1, 1, 0, 0, 18, 109, 97, 243, 115, 128, 0, 0, 0, 0, 0, 0, 0, 0, 0, 0, 0, 1, 128,
@@ -100,19 +97,62 @@ const POLLING: [u8; 23] = [
 
 const VOTE: [u8; 10] = [1, 0, 0, 0, 1, 1, 0, 0, 0, 13];
 
+/// What the state of a body tells; nothing where it is no encoding.
+fn read(
+    alloc: Global,
+    tables: &Tables,
+    voters: u32,
+    front: &[u8],
+    bags: &[u8],
+) -> Result<Option<Told>, Memory>
+    requires voters { voters ≤ most_voters }
+    requires front { length front.now ≤ 97 }
+    requires bags { length bags.now ≤ 1000 }
+{
+    let body = body_of(alloc, front, bags)?;
+    let _panels = tables.panels();
+    match decode(alloc, tables, voters, &body)? {
+        Some(state) => Ok(Some(told(&state))),
+        None => Ok(None),
+    }
+}
+
 #[test]
-fn an_open_poll_is_read(rt: HostRuntime) -> Result<(), Fail> {
+fn polls_are_read(rt: HostRuntime) -> Result<(), Fail> {
     let tables = Tables::read(rt.alloc(), TABLES)?;
-    assert!(rt; tables.panels() == 1);
-    let body = body_of(rt.alloc(), &POLLING, &VOTE)?;
-    assert_eq!(rt; rank_of(&tables, 1, &body), Some(2));
-    let state = decode(rt.alloc(), &tables, 1, &body)?.ok_or("the body is an encoding")?;
-    let polling = Phase::Polling {
-        opened: 20261004080000,
+    let sealed = Phase::Sealed {
+        opened: OPENED,
+        closed: CLOSED,
     };
-    assert_eq!(rt; state.phase(), polling);
-    assert!(rt; state.turnout().came(0));
-    assert_eq!(rt; state.votes().count(0, Choice::Nominal(13)), 1);
+    let polling = Phase::Polling { opened: OPENED };
+    assert_eq!(rt;
+        (
+            read(rt.alloc(), &tables, 3, &SEALED, &VOTES)?,
+            read(rt.alloc(), &tables, 1, &POLLING, &VOTE)?
+        ),
+        (
+            Some((4, sealed, [true, false, true], [0, 1, 1])),
+            Some((2, polling, [true, false, false], [1, 0, 0]))
+        )
+    );
+    Ok(())
+}
+
+/// Whether the sealed poll is written as it was read, over whatever stands there.
+fn is_written_again(alloc: Global, tables: &Tables) -> Result<bool, Memory> {
+    let body = body_of(alloc, &SEALED, &VOTES)?;
+    let Some(state) = decode(alloc, tables, 3, &body)? else {
+        return Ok(false);
+    };
+    let mut written = body_of(alloc, &[255; 97], &[255; 1000])?;
+    encode_into(&state, tables, &mut written);
+    Ok(written.as_slice() == body.as_slice())
+}
+
+#[test]
+fn a_sealed_poll_is_written_again(rt: HostRuntime) -> Result<(), Fail> {
+    let tables = Tables::read(rt.alloc(), TABLES)?;
+    assert!(rt; is_written_again(rt.alloc(), &tables)?);
     Ok(())
 }
 
@@ -189,37 +229,46 @@ fn is_refused(alloc: Global, tables: &Tables, at: usize, bytes: &[u8]) -> Result
     Ok(rank_of(tables, 3, &body).is_none())
 }
 
-#[test]
-fn the_length_and_the_roll_count_too(rt: HostRuntime) -> Result<(), Fail> {
-    let tables = Tables::read(rt.alloc(), TABLES)?;
-    let mut body = body_of(rt.alloc(), &SEALED, &VOTES)?;
-    assert_eq!(rt; rank_of(&tables, 2, &body), None);
-    assert_eq!(rt; rank_of(&tables, 3, &body), Some(4));
-    assert_eq!(rt; body.pop(), Some(0));
-    assert_eq!(rt; rank_of(&tables, 3, &body), None);
-    Ok(())
+/// The rank of a body of so many voters.
+fn rank(
+    alloc: Global,
+    tables: &Tables,
+    voters: u32,
+    front: &[u8],
+    bags: &[u8],
+) -> Result<Option<u32>, Memory>
+    requires voters { voters ≤ most_voters }
+    requires front { length front.now ≤ 97 }
+    requires bags { length bags.now ≤ 1000 }
+{
+    let body = body_of(alloc, front, bags)?;
+    Ok(rank_of(tables, voters, &body))
 }
 
 #[test]
-fn a_ready_body_has_no_moments(rt: HostRuntime) -> Result<(), Fail> {
+fn a_body_is_of_its_roll_and_a_ready_one_has_no_moments(rt: HostRuntime) -> Result<(), Fail> {
     let tables = Tables::read(rt.alloc(), TABLES)?;
-    let ready = body_of(rt.alloc(), &[1, 0], &[1])?;
-    assert_eq!(rt; rank_of(&tables, 3, &ready), Some(0));
-    let opened = body_of(rt.alloc(), &[1, 0, 0, 0, 18, 109, 97, 243, 115, 128], &[1])?;
-    assert_eq!(rt; rank_of(&tables, 3, &opened), None);
+    let opened = [1, 0, 0, 0, 18, 109, 97, 243, 115, 128];
+    assert_eq!(rt;
+        [
+            rank(rt.alloc(), &tables, 3, &SEALED, &VOTES)?,
+            rank(rt.alloc(), &tables, 2, &SEALED, &VOTES)?,
+            rank(rt.alloc(), &tables, 3, &[1, 0], &[1])?,
+            rank(rt.alloc(), &tables, 3, &opened, &[1])?,
+        ],
+        [Some(4), None, Some(0), None]
+    );
     Ok(())
 }
 
 #[test]
 fn a_ready_state_takes_on_a_sealed_one(rt: HostRuntime) -> Result<(), Fail> {
     let tables = Tables::read(rt.alloc(), TABLES)?;
+    let body = body_of(rt.alloc(), &SEALED, &VOTES)?;
     let mut state = State::ready(rt.alloc(), &tables, 3)?;
     let short = state.load(&tables, &SEALED);
-    assert!(rt; !short);
-    assert_eq!(rt; state.rank(), 0);
-    let whole = state.load(&tables, &body_of(rt.alloc(), &SEALED, &VOTES)?);
-    assert!(rt; whole);
-    assert_eq!(rt; state.rank(), 4);
-    assert_eq!(rt; state.turnout().len(), 2);
+    assert!(rt; !short && state.rank() == 0);
+    let whole = state.load(&tables, &body);
+    assert!(rt; whole && state.rank() == 4 && state.turnout().len() == 2);
     Ok(())
 }

@@ -12,7 +12,7 @@ mod documents;
 
 use documents::{
     CANDIDATES, EMPTY, EVERY_OFFICE, EVERY_PANEL, HEAD, HEADERS, MANY, NO_TEXT, OFFICES, PARTIES,
-    SECTIONS, TABLE,
+    PanelRow, SECTIONS, TABLE,
 };
 
 fn good_document(alloc: Global) -> Result<String, AllocError> {
@@ -21,111 +21,115 @@ fn good_document(alloc: Global) -> Result<String, AllocError> {
     )
 }
 
+/// The first answer that isn't as the good document has it, but for the panels.
+fn wrong_list(tables: &Tables) -> Option<&'static str> {
+    let first = Section {
+        zone: 1,
+        number: 42,
+        voters: 600,
+    };
+    let second = Section {
+        zone: 2,
+        number: 1,
+        voters: 3,
+    };
+    if (tables.process(), tables.date(), tables.turn()) != (7, 20261004, 1) {
+        return Some("the head");
+    }
+    if tables.party_count() != 2 || tables.section_count() != 2 {
+        return Some("how many parties or sections");
+    }
+    if (tables.party(0), tables.party(1)) != (13, 45) {
+        return Some("the parties");
+    }
+    if tables.party_name(45) != Some("PB") || tables.party_name(46) != None {
+        return Some("the names of parties");
+    }
+    if (tables.section(0), tables.section(1)) != (first, second) {
+        return Some("the sections");
+    }
+    if tables.find_section(2, 1) != Some(second) {
+        return Some("the section of a zone and number");
+    }
+    if tables.find_section(1, 2) != None || tables.find_section(42, 1) != None {
+        return Some("a section that isn't there");
+    }
+    None
+}
+
+/// Whether a panel has this office and, rising, these candidates: number, birth and name.
+fn has_panel(tables: &Tables, panel: u32, office: Office, candidates: &[(u32, u32, &str)]) -> bool {
+    if panel >= tables.panels() || tables.office(panel) != office || tables.places(panel) != 1 {
+        return false;
+    }
+    if tables.candidate_count(panel) as usize != candidates.len() {
+        return false;
+    }
+    for i in 0..tables.candidate_count(panel) {
+        let Some((number, birth, name)) = candidates.get(i as usize) else {
+            return false;
+        };
+        let candidate = Candidate {
+            number: *number,
+            birth: *birth,
+        };
+        if tables.candidate(panel, i) != candidate {
+            return false;
+        }
+        if tables.candidate_name(panel, *number) != Some(*name) {
+            return false;
+        }
+    }
+    true
+}
+
+/// The panels of the good document.
+const GOOD_PANELS: &[PanelRow] = &[
+    (
+        13,
+        5,
+        Kind::Proportional,
+        5,
+        &[(13001, 19700101, "ANA"), (45001, 19650520, "BRUNO")],
+    ),
+    (
+        11,
+        2,
+        Kind::Absolute,
+        1,
+        &[(13, 19600303, "CARLA"), (45, 19751212, "DAVI")],
+    ),
+    (5, 3, Kind::Simple, 1, &[(451, 19500101, "EVA")]),
+];
+
+/// The first panel of the tables that isn't the one of its place among these.
+fn wrong_panel(tables: &Tables, panels: &[PanelRow]) -> Option<u32> {
+    for panel in 0..tables.panels() {
+        let Some((code, digits, kind, seats, candidates)) = panels.get(panel as usize) else {
+            return Some(panel);
+        };
+        let office = Office {
+            code: *code,
+            digits: *digits,
+            kind: *kind,
+            seats: *seats,
+        };
+        if !has_panel(tables, panel, office, candidates) {
+            return Some(panel);
+        }
+    }
+    None
+}
+
 #[test]
 fn tables_answer(rt: HostRuntime) -> Result<(), Fail> {
     let text = good_document(rt.alloc())?;
     let tables = Tables::read(rt.alloc(), text.as_str().as_bytes())?;
-    assert_eq!(rt;
-        (tables.process(), tables.date(), tables.turn()),
-        (7, 20261004, 1)
-    );
-    assert_eq!(rt; tables.party_count(), 2);
-    assert_eq!(rt; (tables.party(0), tables.party(1)), (13, 45));
-    assert!(rt; tables.party_name(45) == Some("PB") && tables.party_name(46) == None);
-    assert_eq!(rt; tables.section_count(), 2);
-    assert!(rt;
-        tables.section(0)
-            == Section {
-                zone: 1,
-                number: 42,
-                voters: 600
-            }
-    );
-    assert!(rt;
-        tables.section(1)
-            == Section {
-                zone: 2,
-                number: 1,
-                voters: 3
-            }
-    );
-    assert!(rt;
-        tables.find_section(2, 1)
-            == Some(Section {
-                zone: 2,
-                number: 1,
-                voters: 3
-            })
-    );
-    assert!(rt; tables.find_section(1, 2) == None && tables.find_section(42, 1) == None);
-    assert!(rt; tables.digest() == Sha256::digest(text.as_str().as_bytes()));
-    Ok(())
-}
-
-#[test]
-fn panels_answer(rt: HostRuntime) -> Result<(), Fail> {
-    let text = good_document(rt.alloc())?;
-    let tables = Tables::read(rt.alloc(), text.as_str().as_bytes())?;
+    assert_eq!(rt; wrong_list(&tables), None);
     assert_eq!(rt; tables.panels(), 3);
-    assert_eq!(rt; tables.places(0), 1);
-    assert!(rt;
-        tables.office(0)
-            == Office {
-                code: 13,
-                digits: 5,
-                kind: Kind::Proportional,
-                seats: 5
-            }
-    );
-    assert!(rt;
-        tables.office(2)
-            == Office {
-                code: 5,
-                digits: 3,
-                kind: Kind::Simple,
-                seats: 1
-            }
-    );
-    assert_eq!(rt; tables.candidate_count(0), 2);
-    assert!(rt;
-        tables.candidate(0, 0)
-            == Candidate {
-                number: 13001,
-                birth: 19700101
-            }
-    );
-    assert!(rt;
-        tables.candidate(0, 1)
-            == Candidate {
-                number: 45001,
-                birth: 19650520
-            }
-    );
-    assert_eq!(rt; tables.candidate_count(1), 2);
-    assert!(rt;
-        tables.candidate(1, 0)
-            == Candidate {
-                number: 13,
-                birth: 19600303
-            }
-    );
-    assert!(rt;
-        tables.candidate(1, 1)
-            == Candidate {
-                number: 45,
-                birth: 19751212
-            }
-    );
-    assert!(rt;
-        tables.candidate_name(0, 13001) == Some("ANA") && tables.candidate_name(0, 45) == None
-    );
-    assert!(rt;
-        tables.candidate_name(1, 45) == Some("DAVI") && tables.candidate_name(1, 46) == None
-    );
-    assert!(rt;
-        tables.candidate_name(2, 451) == Some("EVA") && tables.candidate_name(2, 45) == None
-    );
-    assert!(rt; tables.candidate_name(3, 45) == None);
+    assert_eq!(rt; wrong_panel(&tables, GOOD_PANELS), None);
+    assert!(rt; tables.candidate_name(0, 45) == None && tables.candidate_name(3, 45) == None);
+    assert!(rt; tables.digest() == Sha256::digest(text.as_str().as_bytes()));
     Ok(())
 }
 
@@ -298,34 +302,7 @@ fn lists_have_their_most_entries(rt: HostRuntime) -> Result<(), Fail> {
 fn every_office_has_its_panel(rt: HostRuntime) -> Result<(), Fail> {
     let tables = Tables::read(rt.alloc(), EVERY_OFFICE.as_bytes())?;
     assert_eq!(rt; tables.panels(), 8);
-    let mut panel = 0;
-    for (code, digits, kind, seats, number, birth, name) in EVERY_PANEL {
-        assert!(rt; panel < tables.panels());
-        let office = Office {
-            code: *code,
-            digits: *digits,
-            kind: *kind,
-            seats: *seats,
-        };
-        assert!(rt;
-            tables.office(panel) == office,
-            "the office of panel {panel}"
-        );
-        assert_eq!(rt; tables.candidate_count(panel), 1);
-        let candidate = Candidate {
-            number: *number,
-            birth: *birth,
-        };
-        assert!(rt;
-            tables.candidate(panel, 0) == candidate,
-            "the candidate of panel {panel}"
-        );
-        assert!(rt;
-            tables.candidate_name(panel, *number) == Some(*name),
-            "the name in panel {panel}"
-        );
-        panel += 1;
-    }
+    assert_eq!(rt; wrong_panel(&tables, EVERY_PANEL), None);
     Ok(())
 }
 
@@ -354,23 +331,22 @@ fn falling(alloc: Global) -> Result<String, AllocError> {
     Ok(text)
 }
 
-#[test]
-fn long_lists_rise(rt: HostRuntime) -> Result<(), Fail> {
-    let text = falling(rt.alloc())?;
-    let tables = Tables::read(rt.alloc(), text.as_str().as_bytes())?;
-    assert_eq!(rt; tables.panels(), 1);
-    assert_eq!(rt;
-        (tables.candidate_count(0), tables.section_count()),
-        (4096, 2000)
-    );
+/// Whether the candidates 10000 to 14095 and the sections of the zones 1 to 2000 rise.
+fn rises(alloc: Global, tables: &Tables) -> Result<bool, AllocError> {
+    if tables.panels() != 1 {
+        return Ok(false);
+    }
+    if (tables.candidate_count(0), tables.section_count()) != (4096, 2000) {
+        return Ok(false);
+    }
     for i in 0..4096u32 {
         let number = 10000 + i;
-        let name = format!(in rt.alloc(); "{number}")?;
-        assert_eq!(rt; tables.candidate(0, i).number, number);
-        assert!(rt;
-            tables.candidate_name(0, number) == Some(name.as_str()),
-            "the name of {number}"
-        );
+        let name = format!(in alloc; "{number}")?;
+        if tables.candidate(0, i).number != number
+            || tables.candidate_name(0, number) != Some(name.as_str())
+        {
+            return Ok(false);
+        }
     }
     for i in 0..2000u32 {
         let section = Section {
@@ -378,11 +354,18 @@ fn long_lists_rise(rt: HostRuntime) -> Result<(), Fail> {
             number: 7,
             voters: 600,
         };
-        assert!(rt;
-            tables.section(i) == section && tables.find_section(1 + i, 7) == Some(section),
-            "section {i}"
-        );
+        if tables.section(i) != section || tables.find_section(1 + i, 7) != Some(section) {
+            return Ok(false);
+        }
     }
+    Ok(true)
+}
+
+#[test]
+fn long_lists_rise(rt: HostRuntime) -> Result<(), Fail> {
+    let text = falling(rt.alloc())?;
+    let tables = Tables::read(rt.alloc(), text.as_str().as_bytes())?;
+    assert!(rt; rises(rt.alloc(), &tables)?);
     Ok(())
 }
 

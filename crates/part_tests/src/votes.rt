@@ -1,4 +1,6 @@
 //! The record of the votes (the crate `vote_record`).
+ghost use Rattle.std.specs.Prelude.{◌<◌, length};
+
 use election_tables::Tables;
 use std::test::Fail;
 use vote_kinds::{Choice, is_choice};
@@ -20,6 +22,18 @@ candidato = [
 secao = [{zona = 1, secao = 42, eleitores = 6}]
 "#;
 
+/// Whether the votes of the first panel are these, in this order, each once.
+fn has_votes(votes: &Rdv, kept: [Choice; 6]) -> bool
+    requires { 0 < length votes.now.bags }
+{
+    for (i, choice) in (0..6).zip(kept) {
+        if i >= votes.total(0) || votes.vote(0, i) != choice || votes.count(0, choice) != 1 {
+            return false;
+        }
+    }
+    votes.total(0) == 6 && votes.count(0, Choice::Nominal(13)) == 0
+}
+
 #[test]
 fn tells_votes_in_the_order_of_choices(rt: HostRuntime) -> Result<(), Fail> {
     let tables = Tables::read(rt.alloc(), TABLES)?;
@@ -34,8 +48,7 @@ fn tells_votes_in_the_order_of_choices(rt: HostRuntime) -> Result<(), Fail> {
         Choice::Nominal(13001),
     ];
     for choice in typed {
-        assert!(rt; votes.total(0) < 6);
-        assert!(rt; is_choice(&tables, 0, choice));
+        assert!(rt; votes.total(0) < 6 && is_choice(&tables, 0, choice));
         votes.add(&tables, 0, choice);
     }
     let kept = [
@@ -46,11 +59,6 @@ fn tells_votes_in_the_order_of_choices(rt: HostRuntime) -> Result<(), Fail> {
         Choice::Blank,
         Choice::Null,
     ];
-    for (i, choice) in (0..6).zip(kept) {
-        assert!(rt; i < votes.total(0));
-        assert_eq!(rt; votes.vote(0, i), choice, "at {i}");
-        assert_eq!(rt; votes.count(0, choice), 1, "at {i}");
-    }
-    assert_eq!(rt; votes.count(0, Choice::Nominal(13)), 0);
+    assert!(rt; has_votes(&votes, kept));
     Ok(())
 }

@@ -2,6 +2,16 @@
 
 use election_tables::Kind;
 
+/// A panel: the code of its office, its digits, how it is decided, its seats, and of each candidate, rising, the number, the birth
+/// and the name.
+pub(super) type PanelRow = (
+    u8,
+    u8,
+    Kind,
+    u32,
+    &'static [(u32, u32, &'static str)],
+);
+
 /// The parts of the good document. Its offices have numbers of 5, 2 and 3 digits, and its lists don't rise.
 pub(super) const HEAD: &str = "processo = 7
 data = 20261004
@@ -359,14 +369,14 @@ candidato = [
 ]
 "#;
 
-/// The panels of that document: code, digits, how it is decided, seats, and the candidate's number, birth and name.
-pub(super) const EVERY_PANEL: &[(u8, u8, Kind, u32, u32, u32, &str)] = &[
-    (6, 4, Kind::Proportional, 70, 2006, 19500106, "SEIS"),
-    (1, 2, Kind::Absolute, 1, 20, 19500101, "UM"),
-    (13, 5, Kind::Proportional, 55, 20013, 19500113, "TREZE"),
-    (5, 3, Kind::Simple, 1, 205, 19500105, "CINCO"),
-    (8, 5, Kind::Proportional, 24, 20008, 19500108, "OITO"),
-    (3, 2, Kind::Simple, 1, 20, 19500103, "TRES"),
-    (7, 5, Kind::Proportional, 94, 20007, 19500107, "SETE"),
-    (11, 2, Kind::Absolute, 1, 20, 19500111, "ONZE"),
+/// The panels of that document.
+pub(super) const EVERY_PANEL: &[PanelRow] = &[
+    (6, 4, Kind::Proportional, 70, &[(2006, 19500106, "SEIS")]),
+    (1, 2, Kind::Absolute, 1, &[(20, 19500101, "UM")]),
+    (13, 5, Kind::Proportional, 55, &[(20013, 19500113, "TREZE")]),
+    (5, 3, Kind::Simple, 1, &[(205, 19500105, "CINCO")]),
+    (8, 5, Kind::Proportional, 24, &[(20008, 19500108, "OITO")]),
+    (3, 2, Kind::Simple, 1, &[(20, 19500103, "TRES")]),
+    (7, 5, Kind::Proportional, 94, &[(20007, 19500107, "SETE")]),
+    (11, 2, Kind::Absolute, 1, &[(20, 19500111, "ONZE")]),
 ];

@@ -26,14 +26,14 @@ ballot-requires-clause-ballot g c =
     let one : length c.in_ok-tables.tables.panels ≡ 1 = omega arith in
     (blank_first c.in_ok-tables.tables one, omega (arith, lines_length c.in_ok-tables.tables))
 
-pub count-requires : goal.count-requires
-count-requires g c =
+pub told-requires : goal.told-requires
+told-requires g c =
     let one : length c.in_ok-tables.tables.panels ≡ 1 = omega arith in
     let bags_of : State → ℕ = λ s. length s.bags in
     let ready = ap bags_of c.in_ok-state.ensures in
     let opened = ap bags_of c.begin.ensures in
     let voted = ap bags_of c.ballot.ensures in
-    let read = ap (λ (b : List (List Choice)). length b) c.votes.ensures.bags in
+    let sealed = ap bags_of c.seal.ensures in
     let kept = length-with_votes (ballot_lines c.in_ok-tables.tables) (choice.Blank ∷ []) c.begin.new.self.bags in
     let many = length-replicate {A = List Choice} (length c.in_ok-tables.tables.panels) [] in
     omega arith
