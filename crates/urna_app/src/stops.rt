@@ -98,48 +98,75 @@ fn told(rt: &(impl Abort + AllocGlobal), images: Images) -> Result<Vec<u8>, Fail
     Ok(m.shown().to_vec(rt.alloc())?)
 }
 
-/// The commit of the first voter is stopped in its fifth operation, the put of the first gate.
-#[test]
-fn a_commit_stopped_at_its_first_gate(rt: HostRuntime) -> Result<(), Fail> {
-    let (_, opened) = run(&rt, OPENS, loaded(&rt, LOAD)?)?;
-    let (status, voted) = run(&rt, FIRST_VOTER, left(&rt, &opened)?)?;
+/// Whether `vota` tells these lines over both images, over the internal one alone and over the external one alone.
+fn tells_each(
+    rt: &(impl Abort + AllocGlobal),
+    images: &Images,
+    want: [&[u8]; 3],
+) -> Result<bool, Fail> {
+    let both = told(rt, copied(rt, images)?)?.as_slice() == want[0];
+    let internal = told(rt, alone(copied(rt, images)?, Dev::Internal))?.as_slice() == want[1];
+    let external = told(rt, alone(copied(rt, images)?, Dev::External))?.as_slice() == want[2];
+    Ok(both && internal && external)
+}
+
+/// What is left where the commit of the first voter is stopped in its fifth operation, the put of the first gate.
+fn stopped_at_gate(
+    rt: &(impl Abort + AllocGlobal),
+    opened: &Recorder,
+    tear: Tear,
+) -> Result<Images, Fail> {
+    let (status, voted) = run(rt, FIRST_VOTER, left(rt, opened)?)?;
     assert_eq!(rt; status, Status::Done);
     let quiet = voted.trail_len().saturating_sub(COMMIT + 1);
-    let fifth = quiet.saturating_add(5);
-    let open = stopped(&rt, &voted, fifth, Tear::Byte(0xA5))?;
-    assert_eq!(rt; told(&rt, copied(&rt, &open)?)?.as_slice(), HELD[2]);
-    assert_eq!(rt;
-        told(&rt, alone(copied(&rt, &open)?, Dev::Internal))?.as_slice(),
-        HELD[2]
-    );
-    assert_eq!(rt; told(&rt, alone(open, Dev::External))?.as_slice(), HELD[1]);
-    let torn = stopped(&rt, &voted, fifth, Tear::Byte(0x7E))?;
-    assert_eq!(rt; told(&rt, copied(&rt, &torn)?)?.as_slice(), HELD[1]);
-    assert_eq!(rt;
-        told(&rt, alone(copied(&rt, &torn)?, Dev::Internal))?.as_slice(),
-        HELD[1]
-    );
-    assert_eq!(rt;
-        told(&rt, alone(copied(&rt, &torn)?, Dev::External))?.as_slice(),
-        HELD[1]
-    );
-    // the recovery writes the one slot back: its body, a sync, its gate, a sync, and shows its line
-    let (status, healed) = run(&rt, ON, torn)?;
-    assert_eq!(rt; status, Status::Done);
-    assert_eq!(rt; healed.shown(), HELD[1]);
-    assert_eq!(rt; healed.trail_len(), SYNCS + 4 + 1);
-    assert_eq!(rt;
-        healed.content(Dev::Internal),
-        opened.content(Dev::Internal)
-    );
-    assert_eq!(rt;
-        healed.content(Dev::External),
-        opened.content(Dev::External)
-    );
+    stopped(rt, &voted, quiet.saturating_add(5), tear)
+}
+
+/// An open poll, before its first voter.
+fn opened(rt: &(impl Abort + AllocGlobal)) -> Result<Recorder, Fail> {
+    let (_, m) = run(rt, OPENS, loaded(rt, LOAD)?)?;
+    Ok(m)
+}
+
+#[test]
+fn a_commit_stopped_at_its_first_gate(rt: HostRuntime) -> Result<(), Fail> {
+    let m = opened(&rt)?;
+    let open = stopped_at_gate(&rt, &m, Tear::Byte(0xA5))?;
+    assert!(rt; tells_each(&rt, &open, [HELD[2], HELD[2], HELD[1]])?);
+    let torn = stopped_at_gate(&rt, &m, Tear::Byte(0x7E))?;
+    assert!(rt; tells_each(&rt, &torn, [HELD[1]; 3])?);
+    Ok(())
+}
+
+/// Whether the recovery has written one slot back, its body, a sync, its gate, a sync, has shown its line, and both flashes are as
+/// they were.
+fn is_healed(healed: &Recorder, before: &Recorder) -> bool {
+    healed.shown() == HELD[1]
+        && healed.trail_len() == SYNCS + 4 + 1
+        && healed.content(Dev::Internal) == before.content(Dev::Internal)
+        && healed.content(Dev::External) == before.content(Dev::External)
+}
+
+/// Whether the open poll without a voter is told wherever a recovery is stopped.
+fn tells_it_at_each_stop(
+    rt: &(impl Abort + AllocGlobal),
+    healed: &Recorder,
+) -> Result<bool, Fail> {
     for ops in SYNCS..healed.trail_len() {
-        let images = stopped(&rt, &healed, ops, Tear::Byte(0x5A))?;
-        assert_eq!(rt; told(&rt, images)?.as_slice(), HELD[1], "after {ops}");
+        let images = stopped(rt, healed, ops, Tear::Byte(0x5A))?;
+        if told(rt, images)?.as_slice() != HELD[1] {
+            return Ok(false);
+        }
     }
+    Ok(true)
+}
+
+#[test]
+fn a_torn_gate_is_written_back_once(rt: HostRuntime) -> Result<(), Fail> {
+    let m = opened(&rt)?;
+    let (status, healed) = run(&rt, ON, stopped_at_gate(&rt, &m, Tear::Byte(0x7E))?)?;
+    assert!(rt; status == Status::Done && is_healed(&healed, &m));
+    assert!(rt; tells_it_at_each_stop(&rt, &healed)?);
     let (_, again) = run(&rt, ON, left(&rt, &healed)?)?;
     assert_eq!(rt; again.trail_len(), SYNCS + 1);
     Ok(())
@@ -148,7 +175,7 @@ fn a_commit_stopped_at_its_first_gate(rt: HostRuntime) -> Result<(), Fail> {
 /// The first sync of the external flash in that commit fails once.
 #[test]
 fn a_commit_stopped_at_the_external_flash(rt: HostRuntime) -> Result<(), Fail> {
-    let (_, opened) = run(&rt, OPENS, loaded(&rt, LOAD)?)?;
+    let opened = opened(&rt)?;
     // a read, a write and a sync: the third that stops it
     let mut faults = 0u32;
     for call in 0..200 {

@@ -449,39 +449,49 @@ fn tables_at_fault(rt: HostRuntime) -> Result<(), Fail> {
 #[test]
 fn a_poll_from_its_load_to_its_end(rt: HostRuntime) -> Result<(), Fail> {
     let told = b"CARGA 1 42 1\n";
-    let fresh = step(
-        &rt,
-        NO_KEYS,
-        blank(&rt)?,
-        Status::Foreign(Dev::Internal),
-        30,
-        b"ERRO OUTRA CARGA INTERNA\n",
-    )?;
-    let once = step(&rt, CARGA, fresh, Status::Done, 0, told)?;
-    let twice = step(&rt, CARGA, once, Status::Done, 0, told)?;
-    let other = Given {
-        words: &["carga", "t", "r", "1", "43"],
-        ..CARGA
-    };
-    let same = step(&rt, other, twice, Status::NoSection, 34, b"ERRO SECAO\n")?;
-    let zero = Given {
-        words: &["carga", "t", "r", "01", "42"],
-        ..CARGA
-    };
-    let same = step(&rt, zero, same, Status::Usage, 2, b"ERRO USO\n")?;
-    let sealed = step(&rt, VOTA, same, Status::Done, 0, VISIT_SHOWN)?;
-    let still = step(&rt, NO_KEYS, sealed, Status::Done, 0, b"URNA LACRADA 1\n")?;
-    let Images { internal, external } = step(
-        &rt,
-        CARGA,
-        still,
-        Status::Busy(Dev::Internal),
-        32,
-        b"ERRO EM USO INTERNA\n",
-    )?;
+    let rows: [(Given, Status, u8, &[u8]); 8] = [
+        (
+            NO_KEYS,
+            Status::Foreign(Dev::Internal),
+            30,
+            b"ERRO OUTRA CARGA INTERNA\n",
+        ),
+        (CARGA, Status::Done, 0, told),
+        (CARGA, Status::Done, 0, told),
+        (
+            Given {
+                words: &["carga", "t", "r", "1", "43"],
+                ..CARGA
+            },
+            Status::NoSection,
+            34,
+            b"ERRO SECAO\n",
+        ),
+        (
+            Given {
+                words: &["carga", "t", "r", "01", "42"],
+                ..CARGA
+            },
+            Status::Usage,
+            2,
+            b"ERRO USO\n",
+        ),
+        (VOTA, Status::Done, 0, VISIT_SHOWN),
+        (NO_KEYS, Status::Done, 0, b"URNA LACRADA 1\n"),
+        (
+            CARGA,
+            Status::Busy(Dev::Internal),
+            32,
+            b"ERRO EM USO INTERNA\n",
+        ),
+    ];
+    let mut flashes = blank(&rt)?;
+    for (given, status, code, shown) in rows {
+        flashes = step(&rt, given, flashes, status, code, shown)?;
+    }
     let gone = Images {
-        internal: shut(internal),
-        external: shut(external),
+        internal: shut(flashes.internal),
+        external: shut(flashes.external),
     };
     step(
         &rt,
