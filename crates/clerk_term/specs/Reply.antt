@@ -22,6 +22,7 @@ by_mode mode.Idle idle identified voting = idle
 by_mode (mode.Identified place) idle identified voting = identified place
 by_mode (mode.Voting place) idle identified voting = voting place
 
+-- what a key does before the poll is opened
 abbrev pub ready_answer : ClerkKey → ClerkAnswer
 ready_answer (clerk.Abre moment) = answer.Opens moment
 ready_answer (clerk.Titulo title) = answer.Refused 1
@@ -37,6 +38,7 @@ title_answer came m (Some place) =
     if has_come came place then answer.Refused 5
     else by_mode m (answer.Identifies place) (λ other. answer.Refused 6) (λ other. answer.Refused 6)
 
+-- what a key does while the poll is open, by the roll, the opening, who came and who is at the station
 abbrev pub polling_answer : List ℕ → ℕ → List Bool → Mode → ClerkKey → ClerkAnswer
 polling_answer roll opened came m (clerk.Abre moment) = answer.Refused 2
 polling_answer roll opened came m (clerk.Titulo title) = title_answer came m (place_of roll title)
@@ -46,6 +48,7 @@ polling_answer roll opened came m clerk.Suspende = by_mode m (answer.Refused 8) 
 polling_answer roll opened came m (clerk.Encerra moment) =
     by_mode m (if nat_lt moment opened then answer.Refused 9 else answer.Seals moment) (λ place. answer.Refused 6) (λ place. answer.Refused 6)
 
+-- what a key does
 abbrev pub answer_to : List ℕ → Phase → List Bool → Mode → ClerkKey → ClerkAnswer
 answer_to roll phase.Ready came m k = ready_answer k
 answer_to roll (phase.Polling opened) came m k = polling_answer roll opened came m k

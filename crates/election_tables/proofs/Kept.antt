@@ -14,7 +14,7 @@ use Rattle.election_tables.specs.Fitting.{office_fits, party_fits, candidate_fit
 use Rattle.election_tables.specs.declared.office.OfficeRow.{OfficeRow}
 use Rattle.election_tables.specs.Limits.{most_offices, most_parties, most_candidates, most_sections, proportional_seats, greatest_process}
 use Rattle.election_tables.specs.Offices.{code_digits, greatest_code, most_seats, office_rows, row_of}
-use Rattle.election_tables.specs.Rules.{first_broken, typed_rules, digits_of, kind_fits, seats_in_range, section_in_range, counts_in_range, head_in_range, names_in_range, has_office, are_distinct, rule_4, rule_5, rule_6, rule_7, rule_8, rule_9, rule_10, rule_11, rule_12, rule_13, rule_14}
+use Rattle.election_tables.specs.Rules.{first_broken, typed_rules, digits_by_code, kind_fits, seats_in_range, section_in_range, counts_in_range, head_in_range, names_in_range, has_office, are_distinct, rule_4, rule_5, rule_6, rule_7, rule_8, rule_9, rule_10, rule_11, rule_12, rule_13, rule_14}
 use Rattle.election_tables.proofs.Breaks.{all_hold}
 use Rattle.election_tables.proofs.Rising.{find_all, find_passes}
 
@@ -109,7 +109,7 @@ has_digits-below digits n few h =
 
 -- ---- entries that fit
 
-seats_of_row : (n : ℕ) (o : Option OfficeRow) → row_of n ≡ o → option_map_or (λ r. r.most_seats) o 1 ≤ proportional_seats
+seats_of_row : (n : ℕ) (o : Option OfficeRow) → row_of n ≡ o → option_map_or (λ r. r.most_seats) o 0 ≤ proportional_seats
 seats_of_row n None f = omega arith
 seats_of_row n (Some row) f =
     let (_, rest) = and_parts (is_within 1 greatest_code (pos row.code)) _ (found_row n row f).1 in
@@ -122,17 +122,17 @@ seats_few code (pos n) h =
     let few : n ≤ most_seats code = leb-true n (most_seats code) most in
     and_from _ _ least (le-leb n proportional_seats (omega (arith, seats_of_row code (row_of code) refl)))
 
-office_parts_fit : (code : ℤ) (kind : Option Kind) (seats : ℤ) → is_some (digits_of code) ≡ true → kind_fits code kind ≡ true
+office_parts_fit : (code : ℤ) (kind : Option Kind) (seats : ℤ) → is_some (digits_by_code code) ≡ true → kind_fits code kind ≡ true
     → option_map_or (λ c. is_within 1 (most_seats c) seats) (natural code) false ≡ true
-    → ((is_within 1 greatest_code code && is_some (digits_of code)) && (is_some kind && is_within 1 proportional_seats seats)) ≡ true
+    → ((is_within 1 greatest_code code && is_some (digits_by_code code)) && (is_some kind && is_within 1 proportional_seats seats)) ≡ true
 office_parts_fit (negsuc n) kind seats known fits few = absurd (false≢true known)
 office_parts_fit (pos n) None seats known fits few = absurd (false≢true fits)
 office_parts_fit (pos n) (Some kind) seats known fits few = and_from _ _ (and_from _ _ (code_in_range n known) known) (seats_few n seats few)
 
 pub offices_fit : (d : DocumentData) → Kept d → list_all office_fits d.offices ≡ true
 offices_fit d k =
-    let (known, _) = and_parts (list_all (λ o. is_some (digits_of o.code)) d.offices) (are_distinct int_eq (map (λ o. o.code) d.offices)) k.codes in
-    all_from_two (λ o. is_some (digits_of o.code)) (λ o. kind_fits o.code o.kind && seats_in_range o) office_fits
+    let (known, _) = and_parts (list_all (λ o. is_some (digits_by_code o.code)) d.offices) (are_distinct int_eq (map (λ o. o.code) d.offices)) k.codes in
+    all_from_two (λ o. is_some (digits_by_code o.code)) (λ o. kind_fits o.code o.kind && seats_in_range o) office_fits
     (λ o h both. let (fits, few) = and_parts (kind_fits o.code o.kind) (seats_in_range o) both in office_parts_fit o.code o.kind o.seats h fits few)
     d.offices known
     (all_from_two (λ o. kind_fits o.code o.kind) seats_in_range (λ o. kind_fits o.code o.kind && seats_in_range o) (λ o a b. and_from _ _ a b) d.offices k.kinds k.seats)
@@ -150,7 +150,7 @@ number_fits_at n (Some digits) (negsuc m) f e = absurd (false≢true e)
 number_fits_at n (Some digits) (pos m) f e =
     and_from (nat_le 0 m) (nat_le m 99999) (le-leb 0 m (omega arith)) (le-leb m 99999 (has_digits-below digits m (code_digits-range n digits f).1 e))
 
-number_fits : (office number : ℤ) → has_digits_of (digits_of office) number ≡ true → is_within 0 99999 number ≡ true
+number_fits : (office number : ℤ) → has_digits_of (digits_by_code office) number ≡ true → is_within 0 99999 number ≡ true
 number_fits (negsuc n) number e = absurd (false≢true e)
 number_fits (pos n) number e = number_fits_at n (code_digits n) number refl e
 
@@ -162,7 +162,7 @@ pub candidates_fit : (d : DocumentData) → Kept d → list_all candidate_fits d
 candidates_fit d k =
     all_from_two (has_office d.offices) (λ c. is_valid_date c.birth) candidate_fits
     (λ c office birth. (
-    let (_, digits) = and_parts (list_any (λ o. int_eq o.code c.office) d.offices) (has_digits_of (digits_of c.office) c.number) office in
+    let (_, digits) = and_parts (list_any (λ o. int_eq o.code c.office) d.offices) (has_digits_of (digits_by_code c.office) c.number) office in
     and_from _ _ (number_fits c.office c.number digits) (birth_fits c.birth birth)))
     d.candidates k.have_office k.births
 
@@ -225,4 +225,4 @@ candidate_names d k = (and_parts (list_all (λ p. is_name p.name) d.parties) (li
     (and_parts (list_all section_in_range d.sections) (names_in_range d) (and_parts (counts_in_range d && head_in_range d) _ k.ranges).1).1).1
 
 pub codes_differ : (d : DocumentData) → Kept d → are_distinct int_eq (map (λ o. o.code) d.offices) ≡ true
-codes_differ d k = (and_parts (list_all (λ o. is_some (digits_of o.code)) d.offices) (are_distinct int_eq (map (λ o. o.code) d.offices)) k.codes).1
+codes_differ d k = (and_parts (list_all (λ o. is_some (digits_by_code o.code)) d.offices) (are_distinct int_eq (map (λ o. o.code) d.offices)) k.codes).1

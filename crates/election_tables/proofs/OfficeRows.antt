@@ -1,5 +1,6 @@
 -- Worked rows: what the codes from 0 to 14 have, and what a code that no office has.
 use Rattle.std.proofs.Common.{◌≡◌, ℕ, Bool, true, false, List, [], ◌∷◌, map, Some, None, refl}
+use Rattle.election_tables.specs.declared.office.Kind.{Kind}
 use Rattle.election_tables.specs.declared.office.Kind.TheVariants as kind
 use Rattle.election_tables.specs.Offices.{row_of, code_digits, code_proportional, allows, most_seats}
 
@@ -24,20 +25,20 @@ unfolding row_of
 allow_proportional = refl
 
 pub allow_absolute : map (λ code. allows code kind.Absolute) codes
-    ≡ true ∷ true ∷ true ∷ true ∷ true ∷ false ∷ false ∷ false ∷ false ∷ true ∷ true ∷ true ∷ true ∷ false ∷ true ∷ []
+    ≡ false ∷ true ∷ false ∷ true ∷ false ∷ false ∷ false ∷ false ∷ false ∷ false ∷ false ∷ true ∷ false ∷ false ∷ false ∷ []
 unfolding row_of
 allow_absolute = refl
 
 pub allow_simple : map (λ code. allows code kind.Simple) codes
-    ≡ true ∷ true ∷ true ∷ true ∷ true ∷ true ∷ false ∷ false ∷ false ∷ true ∷ true ∷ true ∷ true ∷ false ∷ true ∷ []
+    ≡ false ∷ true ∷ false ∷ true ∷ false ∷ true ∷ false ∷ false ∷ false ∷ false ∷ false ∷ true ∷ false ∷ false ∷ false ∷ []
 unfolding row_of
 allow_simple = refl
 
-pub seats : map most_seats codes ≡ 1 ∷ 1 ∷ 1 ∷ 1 ∷ 1 ∷ 1 ∷ 200 ∷ 200 ∷ 200 ∷ 1 ∷ 1 ∷ 1 ∷ 1 ∷ 200 ∷ 1 ∷ []
+pub seats : map most_seats codes ≡ 0 ∷ 1 ∷ 0 ∷ 1 ∷ 0 ∷ 1 ∷ 200 ∷ 200 ∷ 200 ∷ 0 ∷ 0 ∷ 1 ∷ 0 ∷ 200 ∷ 0 ∷ []
 unfolding row_of
 seats = refl
 
--- a code that no office has: no digits, either majority, one seat
-pub no_office : (code : ℕ) → row_of code ≡ None
-    → (code_digits code ≡ None) × (code_proportional code ≡ false) × (allows code kind.Absolute ≡ true) × (allows code kind.Simple ≡ true) × (most_seats code ≡ 1)
-no_office code e = rw e (refl, refl, refl, refl, refl)
+-- a code that no office has: no digits, no kind, no seat
+pub no_office : (code : ℕ) (k : Kind) → row_of code ≡ None
+    → (code_digits code ≡ None) × (code_proportional code ≡ false) × (allows code k ≡ false) × (most_seats code ≡ 0)
+no_office code k e = rw e (refl, refl, refl, refl)

@@ -11,26 +11,30 @@ use Rattle.election_tables.specs.declared.document.SectionEntry.{SectionEntry}
 use Rattle.election_tables.specs.DocumentData.{DocumentData}
 use Rattle.election_tables.specs.Shape.{tables_at, is_key}
 
--- the number and the text at a key
+-- the number at a key
 abbrev pub number_at : List ℕ → Members → ℤ
 number_at key ms = unwrap_or (option_and_then as_integer (get_member key ms)) (pos 0)
 
+-- the text at a key
 abbrev pub text_at : List ℕ → Members → List ℕ
 text_at key ms = unwrap_or (option_and_then as_str (get_member key ms)) []
 
 -- the kind that a `regra` names
-abbrev pub kind_of : List ℕ → Option Kind
-kind_of text =
+abbrev pub kind_named : List ℕ → Option Kind
+kind_named text =
     if is_key text (codes "proporcional") then Some kind.Proportional
     else (if is_key text (codes "absoluta") then Some kind.Absolute
     else (if is_key text (codes "simples") then Some kind.Simple else None))
 
+-- the entry of `cargo` that a table is
 abbrev pub office_of : Members → OfficeEntry
-office_of ms = record { code = number_at (codes "codigo") ms; kind = kind_of (text_at (codes "regra") ms); seats = number_at (codes "cadeiras") ms }
+office_of ms = record { code = number_at (codes "codigo") ms; kind = kind_named (text_at (codes "regra") ms); seats = number_at (codes "cadeiras") ms }
 
+-- the entry of `partido` that a table is
 abbrev pub party_of : Members → PartyEntry
 party_of ms = record { number = number_at (codes "numero") ms; name = text_at (codes "nome") ms }
 
+-- the entry of `candidato` that a table is
 abbrev pub candidate_of : Members → CandidateEntry
 candidate_of ms = record {
   office = number_at (codes "cargo") ms;
@@ -39,6 +43,7 @@ candidate_of ms = record {
   name = text_at (codes "nome") ms;
 }
 
+-- the entry of `secao` that a table is
 abbrev pub section_of : Members → SectionEntry
 section_of ms = record { zone = number_at (codes "zona") ms; number = number_at (codes "secao") ms; voters = number_at (codes "eleitores") ms }
 

@@ -6,10 +6,10 @@ use Rattle.election_tables.specs.declared.document.CandidateEntry.{CandidateEntr
 use Rattle.election_tables.specs.Limits.{proportional_seats}
 use Rattle.election_tables.specs.Fields.{is_within}
 use Rattle.election_tables.specs.Offices.{greatest_code}
-use Rattle.election_tables.specs.Rules.{digits_of}
+use Rattle.election_tables.specs.Rules.{digits_by_code}
 
 abbrev pub office_fits : OfficeEntry → Bool
-office_fits o = (is_within 1 greatest_code o.code && is_some (digits_of o.code)) && (is_some o.kind && is_within 1 proportional_seats o.seats)
+office_fits o = (is_within 1 greatest_code o.code && is_some (digits_by_code o.code)) && (is_some o.kind && is_within 1 proportional_seats o.seats)
 
 abbrev pub party_fits : PartyEntry → Bool
 party_fits p = is_within 10 99 p.number

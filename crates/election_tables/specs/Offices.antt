@@ -43,14 +43,14 @@ kinds_allow by.EitherMajority kind.Absolute = true
 kinds_allow by.EitherMajority kind.Simple = true
 kinds_allow _ _ = false
 
--- the code allows the kind; one that no office has allows either majority, and rule 5 refuses it
+-- the code allows the kind; one that no office has allows none
 abbrev pub allows : ℕ → Kind → Bool
-allows code k = kinds_allow (option_map_or (λ row. row.kinds) (row_of code) by.EitherMajority) k
+allows code k = option_map_or (λ row. kinds_allow row.kinds k) (row_of code) false
 
 -- deputies and councillors are elected in proportion
 abbrev pub code_proportional : ℕ → Bool
 code_proportional code = allows code kind.Proportional
 
--- the most seats of an office; 1 for a code that no office has
+-- the most seats of an office; none for a code that no office has
 abbrev pub most_seats : ℕ → ℕ
-most_seats code = option_map_or (λ row. row.most_seats) (row_of code) 1
+most_seats code = option_map_or (λ row. row.most_seats) (row_of code) 0

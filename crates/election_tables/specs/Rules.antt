@@ -29,8 +29,8 @@ abbrev pub same_pair : ℤ × ℤ → ℤ × ℤ → Bool
 same_pair a b = int_eq a.0 b.0 && int_eq a.1 b.1
 
 -- the digits of an office, if its code is one
-abbrev pub digits_of : ℤ → Option ℕ
-digits_of z = option_and_then code_digits (natural z)
+abbrev pub digits_by_code : ℤ → Option ℕ
+digits_by_code z = option_and_then code_digits (natural z)
 
 -- the code allows the kind, where `regra` names one
 abbrev pub kind_fits : ℤ → Option Kind → Bool
@@ -40,12 +40,12 @@ kind_fits code (Some kind) = option_map_or (λ c. allows c kind) (natural code) 
 -- the office of the candidate is one of the tables, and the number has its digits
 abbrev pub has_office : List OfficeEntry → CandidateEntry → Bool
 has_office offices c = list_any (λ o. int_eq o.code c.office) offices
-    && option_map_or (λ digits. option_map_or (has_digits digits) (natural c.number) false) (digits_of c.office) false
+    && option_map_or (λ digits. option_map_or (has_digits digits) (natural c.number) false) (digits_by_code c.office) false
 
 -- the first two digits of the candidate's number are a party of the tables
 abbrev pub has_party : List PartyEntry → CandidateEntry → Bool
 has_party parties c = option_map_or (λ digits. option_map_or
-    (λ n. list_any (λ p. int_eq p.number (pos (first_two digits n))) parties) (natural c.number) false) (digits_of c.office) false
+    (λ n. list_any (λ p. int_eq p.number (pos (first_two digits n))) parties) (natural c.number) false) (digits_by_code c.office) false
 
 -- ---- the rules
 
@@ -74,7 +74,7 @@ rule_4 d = (counts_in_range d && head_in_range d) && (list_all section_in_range 
 
 -- 5. each code is an office's, and no code stands twice
 abbrev pub rule_5 : DocumentData → Bool
-rule_5 d = list_all (λ o. is_some (digits_of o.code)) d.offices && are_distinct int_eq (map (λ o. o.code) d.offices)
+rule_5 d = list_all (λ o. is_some (digits_by_code o.code)) d.offices && are_distinct int_eq (map (λ o. o.code) d.offices)
 
 -- 6. each `regra` is allowed for its code
 abbrev pub rule_6 : DocumentData → Bool

@@ -26,14 +26,14 @@ has_type a_text d = is_some (option_and_then as_str d)
 has_type some_tables d = option_map_or (λ ds. list_all (λ e. is_some (as_table e)) (data_of ds)) (option_and_then as_array d) false
 
 -- the keys of each place and their types, all required
-abbrev pub keys_of : Group → List (List ℕ × KeyType)
-keys_of group.Document =
+abbrev pub keys_in : Group → List (List ℕ × KeyType)
+keys_in group.Document =
     (codes "processo", a_number) ∷ (codes "data", a_number) ∷ (codes "turno", a_number) ∷ (codes "cargo", some_tables)
     ∷ (codes "partido", some_tables) ∷ (codes "candidato", some_tables) ∷ (codes "secao", some_tables) ∷ []
-keys_of group.Offices = (codes "codigo", a_number) ∷ (codes "regra", a_text) ∷ (codes "cadeiras", a_number) ∷ []
-keys_of group.Parties = (codes "numero", a_number) ∷ (codes "nome", a_text) ∷ []
-keys_of group.Candidates = (codes "cargo", a_number) ∷ (codes "numero", a_number) ∷ (codes "nascimento", a_number) ∷ (codes "nome", a_text) ∷ []
-keys_of group.Sections = (codes "zona", a_number) ∷ (codes "secao", a_number) ∷ (codes "eleitores", a_number) ∷ []
+keys_in group.Offices = (codes "codigo", a_number) ∷ (codes "regra", a_text) ∷ (codes "cadeiras", a_number) ∷ []
+keys_in group.Parties = (codes "numero", a_number) ∷ (codes "nome", a_text) ∷ []
+keys_in group.Candidates = (codes "cargo", a_number) ∷ (codes "numero", a_number) ∷ (codes "nascimento", a_number) ∷ (codes "nome", a_text) ∷ []
+keys_in group.Sections = (codes "zona", a_number) ∷ (codes "secao", a_number) ∷ (codes "eleitores", a_number) ∷ []
 
 -- the tables among the items
 abbrev pub tables_in : Items → List Members
@@ -62,7 +62,7 @@ keeps rule.NoOther keys ms = every_key (λ name. list_any (λ k. is_key name k.0
 -- the document and each table that is a member of one of the four arrays keep the rule
 abbrev pub document_keeps : ShapeRule → Members → Bool
 document_keeps r ms =
-    keeps r (keys_of group.Document) ms && (list_all (keeps r (keys_of group.Offices)) (tables_at (codes "cargo") ms)
-    && (list_all (keeps r (keys_of group.Parties)) (tables_at (codes "partido") ms)
-    && (list_all (keeps r (keys_of group.Candidates)) (tables_at (codes "candidato") ms)
-    && list_all (keeps r (keys_of group.Sections)) (tables_at (codes "secao") ms))))
+    keeps r (keys_in group.Document) ms && (list_all (keeps r (keys_in group.Offices)) (tables_at (codes "cargo") ms)
+    && (list_all (keeps r (keys_in group.Parties)) (tables_at (codes "partido") ms)
+    && (list_all (keeps r (keys_in group.Candidates)) (tables_at (codes "candidato") ms)
+    && list_all (keeps r (keys_in group.Sections)) (tables_at (codes "secao") ms))))

@@ -22,15 +22,19 @@ use Rattle.election_tables.specs.TablesData.{TablesData, CandidatesRise, Parties
 
 -- ---- the entries of the document that the tables' parts stand for
 
+-- the entry of an office
 abbrev pub entry_of_office : Office → OfficeEntry
 entry_of_office o = record { code = pos o.code; kind = Some o.kind; seats = pos o.seats }
 
+-- the entry of a party
 abbrev pub entry_of_party : Party → PartyEntry
 entry_of_party q = record { number = pos q.number; name = q.name }
 
+-- the entry of a candidate of the office with this code
 abbrev pub entry_of_candidate : ℕ → NamedCandidate → CandidateEntry
 entry_of_candidate code c = record { office = pos code; number = pos c.number; birth = pos c.birth; name = c.name }
 
+-- the entry of a section
 abbrev pub entry_of_section : Section → SectionEntry
 entry_of_section s = record { zone = pos s.zone; number = pos s.number; voters = pos s.voters }
 

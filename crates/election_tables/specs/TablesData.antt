@@ -65,10 +65,11 @@ section_with zone number sections = find (λ s. (s.zone == zone) && (s.number ==
 abbrev pub pair_cmp : ℕ × ℕ → ℕ × ℕ → Ordering
 pair_cmp a b = ordering_then (nat_cmp a.0 b.0) (nat_cmp a.1 b.1)
 
--- candidates rise by number, and so do parties; no number stands twice
+-- candidates rise by number; no number stands twice
 abbrev pub CandidatesRise : List NamedCandidate → Type 0
 CandidatesRise candidates = IsStrictlyIncreasing (map (λ c. c.number) candidates)
 
+-- so do parties
 abbrev pub PartiesRise : List Party → Type 0
 PartiesRise parties = IsStrictlyIncreasing (map (λ q. q.number) parties)
 

@@ -3,7 +3,7 @@ ghost use Rattle.std.specs.Prelude.{◌≡◌, ◌++◌, map, IfOk, unwrap_or, o
 ghost use Rattle.toml.specs.Data.{as_integer, as_str, as_table, get_member, Members};
 ghost use Rattle.toml.specs.View.{view, table_view, array_view};
 ghost use Rattle.election_tables.specs.Shape.{tables_in, tables_at};
-ghost use Rattle.election_tables.specs.Entries.{number_at, text_at, kind_of, office_of, party_of, candidate_of, section_of, document_of};
+ghost use Rattle.election_tables.specs.Entries.{number_at, text_at, kind_named, office_of, party_of, candidate_of, section_of, document_of};
 
 use crate::office::Kind;
 use crate::shape::{array_at, find, is_same_key};
@@ -121,8 +121,8 @@ fn text_at<'a>(table: &'a Table, key: &str) -> &'a str
     }
 }
 
-fn kind_of(text: &str) -> Option<Kind>
-    ensures { result ≡ kind_of text.now }
+fn kind_named(text: &str) -> Option<Kind>
+    ensures { result ≡ kind_named text.now }
 {
     if is_same_key(text, "proporcional") {
         return Some(Kind::Proportional);
@@ -152,7 +152,7 @@ impl Entry for OfficeEntry {
         let _ = alloc;
         Ok(OfficeEntry {
             code: number_at(table, "codigo"),
-            kind: kind_of(text_at(table, "regra")),
+            kind: kind_named(text_at(table, "regra")),
             seats: number_at(table, "cadeiras"),
         })
     }

@@ -102,22 +102,22 @@ pub(crate) fn digits_of_code(code: u64) -> Option<u8>
     }
 }
 
-/// Whether an office may be decided so. A code that no office has counts as one of either majority; rule 5 refuses it.
+/// Whether an office may be decided so. A code that no office has may not.
 pub(crate) fn allows(code: u64, kind: Kind) -> bool
     ensures { result ≡ allows code kind }
 {
     match row_of(code) {
         Some(row) => row.kinds.allow(kind),
-        None => Kinds::EitherMajority.allow(kind),
+        None => false,
     }
 }
 
-/// The most seats that an office may have; 1 for a code that no office has.
+/// The most seats that an office may have; none for a code that no office has.
 pub(crate) fn most_seats(code: u64) -> u64
     ensures { result ≡ most_seats code }
 {
     match row_of(code) {
         Some(row) => row.most_seats,
-        None => 1,
+        None => 0,
     }
 }

@@ -4,7 +4,7 @@ ghost use Rattle.std.specs.List.{list_all, list_any};
 ghost use Rattle.std.specs.Option.{option_map_or};
 ghost use Rattle.toml.specs.Data.{as_integer, as_str, as_array, get_member, as_table};
 ghost use Rattle.toml.specs.View.{view, table_view, array_view};
-ghost use Rattle.election_tables.specs.Shape.{a_number, a_text, some_tables, has_type, data_of, tables_in, tables_at, is_key, keys_of, keeps, document_keeps};
+ghost use Rattle.election_tables.specs.Shape.{a_number, a_text, some_tables, has_type, data_of, tables_in, tables_at, is_key, keys_in, keeps, document_keeps};
 ghost use Rattle.election_tables.specs.Rules.{first_broken, shape_rules};
 
 use std::cmp::Ordering;
@@ -101,7 +101,7 @@ pub(crate) fn is_same_key(a: &str, b: &str) -> bool
 }
 
 fn has_keys(group: Group, table: &Table) -> bool
-    ensures { result ≡ list_all (λ k. is_some (get_member k.0 (table_view table.now))) (keys_of group) }
+    ensures { result ≡ list_all (λ k. is_some (get_member k.0 (table_view table.now))) (keys_in group) }
 {
     match group {
         Group::Document => {
@@ -130,7 +130,7 @@ fn has_keys(group: Group, table: &Table) -> bool
 }
 
 fn has_types(group: Group, table: &Table) -> bool
-    ensures { result ≡ list_all (λ k. has_type k.1 (get_member k.0 (table_view table.now))) (keys_of group) }
+    ensures { result ≡ list_all (λ k. has_type k.1 (get_member k.0 (table_view table.now))) (keys_in group) }
 {
     match group {
         Group::Document => {
@@ -159,7 +159,7 @@ fn has_types(group: Group, table: &Table) -> bool
 }
 
 fn is_known(group: Group, key: &str) -> bool
-    ensures { result ≡ list_any (λ k. is_key key.now k.0) (keys_of group) }
+    ensures { result ≡ list_any (λ k. is_key key.now k.0) (keys_in group) }
 {
     match group {
         Group::Document => {
@@ -188,7 +188,7 @@ fn is_known(group: Group, key: &str) -> bool
 }
 
 fn has_no_other(group: Group, table: &Table) -> bool
-    ensures { result ≡ keeps ShapeRule.NoOther (keys_of group) (table_view table.now) }
+    ensures { result ≡ keeps ShapeRule.NoOther (keys_in group) (table_view table.now) }
 {
     for key in table.keys() {
         if !is_known(group, key.as_str()) {
@@ -200,7 +200,7 @@ fn has_no_other(group: Group, table: &Table) -> bool
 
 /// Whether a table of a group keeps a rule.
 pub(crate) fn keeps(rule: ShapeRule, group: Group, table: &Table) -> bool
-    ensures { result ≡ keeps rule (keys_of group) (table_view table.now) }
+    ensures { result ≡ keeps rule (keys_in group) (table_view table.now) }
 {
     match rule {
         ShapeRule::Keys => has_keys(group, table),
@@ -210,7 +210,7 @@ pub(crate) fn keeps(rule: ShapeRule, group: Group, table: &Table) -> bool
 }
 
 fn row_keeps(rule: ShapeRule, group: Group, row: &Value) -> bool
-    ensures { result ≡ option_map_or (keeps rule (keys_of group)) (as_table (view row.now)) true }
+    ensures { result ≡ option_map_or (keeps rule (keys_in group)) (as_table (view row.now)) true }
 {
     match row.as_table() {
         Some(table) => keeps(rule, group, table),
@@ -220,7 +220,7 @@ fn row_keeps(rule: ShapeRule, group: Group, row: &Value) -> bool
 
 #[tactic(auto, using(crate::proofs::Walks::list_all_tables_in, std::proofs::lemmas::Grind::common_steps))]
 fn all_keep(rule: ShapeRule, group: Group, rows: &Array) -> bool
-    ensures { result ≡ list_all (keeps rule (keys_of group)) (tables_in (array_view rows.now)) }
+    ensures { result ≡ list_all (keeps rule (keys_in group)) (tables_in (array_view rows.now)) }
 {
     for row in rows {
         if !row_keeps(rule, group, row) {
@@ -231,7 +231,7 @@ fn all_keep(rule: ShapeRule, group: Group, rows: &Array) -> bool
 }
 
 fn rows_keep(rule: ShapeRule, group: Group, table: &Table, key: &str) -> bool
-    ensures { result ≡ list_all (keeps rule (keys_of group)) (tables_at key.now (table_view table.now)) }
+    ensures { result ≡ list_all (keeps rule (keys_in group)) (tables_at key.now (table_view table.now)) }
 {
     match array_at(table, key) {
         Some(rows) => all_keep(rule, group, rows),

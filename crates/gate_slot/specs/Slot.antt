@@ -28,9 +28,11 @@ front_size = 1 + padding_size
 abbrev pub gate_offset : ℕ → ℕ → ℕ
 gate_offset size index = header_size + index * (front_size + size)
 
+-- where the padding of a slot begins
 abbrev pub padding_offset : ℕ → ℕ → ℕ
 padding_offset size index = gate_offset size index + 1
 
+-- where the body of a slot begins
 abbrev pub body_offset : ℕ → ℕ → ℕ
 body_offset size index = gate_offset size index + front_size
 
@@ -38,17 +40,19 @@ body_offset size index = gate_offset size index + front_size
 abbrev pub room : ℕ → ℕ
 room size = header_size + 2 * (front_size + size)
 
--- a place of the slot's gate, or of its body
+-- the place of the slot's gate
 abbrev pub IsGate : ℕ → ℕ → ℕ → Type 0
 IsGate size index k = IsInRange (gate_offset size index) 1 k
 
+-- a place of the slot's body
 abbrev pub IsBody : ℕ → ℕ → ℕ → Type 0
 IsBody size index k = IsInRange (body_offset size index) size k
 
--- the gate and the body of a slot in some content
+-- the gate of a slot in some content
 abbrev pub gate_in : ℕ → ℕ → List ℕ → ℕ
 gate_in size index content = slice_index content (gate_offset size index)
 
+-- the body of a slot in some content
 abbrev pub body_in : ℕ → ℕ → List ℕ → List ℕ
 body_in size index content = part content (body_offset size index) size
 
@@ -77,12 +81,14 @@ pub record IsOneWrite (d : Dev) (In : ℕ → Type 0) (ops : List Op) : Type 0 w
   pub puts : count_puts ops ≤ 1
   pub syncs : count_syncs ops ≤ 1
 
--- the whole steps: an open gate is shut, a body is written, a gate is opened, and each is synced
+-- an open gate is shut, and synced
 abbrev pub shut_ops : ℕ → Dev → ℕ → List Op
 shut_ops size d index = Put d (gate_offset size index) (shut_gate ∷ []) ∷ Sync d ∷ []
 
+-- a body is written, and synced
 abbrev pub fill_ops : ℕ → Dev → ℕ → List ℕ → List Op
 fill_ops size d index body = Put d (body_offset size index) body ∷ Sync d ∷ []
 
+-- a gate is opened, and synced
 abbrev pub publish_ops : ℕ → Dev → ℕ → List Op
 publish_ops size d index = Put d (gate_offset size index) (open_gate ∷ []) ∷ Sync d ∷ []

@@ -28,6 +28,7 @@ vote_bytes c = kind_of c ∷ to_be_bytes w32 (number_of c)
 abbrev pub bag_bytes : List Choice → List ℕ
 bag_bytes bag = to_be_bytes w32 (length bag) ++ flat_map vote_bytes bag
 
+-- the phase as it is written
 abbrev pub phase_byte : Phase → ℕ
 phase_byte phase.Ready = 0
 phase_byte (phase.Polling opened) = 1

@@ -8,6 +8,7 @@ use Rattle.turnout.specs.Turnout.{has_come, number_came}
 use Rattle.turnout.specs.declared.phase.Phase.{Phase}
 use Rattle.turnout.specs.declared.phase.Phase.TheVariants as phase
 
+-- the state of a poll: its phase, who came, and the bags of choices
 pub record State : Type 0 where
   pub phase : Phase
   pub came : List Bool  -- for each place of the roll
@@ -20,19 +21,23 @@ rank_in phase.Ready n = 0
 rank_in (phase.Polling opened) n = 1 + n
 rank_in (phase.Sealed opened closed) n = n + 2
 
+-- the rank of a state
 abbrev pub rank_of : State → ℕ
 rank_of s = rank_in s.phase (number_came s.came)
 
 -- The steps
 
+-- the poll was opened at this moment
 abbrev pub opened_at : State → ℕ → State
 opened_at s m = record { phase = phase.Polling m; came = s.came; places = s.places; bags = s.bags }
 
+-- the phase of a poll that was sealed at this moment; only an open poll is sealed
 abbrev pub sealed_by : Phase → ℕ → Phase
 sealed_by phase.Ready m = phase.Ready
 sealed_by (phase.Polling opened) m = phase.Sealed opened m
 sealed_by (phase.Sealed opened closed) m = phase.Sealed opened closed
 
+-- the poll was sealed at this moment
 abbrev pub sealed_at : State → ℕ → State
 sealed_at s m = record { phase = sealed_by s.phase m; came = s.came; places = s.places; bags = s.bags }
 

@@ -5,7 +5,7 @@ use Rattle.std.specs.List.{filter}
 use Rattle.std.proofs.lemmas.Bool.{cases_Bool}
 use Rattle.std.proofs.lemmas.List.{take_all}
 use Rattle.std.proofs.lemmas.List.Sums.{length-filter, count_by-le-length}
-use Rattle.election_tables.specs.TablesData.{TablesData, places_in, candidates_at, without_name}
+use Rattle.election_tables.specs.TablesData.{TablesData, without_name}
 use Rattle.election_tables.specs.declared.office.Office.{Office}
 use Rattle.election_tables.specs.declared.tables.candidates.Candidate.{Candidate}
 use Rattle.election_tables.specs.declared.tables.candidates.NamedCandidate.{NamedCandidate}
@@ -94,25 +94,3 @@ pub few_counts : (t : TablesData) (bags : List (List Choice)) (first : ℕ) (pan
 few_counts t bags first panels zero = omega arith
 few_counts t bags first [] (suc i) = omega arith
 few_counts t bags first (p ∷ panels) (suc i) = let rest = few_counts t bags (first + 1) panels i in omega arith
-
-places_known : (panels : List Panel) (i : ℕ) → i < length panels → slice_index (map places_in panels) i ≡ places_in (unwrap_or (slice_get panels i) no_panel)
-places_known [] i h = absurd (omega arith)
-places_known (p ∷ panels) zero h = refl
-places_known (p ∷ panels) (suc i) h = places_known panels i (omega arith)
-
--- the counts of an office, by what the tables and the record tell of its panel
-pub office_is : (t : TablesData) (panel : ℕ) (bag : List Choice) (office : Office) (places blank null_votes : ℕ) → panel < length t.panels
-    → option_map (λ p. p.office) (slice_get t.panels panel) ≡ Some office → places ≡ slice_index (map places_in t.panels) panel
-    → blank ≡ count_of choice.Blank bag → null_votes ≡ count_of choice.Null bag
-    → record {
-      code = office.code;
-      places = places;
-      nominal = listed (λ n. choice.Nominal n) (map (λ c. c.number) (candidates_at panel t)) bag;
-      parties = party_counts office.kind t bag;
-      blank = blank;
-      null_votes = null_votes;
-    } ≡ office_count t (panel_at t panel) bag
-office_is t panel bag office places blank null_votes h e f b n =
-    let same = office_known t panel office e in
-    let there = places_known t.panels panel h in
-    rw (f, there, b, n, same, candidates_known t panel) refl

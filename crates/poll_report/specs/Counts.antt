@@ -19,6 +19,7 @@ word_line word n = word ++ codes " " ++ decimal n ++ 10 ∷ []
 abbrev pub votes_line : ℕ → ℕ → List ℕ
 votes_line number votes = decimal number ++ codes " " ++ decimal votes ++ 10 ∷ []
 
+-- the line of a candidate
 abbrev pub candidate_line : List Choice → NamedCandidate → List ℕ
 candidate_line bag c = votes_line c.number (count_of (choice.Nominal c.number) bag)
 
@@ -26,6 +27,7 @@ candidate_line bag c = votes_line c.number (count_of (choice.Nominal c.number) b
 abbrev pub candidate_lines : List NamedCandidate → List Choice → List (List ℕ)
 candidate_lines candidates bag = map (candidate_line bag) candidates
 
+-- the line of a party
 abbrev pub party_line : List Choice → Party → List ℕ
 party_line bag q = votes_line q.number (count_of (choice.Party q.number) bag)
 
@@ -39,11 +41,13 @@ kind_lines kind.Proportional t bag = party_lines t.parties bag
 kind_lines kind.Absolute t bag = []
 kind_lines kind.Simple t bag = []
 
+-- the lines of the blank, of the null and of all votes
 abbrev pub total_lines : List Choice → List (List ℕ)
 total_lines bag =
     word_line (codes "BRANCO") (count_of choice.Blank bag) ∷ word_line (codes "NULO") (count_of choice.Null bag)
     ∷ word_line (codes "TOTAL") (length bag) ∷ []
 
+-- the lines of a panel
 abbrev pub panel_lines : TablesData → Panel → List Choice → List (List ℕ)
 panel_lines t p bag =
     word_line (codes "CARGO") p.office.code ∷ (candidate_lines p.candidates bag ++ (kind_lines p.office.kind t bag ++ total_lines bag))

@@ -28,7 +28,7 @@ use Rattle.image_codec.specs.State.{State}
 use Rattle.image_codec.specs.Layout.{body_size}
 use Rattle.state_store.specs.Calls.{Commits, HoldEither, IsEither, KeepFrames, Recovers, both_synced}
 use Rattle.state_store.specs.Held.{HeldAlone, HeldByBoth}
-use Rattle.state_store.specs.Played.{AreInOrder, AreInOrderTo, IsCommitOf, Follows, HasPut, HasStopped, IsCutAt, IsSafe, IsStateOrNext, Plays, Survives, shows_in}
+use Rattle.state_store.specs.Played.{AreInOrder, AreInOrderTo, IsBeforeLine, Follows, HasPut, HasStopped, IsCutAt, IsSafe, IsStateOrNext, Plays, Survives, shows_in}
 use Rattle.state_store.specs.Rest.{AreAtRest}
 use Rattle.state_store.specs.Pieces.{AreFull, Piece, commits_in, commits_reached, lines_in, quiet, state_after, telling, text_in}
 use Rattle.state_store.specs.declared.load.Load.{Load}
@@ -92,7 +92,7 @@ order_after (x ∷ xs) ys first second (commit, rest, of, is, more) after = (
 )
 
 -- a line that tells no state
-commits_none : (line : List ℕ) → IsCommitOf (record { line = line; commit = None }) []
+commits_none : (line : List ℕ) → IsBeforeLine (record { line = line; commit = None }) []
 commits_none line = record { silent = refl; syncs = omega arith; none = λ none. refl }
 
 order_quiet : (lines : List (List ℕ)) → AreInOrder (quiet lines) (shows lines)
@@ -217,7 +217,7 @@ module _ (t : TablesData) (load : Load) (s u : State) (line : List ℕ) where
       }
 
   -- the commit of the state
-  commits_state : (a : Told) (ops : List Op) → Commits t load.section.voters s u a ops → IsCommitOf (record { line = line; commit = Some u }) ops
+  commits_state : (a : Told) (ops : List Op) → Commits t load.section.voters s u a ops → IsBeforeLine (record { line = line; commit = Some u }) ops
   commits_state a ops commits =
       record { silent = shows_in_silent (λ d k. IsOfTwin body_size k) ops commits.slots.within; syncs = commits.slots.syncs; none = λ none. absurd (cc) }
 

@@ -8,6 +8,7 @@ use Rattle.election_tables.specs.TablesData.{TablesData}
 use Rattle.election_tables.specs.declared.tables.sections.Section.{Section}
 use Rattle.state_store.specs.declared.load.Load.{Load}
 
+-- the load of these tables and this roll for a section
 abbrev pub load_of : TablesData → RollData → Section → Load
 load_of t r section = record { tables = t.digest; roll = r.digest; section = section }
 
@@ -20,12 +21,17 @@ pub record IsSectionOf (t : TablesData) (r : RollData) (section : Section) : Typ
 abbrev pub magic : List ℕ
 magic = codes "URNAU1" ++ 0 ∷ 0 ∷ []
 
+-- the byte of a header that names its device
 abbrev pub device_byte : Dev → ℕ
 device_byte Internal = 1
 device_byte External = 2
+
+-- how many zeros fill a header up
+abbrev pub header_zeros : ℕ
+header_zeros = 427
 
 -- the bytes of a header
 unfoldable pub header : Load → Dev → List ℕ
 header load d =
     magic ++ device_byte d ∷ (to_be_bytes w32 load.section.zone ++ to_be_bytes w32 load.section.number ++ to_be_bytes w32 load.section.voters
-    ++ load.tables ++ load.roll ++ replicate 427 0)
+    ++ load.tables ++ load.roll ++ replicate header_zeros 0)

@@ -17,6 +17,7 @@ quiet lines = map (λ line. record { line = line; commit = None }) lines
 abbrev pub telling : State → List ℕ → List Piece
 telling s line = record { line = line; commit = Some s } ∷ []
 
+-- the lines of these pieces, in order
 abbrev pub lines_in : List Piece → List (List ℕ)
 lines_in pieces = map (λ piece. piece.line) pieces
 

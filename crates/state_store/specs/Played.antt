@@ -52,7 +52,7 @@ pub record Plays (t : TablesData) (load : Load) (s : State) (pieces : List Piece
   pub stops : ForSome start (λ flashes. AtEachStop flashes ops (λ left. Follows t load.section.voters s pieces left × KeepFrames flashes left))
 
 -- what a piece does before its line: the commit of the state that it tells, with at most 12 syncs; where it tells none, nothing
-pub record IsCommitOf (piece : Piece) (ops : List Op) : Type 0 where
+pub record IsBeforeLine (piece : Piece) (ops : List Op) : Type 0 where
   pub silent : shows_in ops ≡ []
   pub syncs : count_syncs ops ≤ 12
   pub none : piece.commit ≡ None → ops ≡ []
@@ -61,13 +61,13 @@ pub record IsCommitOf (piece : Piece) (ops : List Op) : Type 0 where
 abbrev pub AreInOrder : List Piece → List Op → Type 0
 AreInOrder [] ops = ops ≡ []
 AreInOrder (piece ∷ pieces) ops =
-    (commit : List Op) × (rest : List Op) × IsCommitOf piece commit × (ops ≡ commit ++ Show piece.line ∷ rest) × AreInOrder pieces rest
+    (commit : List Op) × (rest : List Op) × IsBeforeLine piece commit × (ops ≡ commit ++ Show piece.line ∷ rest) × AreInOrder pieces rest
 
 -- the same up to a fault in the commit of a piece, or in its line
 abbrev pub AreInOrderTo : List Piece → List Op → Type 0
 AreInOrderTo [] ops = ⊥
 AreInOrderTo (piece ∷ pieces) ops =
-    (commit : List Op) × (rest : List Op) × IsCommitOf piece commit × (ops ≡ commit ++ rest)
+    (commit : List Op) × (rest : List Op) × IsBeforeLine piece commit × (ops ≡ commit ++ rest)
     × (IsTornShow piece.line rest ⊎ ((more : List Op) × (rest ≡ Show piece.line ∷ more) × AreInOrderTo pieces more))
 
 -- All pieces were put out in order, and no call failed. Both flashes are at rest with the state after them.

@@ -11,6 +11,9 @@ use urna_outside::Dev;
 /// The eight bytes with which each header begins.
 pub(crate) const MAGIC: [u8; 8] = *b"URNAU1\0\0";
 
+/// How many zeros fill a header up.
+const HEADER_ZEROS: usize = 427;
+
 /// What two flashes are loaded with: the SHA-256 of the tables' bytes and of the roll's bytes, and the section.
 #[derive(Clone, Copy, Debug, PartialEq, Eq)]
 pub(crate) struct Load {
@@ -50,7 +53,7 @@ impl Load {
             .unwrap();
         bytes.try_extend_from_slice(&self.tables).unwrap();
         bytes.try_extend_from_slice(&self.roll).unwrap();
-        bytes.try_extend_from_slice(&[0; 427]).unwrap();
+        bytes.try_extend_from_slice(&[0; HEADER_ZEROS]).unwrap();
         bytes.into_inner().unwrap()
     }
 }

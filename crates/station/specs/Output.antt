@@ -14,6 +14,7 @@ use Rattle.station.specs.declared.line.Line.{Line}
 use Rattle.station.specs.declared.line.Line.TheVariants as line
 use Rattle.station.specs.declared.line.Title.{Title}
 
+-- what a run puts out
 pub data Output : Type 0 where
   Says : Line → Output  -- a line
   Commits : State → Line → Output  -- the state is on the flashes, and then the line tells it
@@ -40,6 +41,7 @@ refusal (answer.Seals m) = []
 abbrev pub line_at : Setting → List Choice → Option BallotLine
 line_at v choices = slice_get v.lines (length choices)
 
+-- the choice of the line before, where that line is of the same panel
 abbrev pub earlier_of : Option BallotLine → Option Choice → BallotLine → Option Choice
 earlier_of (Some previous) (Some choice) l = if previous.panel == l.panel then Some choice else None
 earlier_of (Some previous) None l = None

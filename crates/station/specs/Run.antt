@@ -76,6 +76,7 @@ abbrev pub after_suspension : Setting → State → ℕ → List Choice → Stat
 after_suspension v s place [] = s
 after_suspension v s place (c ∷ choices) = with_ballot v.lines s place (filled_up v.lines (c ∷ choices))
 
+-- what a suspended visit puts out, by the choices that were confirmed in it
 abbrev pub suspension : Setting → State → ℕ → List Choice → Output
 suspension v s place [] = Says line.Suspended
 suspension v s place (c ∷ choices) = Commits (with_ballot v.lines s place (filled_up v.lines (c ∷ choices))) line.Ended

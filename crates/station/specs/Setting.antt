@@ -14,6 +14,7 @@ pub record Setting : Type 0 where
   pub places : List ℕ
   pub roll : List ℕ
 
+-- the setting of some tables and the titles of a roll
 abbrev pub setting_of : TablesData → List ℕ → Setting
 setting_of t titles = record { lines = ballot_lines t; places = places_of t; roll = titles }
 

@@ -29,6 +29,7 @@ use Rattle.station.specs.declared.station.StartError.TheVariants as start
 abbrev pub opening_line : TablesData → State → List ℕ
 opening_line t s = line_text t (Poll s.phase (number_came s.came))
 
+-- the opening line as a piece, which tells no new state
 abbrev pub opening : TablesData → State → List Piece
 opening t s = quiet (opening_line t s ∷ [])
 

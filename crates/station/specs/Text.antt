@@ -15,11 +15,13 @@ use Rattle.station.specs.declared.line.Line.TheVariants as line
 use Rattle.station.specs.declared.line.Title.{Title}
 use Rattle.station.specs.declared.line.Title.TheVariants as title
 
+-- how the opening line names a phase
 abbrev pub poll_text : Phase → List ℕ
 poll_text phase.Ready = codes "URNA PRONTA "
 poll_text (phase.Polling opened) = codes "URNA ABERTA "
 poll_text (phase.Sealed opened closed) = codes "URNA LACRADA "
 
+-- the text of a line, with its line feed
 abbrev pub line_text : TablesData → Line → List ℕ
 line_text t (line.Poll p came) = poll_text p ++ decimal came ++ 10 ∷ []
 line_text t (line.Refused n) = codes "RECUSA " ++ decimal n ++ 10 ∷ []
@@ -33,6 +35,7 @@ line_text t (line.Opened m) = codes "ABERTA " ++ padded 14 m ++ 10 ∷ []
 line_text t line.Ended = codes "FIM" ++ 10 ∷ []
 line_text t (line.Sealed m came) = codes "ENCERRADA " ++ padded 14 m ++ codes " " ++ decimal came ++ 10 ∷ []
 
+-- the line over the counts
 abbrev pub title_text : Title → List ℕ
 title_text title.Zeresima = codes "ZERESIMA" ++ 10 ∷ []
 title_text title.Boletim = codes "BOLETIM" ++ 10 ∷ []

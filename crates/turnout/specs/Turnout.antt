@@ -1,6 +1,7 @@
 -- Who came: a mark for each place of the roll
 use Rattle.std.specs.Prelude.{◌≡◌, ◌≤◌, ℕ, Bool, false, List, length, unwrap_or, slice_get, count_by}
 
+-- whether the voter of a place came; a place that the roll doesn't have did not
 abbrev pub has_come : List Bool → ℕ → Bool
 has_come came place = unwrap_or (slice_get came place) false
 

@@ -10,16 +10,16 @@ use Rattle.election_tables.specs.declared.tables.TablesError.TheVariants as tabl
 use Rattle.election_tables.specs.declared.roll.RollError.{RollError}
 use Rattle.election_tables.specs.declared.roll.RollError.TheVariants as roll
 use Rattle.urna_app.specs.Errors.{take_status, tables_status, roll_status}
-use Rattle.urna_app.specs.Taking.{HasTaken, CountsFor, calls_after}
+use Rattle.urna_app.specs.Taking.{HasTaken, CountsFor, calls_made}
 use Rattle.urna_app.specs.declared.status.Doc.{Doc}
 use Rattle.urna_app.specs.declared.status.Status.{Status}
 use Rattle.urna_app.specs.declared.status.Status.TheVariants as status
 
-calls_more : (m n : ℕ) (calls : Option ℕ) → calls_after n (calls_after m calls) ≡ calls_after (m + n) calls
-calls_more zero n calls = let none : n ≡ 0 + n = omega arith in ap (λ (k : ℕ). calls_after k calls) none
+calls_more : (m n : ℕ) (calls : Option ℕ) → calls_made n (calls_made m calls) ≡ calls_made (m + n) calls
+calls_more zero n calls = let none : n ≡ 0 + n = omega arith in ap (λ (k : ℕ). calls_made k calls) none
 calls_more (suc m) n calls =
     let one : suc (m + n) ≡ suc m + n = omega arith in
-    calls_more m n (option_map one_more calls) ∙ ap (λ (k : ℕ). calls_after k calls) one
+    calls_more m n (option_map one_more calls) ∙ ap (λ (k : ℕ). calls_made k calls) one
 
 -- one call
 pub one_call : (s : Status) (old new : CabinetTold) → new.files ≡ old.files → CountsFor s old.tally new.tally → new.calls ≡ option_map one_more old.calls → HasTaken 1 s old new
@@ -33,7 +33,7 @@ taken_more a b s x y z first second =
       counts = subst (λ (t : Tally). CountsFor s t z.tally) first.counts second.counts;
       made = first.made + second.made;
       few = omega (arith, first.few, second.few);
-      calls = second.calls ∙ (ap (calls_after second.made) first.calls ∙ calls_more first.made second.made x.calls);
+      calls = second.calls ∙ (ap (calls_made second.made) first.calls ∙ calls_more first.made second.made x.calls);
     }
 
 -- fewer calls are within more

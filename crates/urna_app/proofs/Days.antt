@@ -1,11 +1,13 @@
 -- Calls of vota one after another
 use Rattle.std.proofs.Common.{◌≡◌, ◌⊎◌, ℕ, ◌≤◌, ◌+◌, List, [], ◌∷◌, length, take, refl, sym, ap, subst, ◌∙◌, arith}
 use Rattle.std.specs.Prelude.{flat_map}
+use Rattle.std.specs.List.{AllByRecursion}
 use Rattle.std.proofs.lemmas.List.{append-nil}
 use Rattle.std.proofs.lemmas.List.Elements.{Contains-get_or}
-use Rattle.urna_outside.specs.Flash.{Flashes}
+use Rattle.urna_outside.specs.Flash.{Flashes, IsClean, Op, Put, Show, Sync, after, after_one, shown_by}
 use Rattle.urna_outside.specs.Started.{clean_flashes}
-use Rattle.urna_outside.specs.Stop.{Left}
+use Rattle.urna_outside.specs.Stop.{IsLeft, Left}
+use Rattle.urna_outside.proofs.Keeping.{synced_clean}
 use Rattle.urna_outside.specs.declared.device.Dev.TheVariants as dev
 use Rattle.election_tables.specs.Roll.{RollData}
 use Rattle.election_tables.specs.TablesData.{TablesData}
@@ -18,10 +20,10 @@ use Rattle.image_codec.proofs.Growing.{also_also, also_none}
 use Rattle.state_store.specs.Calls.{AreFound}
 use Rattle.state_store.specs.Held.{AreLoaded, HeldByBoth}
 use Rattle.state_store.specs.Laws.{AreWhole, IsPollOf}
-use Rattle.state_store.proofs.Going.{found_once, poll_left, syncs_leave_no_more}
+use Rattle.state_store.proofs.Going.{found_once, poll_left}
 use Rattle.state_store.proofs.Resting.{clean_image}
 use Rattle.station.specs.Cast.{ballots_of}
-use Rattle.urna_app.specs.Headline.{DayKeepsVotes, IsNotBegun, IsSitting, KeepsVotes, Sitting, none, not_begun, one, session_lines, then}
+use Rattle.urna_app.specs.Headline.{DayKeepsVotes, IsSitting, KeepsVotes, Sitting, WritesNothing, WroteNothing, idle, none, one, session_lines, then}
 use Rattle.urna_app.proofs.Headline.{votes_are_kept}
 
 -- One sitting: what it leaves is a poll of the section again, with its ballots.
@@ -96,11 +98,19 @@ found_contents : (t : TablesData) (r : RollData) (section : Section) (s : State)
     → AreFound t r section s (clean_flashes flashes.internal.content flashes.external.content)
 found_contents t r section s flashes found = record { loaded = found.loaded; held = found.held }
 
--- A call that did not begin left the content as it was.
-content_left : (start : Flashes) (left : Left) → IsNotBegun start left → (left.internal ≡ start.internal.content) × (left.external ≡ start.external.content)
-content_left start left begun =
-    let leaves = syncs_leave_no_more start begun.done left begun.stop begun.is in
-    (clean_image start.internal left.internal (begun.clean dev.Internal) leaves.internal, clean_image start.external left.external (begun.clean dev.External) leaves.external)
+-- A call that wrote nothing left the content as it was.
+content_after : (start : Flashes) (done : List Op) (text : List ℕ) (left : Left) → IsClean start.internal → IsClean start.external → AllByRecursion WritesNothing done
+    → IsLeft (after done start) text left → (left.internal ≡ start.internal.content) × (left.external ≡ start.external.content)
+content_after start [] text left i e nothing is = (clean_image start.internal left.internal i is.internal, clean_image start.external left.external e is.external)
+content_after start (Put d at bytes ∷ done) text left i e nothing is = absurd nothing.0
+content_after start (Sync dev.Internal ∷ done) text left i e nothing is =
+    content_after (after_one (Sync dev.Internal) start) done text left (synced_clean start.internal) e nothing.1 is
+content_after start (Sync dev.External ∷ done) text left i e nothing is =
+    content_after (after_one (Sync dev.External) start) done text left i (synced_clean start.external) nothing.1 is
+content_after start (Show bytes ∷ done) text left i e nothing is = content_after start done text left i e nothing.1 is
+
+content_left : (start : Flashes) (left : Left) → WroteNothing start left → (left.internal ≡ start.internal.content) × (left.external ≡ start.external.content)
+content_left start left wrote = content_after start wrote.done (shown_by wrote.done) left (wrote.clean dev.Internal) (wrote.clean dev.External) wrote.idle wrote.is
 
 pub day_keeps_votes : DayKeepsVotes
 day_keeps_votes t r section s start _ left whole found (one {x} is) =
@@ -121,16 +131,16 @@ day_keeps_votes t r section s start _ last whole found (then {next} {x} {more} {
       ((h.number, h.shown, h.cast, refl), rest.3),
       also_also (ballot_lines t) s h.state rest.0 (take h.number x.ballots) (flat_map (λ (l : List Ballot). l) rest.1) h.has rest.4,
     )
-day_keeps_votes t r section s start _ left whole found (none begun) =
-    let same = content_left start left begun in (
+day_keeps_votes t r section s start _ left whole found (none wrote) =
+    let same = content_left start left wrote in (
       s,
       [],
       (found_next t r section s start.internal.content start.external.content (clean_flashes left.internal left.external) same.0 same.1 (found_contents t r section s start found)).held,
       tt,
       also_none (ballot_lines t) s,
     )
-day_keeps_votes t r section s start _ last whole found (not_begun {next} {more} {left} begun internal external day) =
-    let same = content_left start left begun in
+day_keeps_votes t r section s start _ last whole found (idle {next} {more} {left} wrote internal external day) =
+    let same = content_left start left wrote in
     let i = internal ∙ same.0 in
     let e = external ∙ same.1 in
     day_keeps_votes t r section s next more last

@@ -19,7 +19,7 @@ use Rattle.state_store.specs.Laws.{AreWhole}
 use Rattle.state_store.specs.declared.store.LoadError.{LoadError}
 use Rattle.state_store.specs.declared.store.LoadError.TheVariants as load
 use Rattle.state_store.proofs.Loaded.{rest_found, rest_whole}
-use Rattle.urna_app.specs.Carga.{CargaEnds, HasLoaded, IsAsked, IsGivenLoad, load_no_cabinet, load_no_memory, load_refused, loaded, loaded_line, no_section, not_loaded, not_told}
+use Rattle.urna_app.specs.Carga.{CargaEnds, HasLoaded, IsSectionAsked, IsGivenLoad, load_no_cabinet, load_no_memory, load_refused, loaded, loaded_line, no_section, not_loaded, not_told}
 use Rattle.urna_app.specs.Documents.{IsFirstFault}
 use Rattle.urna_app.specs.Command.{Carga, ToLoad, command_of}
 use Rattle.urna_app.specs.Ending.{CommandEnds, carga, vota}
@@ -47,9 +47,9 @@ error_not_done (load.Busy d) is = absurd (cc)
 module _ (files : Files) (names : Carga) (c d : CabinetTold) (told : c.files ≡ Some files) (t : TablesData) (r : RollData) (given : IsGivenLoad (Some files) names t r) (m b : Told)
     (start : Flashes) (flashes : b.flashes ≡ Some start) where
   abbrev Begins : Type 0
-  Begins = (section : Section) × IsAsked names t r section × AreWhole start × AreFound t r section (ready_state t (length r.titles)) start
+  Begins = (section : Section) × IsSectionAsked names t r section × AreWhole start × AreFound t r section (ready_state t (length r.titles)) start
 
-  begins : (section : Section) (between : Told) → IsAsked names t r section → HasLoaded t r section m between → between.flashes ≡ Some start → Begins
+  begins : (section : Section) (between : Told) → IsSectionAsked names t r section → HasLoaded t r section m between → between.flashes ≡ Some start → Begins
   begins section between asked done there =
       let rest = done.rest start there in
       let roll : IsRoll r = roll_is given.roll.bytes r given.roll.read in
@@ -72,7 +72,7 @@ module _ (files : Files) (names : Carga) (c d : CabinetTold) (told : c.files ≡
       let one = load_given_once files names u t q r (subst (λ (o : Option Files). IsGivenLoad o names u q) told also) given in
       let there : between.flashes ≡ Some start =
       sym (shows_keep (shows (loaded_line section ∷ [])) between b (shows_lines (loaded_line section ∷ [])).shows shown.does) ∙ flashes in
-      let asked_here = subst (λ (x : TablesData). IsAsked names x r section) one.0 (subst (λ (x : RollData). IsAsked names u x section) one.1 asked) in
+      let asked_here = subst (λ (x : TablesData). IsSectionAsked names x r section) one.0 (subst (λ (x : RollData). IsSectionAsked names u x section) one.1 asked) in
       let done_here = subst (λ (x : TablesData). HasLoaded x r section m between) one.0 (subst (λ (x : RollData). HasLoaded u x section m between) one.1 h) in
       begins section between asked_here done_here there
 

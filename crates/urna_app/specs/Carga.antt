@@ -30,7 +30,7 @@ pub record IsGivenLoad (files : Option Files) (names : Carga) (t : TablesData) (
   pub roll : HasRoll files names.roll r
 
 -- the section that is to be loaded: the tables have it, with as many voters as the roll
-pub record IsAsked (names : Carga) (t : TablesData) (r : RollData) (section : Section) : Type 0 where
+pub record IsSectionAsked (names : Carga) (t : TablesData) (r : RollData) (section : Section) : Type 0 where
   pub fits : IsSectionOf t r section
   pub zone : section.zone ≡ names.zone
   pub number : section.number ≡ names.number
@@ -55,15 +55,15 @@ pub data CargaEnds (names : Carga) (c d : CabinetTold) (m n : Told) : Status →
   load_no_memory : HasTaken 2 status.Memory c d → IsUntouched m n → CargaEnds names c d m n status.Memory
   load_no_cabinet : HasTaken 2 status.Cabinet c d → IsUntouched m n → CargaEnds names c d m n status.Cabinet
   -- The tables have no such section, or it has another number of voters than the roll.
-  no_section : {t : TablesData} {r : RollData} → IsGivenLoad c.files names t r → ((section : Section) → ¬ IsAsked names t r section)
+  no_section : {t : TablesData} {r : RollData} → IsGivenLoad c.files names t r → ((section : Section) → ¬ IsSectionAsked names t r section)
       → HasTaken 2 status.NoSection c d → IsUntouched m n → CargaEnds names c d m n status.NoSection
   -- The flashes were not loaded.
-  not_loaded : {t : TablesData} {r : RollData} {section : Section} (e : LoadError) → IsGivenLoad c.files names t r → IsAsked names t r section
+  not_loaded : {t : TablesData} {r : RollData} {section : Section} (e : LoadError) → IsGivenLoad c.files names t r → IsSectionAsked names t r section
       → HasTaken 2 (load_status e) c d → FailsToLoad m n e → CargaEnds names c d m n (load_status e)
   -- They were, and the display failed in the line that tells it.
-  not_told : {t : TablesData} {r : RollData} {section : Section} (between : Told) → IsGivenLoad c.files names t r → IsAsked names t r section
+  not_told : {t : TablesData} {r : RollData} {section : Section} (between : Told) → IsGivenLoad c.files names t r → IsSectionAsked names t r section
       → HasTaken 2 status.Display c d → HasLoaded t r section m between → IsCutOff (loaded_line section ∷ []) between n
       → CargaEnds names c d m n status.Display
-  loaded : {t : TablesData} {r : RollData} {section : Section} (between : Told) → IsGivenLoad c.files names t r → IsAsked names t r section
+  loaded : {t : TablesData} {r : RollData} {section : Section} (between : Told) → IsGivenLoad c.files names t r → IsSectionAsked names t r section
       → HasTaken 2 status.Done c d → HasLoaded t r section m between → HasShown (loaded_line section ∷ []) between n
       → CargaEnds names c d m n status.Done

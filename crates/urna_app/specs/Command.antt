@@ -30,22 +30,24 @@ vota_of (a ∷ b ∷ c ∷ []) = None
 vota_of (a ∷ b ∷ c ∷ d ∷ []) = None
 vota_of (a ∷ b ∷ c ∷ d ∷ e ∷ f ∷ more) = None
 
--- a number of a zone or of a section
+-- a number that a zone or a section may have
 abbrev pub in_range : ℕ → Option ℕ
 in_range n = if nat_le 1 n && nat_le n greatest_section then Some n else None
 
-abbrev pub place_of : List ℕ → Option ℕ
-place_of word = option_and_then in_range (decimal_value word)
+-- the number of a zone, or of a section, that a word names
+abbrev pub named_number : List ℕ → Option ℕ
+named_number word = option_and_then in_range (decimal_value word)
 
+-- the load of these documents for a zone and a section, if both are numbers
 abbrev pub carga_at : List ℕ → List ℕ → Option ℕ → Option ℕ → Option Carga
 carga_at tables roll (Some zone) (Some number) = Some (record { tables = tables; roll = roll; zone = zone; number = number })
 carga_at tables roll (Some zone) None = None
 carga_at tables roll None number = None
 
--- five words, the first of which is carga, and the last two are places
+-- five words, the first of which is carga, and the last two name a zone and a section
 abbrev pub carga_of : List (List ℕ) → Option Carga
 carga_of (word ∷ tables ∷ roll ∷ zone ∷ number ∷ []) =
-    if bytes_eq word (codes "carga") then carga_at tables roll (place_of zone) (place_of number) else None
+    if bytes_eq word (codes "carga") then carga_at tables roll (named_number zone) (named_number number) else None
 carga_of [] = None
 carga_of (a ∷ []) = None
 carga_of (a ∷ b ∷ []) = None
@@ -58,6 +60,7 @@ pub data Command : Type 0 where
   ToVote : Vota → Command
   ToLoad : Carga → Command
 
+-- the command that the words are, if they are one of the two
 abbrev pub command_in : Option Vota → Option Carga → Option Command
 command_in (Some names) other = Some (ToVote names)
 command_in None (Some names) = Some (ToLoad names)

@@ -45,11 +45,13 @@ pub record HasTables (files : Option Files) (name : List ℕ) (t : TablesData) :
   pub read : IsReadAs bytes t
   pub valid : IsTables t
 
+-- a file of this name is taken, and holds this roll
 pub record HasRoll (files : Option Files) (name : List ℕ) (r : RollData) : Type 0 where
   pub bytes : List ℕ
   pub taken : IsTaken files doc.Roll name bytes
   pub read : IsRollOf bytes r
 
+-- a file of this name is taken, and holds these events
 pub record HasKeys (files : Option Files) (name : List ℕ) (es : List Event) : Type 0 where
   pub bytes : List ℕ
   pub taken : IsTaken files doc.Keys name bytes

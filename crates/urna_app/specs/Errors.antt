@@ -33,9 +33,11 @@ roll_status roll.Memory = status.Memory
 roll_status roll.Count = status.RollCount
 roll_status (roll.Line k) = status.RollLine k
 
+-- keys with a line at fault, as a status
 abbrev pub line_status : LineError → Status
 line_status e = status.Line e.line
 
+-- a port that failed, as a status
 abbrev pub port_status : Port → Status
 port_status Internal = status.InternalFlash
 port_status External = status.ExternalFlash

@@ -10,11 +10,13 @@ use Rattle.urna_app.specs.declared.status.Doc.TheVariants as doc
 use Rattle.urna_app.specs.declared.status.Status.{Status}
 use Rattle.urna_app.specs.declared.status.Status.TheVariants as status
 
+-- how a fault line names a document
 abbrev pub doc_word : Doc → List ℕ
 doc_word doc.Tables = codes "TABELAS"
 doc_word doc.Roll = codes "ROL"
 doc_word doc.Keys = codes "TECLAS"
 
+-- how a fault line names a flash
 abbrev pub device_word : Dev → List ℕ
 device_word Internal = codes "INTERNA"
 device_word External = codes "EXTERNA"
@@ -40,6 +42,7 @@ fault_text status.NoImage = Some (codes "SEM IMAGEM")
 fault_text (status.Busy d) = Some (codes "EM USO " ++ device_word d)
 fault_text status.NoSection = Some (codes "SECAO")
 
+-- a fault line with its line feed
 abbrev pub fault_line : List ℕ → List ℕ
 fault_line text = codes "ERRO " ++ text ++ 10 ∷ []
 

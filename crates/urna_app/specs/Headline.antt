@@ -1,9 +1,9 @@
 -- The headline: whatever moment the power goes in a session, each ballot whose FIM was shown is kept, and at most one more is there
 use Rattle.std.specs.Prelude.{◌≡◌, ◌⊎◌, ◌<◌, ◌≤◌, ◌+◌, ℕ, List, [], ◌∷◌, ◌++◌, Option, Some, flat_map, length, take}
-use Rattle.std.specs.List.{concat}
+use Rattle.std.specs.List.{AllByRecursion, concat}
 use Rattle.std.specs.Option.{ForSome}
 use Rattle.urna_outside.specs.Cabinet.{CabinetTold, Files}
-use Rattle.urna_outside.specs.Flash.{Flashes, IsClean, Op, after, flash_of, shown_by}
+use Rattle.urna_outside.specs.Flash.{Flashes, IsClean, Op, Put, Show, Sync, after, flash_of, shown_by}
 use Rattle.urna_outside.specs.Stop.{AtEachStop, IsLeft, IsStop, Left}
 use Rattle.urna_outside.specs.Told.{Told}
 use Rattle.urna_outside.specs.Traced.{IsTraced}
@@ -29,7 +29,7 @@ use Rattle.station.specs.Run.{IsRun}
 use Rattle.station.specs.Setting.{setting_of}
 use Rattle.station.specs.Start.{opening_line}
 use Rattle.station.specs.Text.{session_pieces}
-use Rattle.urna_app.specs.Carga.{IsAsked, IsGivenLoad}
+use Rattle.urna_app.specs.Carga.{IsSectionAsked, IsGivenLoad}
 use Rattle.urna_app.specs.Command.{Carga, ToLoad, ToVote, Vota, command_of}
 use Rattle.urna_app.specs.Ending.{Ends}
 use Rattle.urna_app.specs.Vota.{IsGiven}
@@ -132,21 +132,27 @@ pub record IsSitting (t : TablesData) (r : RollData) (start : Flashes) (x : Sitt
   pub ballots : x.ballots ≡ ballots_of run
   pub fims : x.fims ≡ fims_reached (session_lines t first out) (length left.shown)
 
--- A call over these flashes, on which nothing was dirty, came no further than its two opening syncs, and left that.
-pub record IsNotBegun (start : Flashes) (left : Left) : Type 0 where
+-- an operation that writes nothing
+abbrev pub WritesNothing : Op → Type 0
+WritesNothing (Put d at bytes) = ⊥
+WritesNothing (Sync d) = Unit {0}
+WritesNothing (Show bytes) = Unit {0}
+
+-- Of a call over these flashes, on which nothing was dirty, that wrote nothing until it was stopped or ended, that is left.
+pub record WroteNothing (start : Flashes) (left : Left) : Type 0 where
   pub clean : (d : Dev) → IsClean (flash_of d start)
   pub done : List Op
-  pub stop : IsStop both_synced done
+  pub idle : AllByRecursion WritesNothing done
   pub is : IsLeft (after done start) (shown_by done) left
 
--- Sittings and calls that did not begin one, one or more, each over flashes with the content that the one before it left.
+-- Sittings and calls that wrote nothing, one or more, each over flashes with the content that the one before it left.
 pub data IsDay (t : TablesData) (r : RollData) : Flashes → List Sitting → Left → Type 0 where
   one : {start : Flashes} {x : Sitting} {left : Left} → IsSitting t r start x left → IsDay t r start (x ∷ []) left
-  none : {start : Flashes} {left : Left} → IsNotBegun start left → IsDay t r start [] left
+  none : {start : Flashes} {left : Left} → WroteNothing start left → IsDay t r start [] left
   then : {start next : Flashes} {x : Sitting} {more : List Sitting} {left last : Left} → IsSitting t r start x left
       → next.internal.content ≡ left.internal → next.external.content ≡ left.external → IsDay t r next more last
       → IsDay t r start (x ∷ more) last
-  not_begun : {start next : Flashes} {more : List Sitting} {left last : Left} → IsNotBegun start left
+  idle : {start next : Flashes} {more : List Sitting} {left last : Left} → WroteNothing start left
       → next.internal.content ≡ left.internal → next.external.content ≡ left.external → IsDay t r next more last
       → IsDay t r start more last
 
@@ -173,4 +179,4 @@ LoadBeginsDay =
     (words : List (List ℕ)) (c d : CabinetTold) (m n : Told) → Ends words c d m n status.Done
     → (names : Carga) (files : Files) (t : TablesData) (r : RollData) → command_of words ≡ Some (ToLoad names) → c.files ≡ Some files → IsGivenLoad (Some files) names t r
     → (start : Flashes) → n.flashes ≡ Some start
-    → (section : Section) × IsAsked names t r section × AreWhole start × AreFound t r section (ready_state t (length r.titles)) start
+    → (section : Section) × IsSectionAsked names t r section × AreWhole start × AreFound t r section (ready_state t (length r.titles)) start

@@ -28,9 +28,9 @@ CountsFor (status.Busy d) old new = new ≡ old
 CountsFor status.NoSection old new = new ≡ old
 
 -- the count of calls after so many more
-abbrev pub calls_after : ℕ → Option ℕ → Option ℕ
-calls_after zero calls = calls
-calls_after (suc more) calls = calls_after more (option_map one_more calls)
+abbrev pub calls_made : ℕ → Option ℕ → Option ℕ
+calls_made zero calls = calls
+calls_made (suc more) calls = calls_made more (option_map one_more calls)
 
 -- At most so many calls were made, after which the answer was this status. The files are as they were.
 pub record HasTaken (most : ℕ) (s : Status) (old new : CabinetTold) : Type 0 where
@@ -38,7 +38,7 @@ pub record HasTaken (most : ℕ) (s : Status) (old new : CabinetTold) : Type 0 w
   pub counts : CountsFor s old.tally new.tally
   pub made : ℕ
   pub few : made ≤ most
-  pub calls : new.calls ≡ calls_after made old.calls
+  pub calls : new.calls ≡ calls_made made old.calls
 
 -- what a step's answer is as a status
 abbrev pub status_in : {T : Type 0} → Result T Status → Status

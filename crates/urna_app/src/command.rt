@@ -1,6 +1,6 @@
 //! The words of a command.
 ghost use Rattle.std.specs.Prelude.{◌≡◌, IfNone, IfSome, List, None, Some, map, string_bytes, ℕ};
-ghost use Rattle.urna_app.specs.Command.{carga_of, place_of, vota_of};
+ghost use Rattle.urna_app.specs.Command.{carga_of, named_number, vota_of};
 
 use election_tables::GREATEST_SECTION;
 use urna_base::decimal;
@@ -53,8 +53,8 @@ pub(crate) fn carga_words(words: &[String]) -> Option<CargaNames<'_>>
     if command.as_str() != "carga" {
         return None;
     }
-    let zone = place(zone.as_str())?;
-    let number = place(number.as_str())?;
+    let zone = named_number(zone.as_str())?;
+    let number = named_number(number.as_str())?;
     Some(CargaNames {
         tables: tables.as_str(),
         roll: roll.as_str(),
@@ -64,8 +64,8 @@ pub(crate) fn carga_words(words: &[String]) -> Option<CargaNames<'_>>
 }
 
 /// A zone or the number of a section: a decimal from 1 to `GREATEST_SECTION`.
-fn place(word: &str) -> Option<u32>
-    ensures { result ≡ place_of word.now }
+fn named_number(word: &str) -> Option<u32>
+    ensures { result ≡ named_number word.now }
 {
     match decimal(word.as_bytes()) {
         Some(number) if 1 <= number && number <= GREATEST_SECTION => Some(number as u32),

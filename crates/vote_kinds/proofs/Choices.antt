@@ -5,7 +5,8 @@ use Rattle.vote_kinds.specs.declared.choice.Choice.{Choice}
 use Rattle.vote_kinds.specs.declared.choice.Choice.TheVariants as choice
 use Rattle.vote_kinds.specs.declared.choice.Field.{Field}
 use Rattle.vote_kinds.specs.declared.choice.Field.TheVariants as field
-use Rattle.vote_kinds.specs.Ballot.{BallotLine, is_choice, choice_of, names_candidate, is_nominal_of, first_two}
+use Rattle.election_tables.specs.Fields.{first_two}
+use Rattle.vote_kinds.specs.Ballot.{BallotLine, is_choice, choice_of, names_candidate, is_nominal_of}
 
 both : (a b : Bool) → a ≡ true → b ≡ true → (a && b) ≡ true
 both true true h g = refl

@@ -1,6 +1,7 @@
 -- The lines of a ballot, and the choice that a field stands for
-use Rattle.std.specs.Prelude.{ℕ, ◌+◌, ◌-◌, ◌/◌, ◌^◌, ◌<◌, ◌≤◌, Bool, true, false, not, ◌&&◌, List, [], ◌∷◌, map, replicate, Option, Some, None, unwrap_or, slice_get, nat_eq, nat_le, ◌==◌, if◌then◌else◌}
+use Rattle.std.specs.Prelude.{ℕ, ◌+◌, ◌^◌, ◌<◌, ◌≤◌, Bool, true, false, not, ◌&&◌, List, [], ◌∷◌, map, replicate, Option, Some, None, unwrap_or, slice_get, nat_eq, nat_le, ◌==◌, if◌then◌else◌}
 use Rattle.std.specs.List.{flat_map, list_any}
+use Rattle.election_tables.specs.Fields.{first_two}
 use Rattle.election_tables.specs.TablesData.{TablesData, places_in}
 use Rattle.election_tables.specs.declared.tables.panels.Panel.{Panel}
 use Rattle.election_tables.specs.declared.office.Kind.{Kind}
@@ -20,6 +21,7 @@ pub record BallotLine : Type 0 where
   pub candidates : List ℕ  -- the numbers of the office's candidates
   pub parties : List ℕ  -- the numbers of the parties
 
+-- the office is decided in proportion
 abbrev pub is_proportional : Kind → Bool
 is_proportional kind.Proportional = true
 is_proportional kind.Absolute = false
@@ -37,6 +39,7 @@ line_for t number p = record {
   parties = map (λ q. q.number) t.parties;
 }
 
+-- what stands for a panel that isn't there
 abbrev pub no_panel : Panel
 no_panel = record { office = record { code = 0; digits = 0; kind = kind.Simple; seats = 0 }; candidates = [] }
 
@@ -73,13 +76,11 @@ is_confirmable line field.Empty = false
 is_confirmable line field.Blank = true
 is_confirmable line (field.Digits count value) = if line.proportional then nat_le 2 count else count == line.digits
 
-abbrev pub first_two : ℕ → ℕ → ℕ
-first_two count value = value / 10 ^ (count - 2)
-
 -- all digits are typed, and name a candidate of the office
 abbrev pub names_candidate : BallotLine → ℕ → ℕ → Bool
 names_candidate line count value = count == line.digits && list_any (nat_eq value) line.candidates
 
+-- a choice, if there is one, of the candidate with this number
 abbrev pub is_nominal_of : ℕ → Option Choice → Bool
 is_nominal_of number None = false
 is_nominal_of number (Some (choice.Nominal other)) = nat_eq number other

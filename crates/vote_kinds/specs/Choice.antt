@@ -30,5 +30,6 @@ choice_with kind number =
 abbrev pub choice_le : Choice → Choice → Bool
 choice_le a b = if kind_of a == kind_of b then nat_le (number_of a) (number_of b) else nat_lt (kind_of a) (kind_of b)
 
+-- a is b
 abbrev pub is_same : Choice → Choice → Bool
 is_same a b = kind_of a == kind_of b && number_of a == number_of b

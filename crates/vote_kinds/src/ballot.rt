@@ -1,6 +1,7 @@
 ghost use Rattle.std.specs.Prelude.{◌≡◌, ◌≢◌, ◌^◌, ◌<◌, ◌≤◌, None, length, map, true, nat_eq};
 ghost use Rattle.std.specs.List.{list_any};
-ghost use Rattle.vote_kinds.specs.Ballot.{IsField, choice_of, first_two, is_choice, is_confirmable, is_proportional, line_of, names_candidate, panel_at};
+ghost use Rattle.election_tables.specs.Fields.{first_two};
+ghost use Rattle.vote_kinds.specs.Ballot.{IsField, choice_of, is_choice, is_confirmable, is_proportional, line_of, names_candidate, panel_at};
 
 use crate::choice::{Choice, Field};
 use election_tables::{Kind, Office, Tables};

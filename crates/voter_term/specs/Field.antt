@@ -15,6 +15,7 @@ use Rattle.voter_term.specs.declared.panel.Shown.TheVariants as shown
 abbrev pub is_typed : Key → Bool
 is_typed k = not (is_correct k) && not (is_confirm k)
 
+-- BRANCO
 abbrev pub is_blank : Key → Bool
 is_blank (key.Digit d) = false
 is_blank key.Blank = true
@@ -60,6 +61,7 @@ pub record Confirms (line : BallotLine) (earlier : Option Choice) (x : List Key)
 abbrev pub IsPanelWord : BallotLine → Option Choice → List Key → Choice → Type 0
 IsPanelWord line earlier w choice = (x : List Key) × (w ≡ x ++ key.Confirm ∷ []) × Confirms line earlier x choice
 
+-- two fields are the same
 abbrev pub same_field : Field → Field → Bool
 same_field field.Empty field.Empty = true
 same_field field.Blank field.Blank = true

@@ -6,7 +6,7 @@ ghost use Rattle.election_tables.specs.Rules.{has_office, has_party, rule_7, rul
 
 use super::distinct::{numbers_differ, pairs_differ};
 use super::fields::{first_two, has_digits, is_number, is_valid_date, is_within, natural};
-use super::offices::digits_of;
+use super::offices::digits_by_code;
 use crate::document::{CandidateEntry, Document, OfficeEntry, PartyEntry};
 use std::alloc::{AllocError, Global};
 
@@ -40,7 +40,7 @@ fn has_office(offices: &[OfficeEntry], candidate: &CandidateEntry) -> bool
     if !has_code(offices, candidate.office) {
         return false;
     }
-    match digits_of(candidate.office) {
+    match digits_by_code(candidate.office) {
         Some(digits) => match natural(candidate.number) {
             Some(n) => has_digits(digits, n),
             None => false,
@@ -64,7 +64,7 @@ fn has_number(parties: &[PartyEntry], number: u64) -> bool
 fn has_party(parties: &[PartyEntry], candidate: &CandidateEntry) -> bool
     ensures { result ≡ has_party parties.now candidate.now }
 {
-    match digits_of(candidate.office) {
+    match digits_by_code(candidate.office) {
         Some(digits) => match natural(candidate.number) {
             Some(n) => has_number(parties, first_two(digits, n)),
             None => false,

@@ -1,7 +1,7 @@
 //! The rules on offices: 5, 6 and 14.
 ghost use Rattle.std.specs.Prelude.{◌≡◌, ◌≤◌, is_some, map, IfOk, IfSome};
 ghost use Rattle.std.specs.List.{list_all};
-ghost use Rattle.election_tables.specs.Rules.{digits_of, kind_fits, seats_in_range, rule_5, rule_6, rule_14};
+ghost use Rattle.election_tables.specs.Rules.{digits_by_code, kind_fits, seats_in_range, rule_5, rule_6, rule_14};
 
 use super::distinct::numbers_differ;
 use super::fields::{is_within, natural};
@@ -10,8 +10,8 @@ use crate::office::{Kind, allows, digits_of_code, most_seats};
 use std::alloc::{AllocError, Global};
 
 /// The digits of an office, if the code is one.
-pub(crate) fn digits_of(code: i64) -> Option<u8>
-    ensures digits { result ≡ digits_of code }
+pub(crate) fn digits_by_code(code: i64) -> Option<u8>
+    ensures digits { result ≡ digits_by_code code }
     ensures few { IfSome result (λ digits. (2 ≤ digits) × (digits ≤ 5)) }
 {
     match natural(code) {
@@ -21,9 +21,9 @@ pub(crate) fn digits_of(code: i64) -> Option<u8>
 }
 
 fn codes_known(offices: &[OfficeEntry]) -> bool
-    ensures { result ≡ list_all (λ o. is_some (digits_of o.code)) offices.now }
+    ensures { result ≡ list_all (λ o. is_some (digits_by_code o.code)) offices.now }
 {
-    offices.iter().all(|o| digits_of(o.code).is_some())
+    offices.iter().all(|o| digits_by_code(o.code).is_some())
 }
 
 fn office_codes(alloc: Global, offices: &[OfficeEntry]) -> Result<Vec<i64>, AllocError>

@@ -4,7 +4,7 @@ use Rattle.urna_outside.specs.ShownLines.{HasShown, IsCutOff}
 use Rattle.image_codec.specs.Valid.{ready_state}
 use Rattle.state_store.specs.Rest.{AreAtRest}
 use Rattle.state_store.specs.declared.load.Load.{Load}
-use Rattle.urna_app.specs.Carga.{CargaEnds, HasLoaded, IsAsked, IsGivenLoad, loaded, no_section, not_loaded, not_told}
+use Rattle.urna_app.specs.Carga.{CargaEnds, HasLoaded, IsSectionAsked, IsGivenLoad, loaded, no_section, not_loaded, not_told}
 use Rattle.urna_app.specs.Command.{Carga}
 use Rattle.urna_app.specs.Errors.{load_status}
 use Rattle.urna_app.specs.Taking.{HasTaken}
@@ -45,7 +45,7 @@ returns-in_err-_store g c =
     let taken : HasTaken 2 status.Done x y = c.in_ok-tables.ensures.taken in
     let e = c.in_err-_store.field-0.0 in
     let given : IsGivenLoad x.files names c.in_ok-tables.tables c.in_ok-tables.roll = record { tables = c.in_ok-tables.ensures.tables; roll = c.in_ok-tables.ensures.roll } in
-    let asked : IsAsked names c.in_ok-tables.tables c.in_ok-tables.roll c.in-Some.section =
+    let asked : IsSectionAsked names c.in_ok-tables.tables c.in_ok-tables.roll c.in-Some.section =
     record { fits = c.in-Some.ensures.some; zone = c.in-Some.ensures.asked.0; number = c.in-Some.ensures.asked.1 } in
     subst (CargaEnds names x y m n) (sym (passed_on c.from_residual-in_err-_store.result (load_status e) c.from_residual-in_err-_store.ensures.1 (λ s h. h)))
     (not_loaded e given asked (taken_as 2 (load_status e) x y (counts_load e x.tally y.tally) taken) c.in_err-_store.ensures.fails)
@@ -62,7 +62,7 @@ returns-in-Ok g c =
     let t = c.in_ok-tables.tables in
     let r = c.in_ok-tables.roll in
     let given : IsGivenLoad x.files names t r = record { tables = c.in_ok-tables.ensures.tables; roll = c.in_ok-tables.ensures.roll } in
-    let asked : IsAsked names t r c.in-Some.section =
+    let asked : IsSectionAsked names t r c.in-Some.section =
     record { fits = c.in-Some.ensures.some; zone = c.in-Some.ensures.asked.0; number = c.in-Some.ensures.asked.1 } in
     let has : HasLoaded t r c.in-Some.section m b =
     record {
@@ -85,7 +85,7 @@ returns g c =
     let t = c.in_ok-tables.tables in
     let r = c.in_ok-tables.roll in
     let given : IsGivenLoad x.files names t r = record { tables = c.in_ok-tables.ensures.tables; roll = c.in_ok-tables.ensures.roll } in
-    let asked : IsAsked names t r c.in-Some.section =
+    let asked : IsSectionAsked names t r c.in-Some.section =
     record { fits = c.in-Some.ensures.some; zone = c.in-Some.ensures.asked.0; number = c.in-Some.ensures.asked.1 } in
     let has : HasLoaded t r c.in-Some.section m b =
     record {
