@@ -1,0 +1,6 @@
+pub mod Table
+pub mod Said
+pub mod Spelling
+pub mod Fault
+pub mod Laws
+pub mod Reading
