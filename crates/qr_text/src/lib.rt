@@ -2,10 +2,12 @@
 //! (docs/FORMATS.md, "Report text").
 //!
 //! `specs/Spelling.antt` says which text spells which report, and `specs/Fault.antt` what the fault of a text is: both of whole
-//! texts, and from the one table of the fields (`TABLE`, `src/table.rt`).
+//! texts, and from the one table of the fields (`TABLE`, `src/table.rt`). `laws` has what is so of every text: it has one fault, or
+//! it spells one report, and never both; and a report has one text.
 #![tactic(auto)]
 
 mod fault;
+pub mod laws;
 pub mod said;
 pub mod table;
 

@@ -1,0 +1,64 @@
+-- What the code of an office gives: it fits its field, and its numbers have few digits, four or five where the office is proportional.
+use Rattle.std.proofs.Common.{◌≡◌, ℕ, ◌≤◌, Bool, true, false, List, [], ◌∷◌, length, Option, Some, None, ◌⊎◌, inl, inr, refl, sym, ◌∙◌, arith, lit≤}
+use Rattle.std.specs.Prelude.{if◌then◌else◌, nat_lt, ◌&&◌, ◌||◌, ◌==◌, not, is_some, unwrap_or, option_map, pos}
+use Rattle.std.specs.List.{find, list_all, list_any}
+use Rattle.std.specs.Option.{option_map_or}
+use Rattle.std.proofs.lemmas.Bool.Decides.{nat_tests}
+use Rattle.election_tables.proofs.Kept.{code_digits-range, code_in_range}
+use Rattle.election_tables.specs.Fields.{is_within}
+use Rattle.election_tables.specs.Limits.{most_offices}
+use Rattle.election_tables.specs.Offices.{code_digits, code_proportional, greatest_code, kinds_allow, office_rows, row_of}
+use Rattle.election_tables.specs.declared.office.Kind.TheVariants as kind
+use Rattle.poll_report.specs.Report.{digits_in, may_have_code}
+use Rattle.urna_base.proofs.DigitLaws.{both_from_and}
+use Rattle.urna_base.specs.Moment.{is_between}
+use Rattle.qr_text.specs.Table.{fits}
+use Rattle.qr_text.specs.declared.table.TheConstants.{TABLE}
+
+two_digits : (n : ℕ) → is_within 1 greatest_code (pos n) ≡ true → is_between 1 99 n ≡ true
+two_digits n h = grind (arith, nat_tests)
+
+-- a code that an office may have fits its field
+pub code_fits : (before : List ℕ) (code : ℕ) → may_have_code before code ≡ true → fits TABLE.office.form code ≡ true
+code_fits before code h =
+    let behind = (both_from_and (nat_lt (length before) most_offices) (is_some (code_digits code) && not (list_any (λ (c : ℕ). c == code) before)) h).1 in
+    two_digits code (code_in_range code (both_from_and (is_some (code_digits code)) (not (list_any (λ (c : ℕ). c == code) before)) behind).0)
+
+few_of : (code : ℕ) (o : Option ℕ) → code_digits code ≡ o → unwrap_or o 0 ≤ 5
+few_of code None e = lit≤ tt
+few_of code (Some digits) e = (code_digits-range code digits e).1
+
+pub digits_few : (code : ℕ) → digits_in code ≤ 5
+digits_few code = few_of code (code_digits code) refl
+
+-- ---- four or five digits
+
+-- what is so of each element is so of the one that is found
+found_has : {A : Type 0} (has p : A → Bool) (xs : List A) → list_all has xs ≡ true → option_map_or has (find p xs) true ≡ true
+found_has has p [] h = refl
+found_has has p (x ∷ xs) h = let both = both_from_and (has x) (list_all has xs) h in at (p x) both.0 (found_has has p xs both.1)
+  where
+    at : (b : Bool) → has x ≡ true → option_map_or has (find p xs) true ≡ true → option_map_or has (if b then Some x else find p xs) true ≡ true
+    at true here rest = here
+    at false here rest = rest
+
+either : (digits : ℕ) (a b : Bool) → (a || b) ≡ true → (a ≡ true → digits ≡ 4) → (b ≡ true → digits ≡ 5) → (digits ≡ 4) ⊎ (digits ≡ 5)
+either digits true b h f g = inl (f refl)
+either digits false b h f g = inr (g h)
+
+four_or_five : (digits : ℕ) (b : Bool) → (not b || (digits == 4 || digits == 5)) ≡ true → b ≡ true → (digits ≡ 4) ⊎ (digits ≡ 5)
+four_or_five digits false h e = absurd (cc)
+four_or_five digits true h e = either digits (digits == 4) (digits == 5) h (λ x. grind (arith, nat_tests)) (λ x. grind (arith, nat_tests))
+
+-- a row has a kind and digits; a code without one has this other kind
+of_row : {R K : Type 0} (kinds : R → K) (digits : R → ℕ) (allow : K → Bool) (other : K) → allow other ≡ false → (o : Option R)
+    → option_map_or (λ r. not (allow (kinds r)) || (digits r == 4 || digits r == 5)) o true ≡ true → allow (option_map_or kinds o other) ≡ true
+    → (unwrap_or (option_map digits o) 0 ≡ 4) ⊎ (unwrap_or (option_map digits o) 0 ≡ 5)
+of_row kinds digits allow other no_other None all h = let not_so : true ≡ false = sym h ∙ no_other in absurd (cc)
+of_row kinds digits allow other no_other (Some r) all h = four_or_five (digits r) (allow (kinds r)) all h
+
+pub proportional_digits : (code : ℕ) → code_proportional code ≡ true → (digits_in code ≡ 4) ⊎ (digits_in code ≡ 5)
+unfolding row_of
+proportional_digits code h =
+    of_row (λ r. r.kinds) (λ r. r.digits) (λ k. kinds_allow k kind.Proportional) _ refl (row_of code)
+    (found_has (λ r. not (kinds_allow r.kinds kind.Proportional) || (r.digits == 4 || r.digits == 5)) (λ r. code == r.code) office_rows refl) h

@@ -1,0 +1,192 @@
+-- Writing and reading of one field, and of a candidate's.
+use Rattle.std.proofs.Common.{◌≡◌, Bool, true, false, List, [], ◌∷◌, ◌++◌, ℕ, ◌<◌, ◌^◌, Option, Some, None, refl, sym, ap, ◌∙◌, subst, arith, lit<}
+use Rattle.std.specs.Prelude.{codes, not, ◌==◌, if◌then◌else◌, All}
+use Rattle.std.specs.List.{list_all, slice_split, join_with_byte}
+use Rattle.std.proofs.lemmas.List.Splits.{slice_split_at, slice_split_none, join_with_byte-slice_split}
+use Rattle.std.proofs.lemmas.Slice.Eq.{bytes_eq-Decides}
+use Rattle.std.proofs.lemmas.List.Elements.{All-nil, All-cons}
+use Rattle.std.specs.Option.{option_and_then}
+use Rattle.std.specs.Str.{bytes_eq}
+use Rattle.std.specs.Fmt.{decimal}
+use Rattle.std.proofs.lemmas.Bool.Decides.{nat_tests}
+use Rattle.election_tables.proofs.Kept.{has_digits-below}
+use Rattle.election_tables.specs.Fields.{has_digits}
+use Rattle.poll_report.specs.Report.{digits_in, is_some_votes, is_vote}
+use Rattle.poll_report.specs.declared.report.Count.{Count}
+use Rattle.urna_base.proofs.DecimalLaws.{decimal_value-decimal, decimal-decimal_value, decimal_value-some}
+use Rattle.urna_base.proofs.DigitLaws.{digits_value-padded, padded-digits_value, both_from_and}
+use Rattle.urna_base.specs.Digits.{is_digit, decimal_value}
+use Rattle.urna_base.specs.Moment.{is_between, is_date}
+use Rattle.qr_text.proofs.Codes.{digits_few}
+use Rattle.qr_text.specs.Reading.{after_word, only_fitting, written_value, value_at, number_at, vote_with, vote_of, vote_at}
+use Rattle.qr_text.specs.Table.{fits, is_time, value_text, field_text, vote_row}
+use Rattle.qr_text.specs.declared.table.Form.TheVariants.{Vota, Between, Date, Time}
+use Rattle.qr_text.specs.declared.table.Form.{Form}
+use Rattle.qr_text.specs.declared.table.Row.{Row}
+
+-- the numbers of a form are those that decimals can write
+abbrev pub IsSmall : Form → Type 0
+IsSmall Vota = Unit {0}
+IsSmall (Between low high) = high < 10 ^ 18
+IsSmall Date = Unit {0}
+IsSmall Time = Unit {0}
+
+pub date_small : (v : ℕ) → is_date v ≡ true → v < 10 ^ 8
+unfolding is_date
+date_small v e = grind (arith, nat_tests)
+
+pub time_small : (v : ℕ) → is_time v ≡ true → v < 10 ^ 6
+time_small v e = grind (arith, nat_tests)
+
+pub between_small : (low high v : ℕ) → is_between low high v ≡ true → high < 10 ^ 18 → v < 10 ^ 18
+between_small low high v e h = grind (arith, nat_tests)
+
+-- ---- the word before a text
+
+same_byte : (w : ℕ) → (w == w) ≡ true
+same_byte w = grind (arith, nat_tests)
+
+pub after_word-front : (word text : List ℕ) → after_word word (word ++ text) ≡ Some text
+after_word-front [] text = refl
+after_word-front (w ∷ word) text = rw (same_byte w) (after_word-front word text)
+
+guard_some : {A : Type 0} (b : Bool) (o : Option A) (x : A) → (if b then o else None) ≡ Some x → (b ≡ true) × (o ≡ Some x)
+guard_some true o x e = (refl, e)
+guard_some false o x e = absurd (cc)
+
+pub after_word-back : (word text rest : List ℕ) → after_word word text ≡ Some rest → text ≡ word ++ rest
+after_word-back [] text rest e = cc
+after_word-back (w ∷ word) [] rest e = absurd (cc)
+after_word-back (w ∷ word) (c ∷ text) rest e =
+    let both = guard_some (c == w) (after_word word text) rest e in
+    let test : (c == w) ≡ true = both.0 in
+    let heads : c ≡ w = grind (arith, nat_tests) in
+    let tails = after_word-back word text rest both.1 in
+    cc
+
+-- ---- values
+
+only_back : (form : Form) (v w : ℕ) → only_fitting form v ≡ Some w → (fits form w ≡ true) × (v ≡ w)
+only_back form v w e = let both = guard_some (fits form v) (Some v) w e in let same : v ≡ w = cc in (rw (← same) both.0, same)
+
+and_then_some : {A B : Type 0} (o : Option A) (f : A → Option B) (y : B) → option_and_then f o ≡ Some y → (x : A) × (o ≡ Some x) × (f x ≡ Some y)
+and_then_some None f y e = cc
+and_then_some (Some x) f y e = (x, refl, e)
+
+written_again : (form : Form) (v : ℕ) → IsSmall form → fits form v ≡ true → written_value form (value_text form v) ≡ Some v
+written_again Vota v s e = let zero_is : v ≡ 0 = grind (arith, nat_tests) in rw zero_is refl
+written_again (Between low high) v s e = decimal_value-decimal v (between_small low high v e s)
+written_again Date v s e = digits_value-padded 8 v (date_small v e)
+written_again Time v s e = digits_value-padded 6 v (time_small v e)
+
+written_back : (form : Form) (t : List ℕ) (v : ℕ) → written_value form t ≡ Some v → t ≡ value_text form v
+written_back Vota t v e = let both = guard_some (bytes_eq t (codes "VOTA")) (Some 0) v e in (bytes_eq-Decides t (codes "VOTA")).0 both.0
+written_back (Between low high) t v e = sym (decimal-decimal_value t v e)
+written_back Date t v e = sym (padded-digits_value 8 t v e)
+written_back Time t v e = sym (padded-digits_value 6 t v e)
+
+value_again : (form : Form) (v : ℕ) → IsSmall form → fits form v ≡ true → value_at form (value_text form v) ≡ Some v
+unfolding value_at
+value_again form v s e = rw (written_again form v s e, e) refl
+
+-- the number of a field that is written is read
+pub number_again : (r : Row) (v : ℕ) → IsSmall r.form → fits r.form v ≡ true → number_at r (field_text r v) ≡ Some v
+unfolding number_at
+number_again r v s e = rw (after_word-front r.key (58 ∷ value_text r.form v)) (value_again r.form v s e)
+
+value_back : (form : Form) (t : List ℕ) (v : ℕ) → value_at form t ≡ Some v → (t ≡ value_text form v) × (fits form v ≡ true)
+unfolding value_at
+value_back form t v e =
+    let inner = and_then_some (written_value form t) (only_fitting form) v e in
+    let fit = only_back form inner.0 v inner.2 in
+    (written_back form t v (inner.1 ∙ ap (λ (x : ℕ). Some x) fit.1), fit.0)
+
+-- a field that was read is the one that is written
+pub number_back : (r : Row) (p : List ℕ) (v : ℕ) → number_at r p ≡ Some v → (p ≡ field_text r v) × (fits r.form v ≡ true)
+unfolding number_at
+number_back r p v e =
+    let outer = and_then_some (option_and_then (after_word (58 ∷ [])) (after_word r.key p)) (value_at r.form) v e in
+    let colon = and_then_some (after_word r.key p) (after_word (58 ∷ [])) outer.0 outer.1 in
+    let text = value_back r.form outer.0 v outer.2 in
+    let behind : colon.0 ≡ 58 ∷ value_text r.form v = after_word-back (58 ∷ []) colon.0 outer.0 colon.2 ∙ ap (λ (x : List ℕ). 58 ∷ x) text.0 in
+    (after_word-back r.key p colon.0 colon.1 ∙ ap (λ (x : List ℕ). r.key ++ x) behind, text.1)
+
+-- ---- a candidate's field
+
+abbrev is_colon : ℕ → Bool
+is_colon b = b == 58
+
+pub no_colons : (t : List ℕ) → list_all is_digit t ≡ true → All (λ b. is_colon b ≡ false) t
+no_colons [] h = All-nil (λ b. is_colon b ≡ false)
+no_colons (c ∷ t) h =
+    let both = both_from_and (is_digit c) (list_all is_digit t) h in
+    let digit : is_digit c ≡ true = both.0 in
+    let other : is_colon c ≡ false = grind (arith, nat_tests) in
+    All-cons (λ b. is_colon b ≡ false) c t other (no_colons t both.1)
+
+all_digits : (v : ℕ) → v < 10 ^ 18 → list_all is_digit (decimal v) ≡ true
+all_digits v s = (decimal_value-some (decimal v) v (decimal_value-decimal v s)).0.all
+
+vote_small : (digits : ℕ) (c : Count) → is_vote digits c ≡ true → c.votes < 10 ^ 18
+vote_small digits c e = let few = (both_from_and (has_digits digits c.number) (is_some_votes c.votes) e).1 in between_small 1 9999 c.votes few (lit< tt)
+
+-- the numbers of candidates are small
+pub number_small : (code : ℕ) (c : Count) → is_vote (digits_in code) c ≡ true → c.number < 10 ^ 18
+number_small code c e =
+    let has = (both_from_and (has_digits (digits_in code) c.number) (is_some_votes c.votes) e).0 in
+    let few = has_digits-below (digits_in code) c.number (digits_few code) has in
+    omega arith
+
+pub vote_again : (digits : ℕ) (c : Count) → c.number < 10 ^ 18 → is_vote digits c ≡ true → vote_at digits (field_text (vote_row c.number) c.votes) ≡ Some c
+unfolding vote_at
+vote_again digits c small e =
+    let votes_small : c.votes < 10 ^ 18 = vote_small digits c e in
+    let number = decimal_value-decimal c.number small in
+    let votes = decimal_value-decimal c.votes votes_small in
+    let first = slice_split_at is_colon (decimal c.number) 58 (decimal c.votes) (no_colons (decimal c.number) (all_digits c.number small)) refl in
+    let second = slice_split_none is_colon (decimal c.votes) (no_colons (decimal c.votes) (all_digits c.votes votes_small)) in
+    rw (first, second, number, votes, e) refl
+
+-- ---- what is no candidate's field
+
+abbrev not_colon : ℕ → Bool
+not_colon b = not (b == 58)
+
+no_colon_in : (t : List ℕ) → list_all not_colon t ≡ true → All (λ b. is_colon b ≡ false) t
+no_colon_in [] h = All-nil (λ b. is_colon b ≡ false)
+no_colon_in (c ∷ t) h =
+    let both = both_from_and (not_colon c) (list_all not_colon t) h in
+    let test : not_colon c ≡ true = both.0 in
+    let other : is_colon c ≡ false = grind (arith, nat_tests) in
+    All-cons (λ b. is_colon b ≡ false) c t other (no_colon_in t both.1)
+
+vote_of_none : (digits : ℕ) (a : List ℕ) (rest : List (List ℕ)) → decimal_value a ≡ None → vote_of digits (a ∷ rest) ≡ None
+vote_of_none digits a [] h = refl
+vote_of_none digits a (b ∷ []) h = rw h refl
+vote_of_none digits a (b ∷ c ∷ more) h = refl
+
+-- a field whose key is no number is no candidate's
+pub vote_none : (digits : ℕ) (key t : List ℕ) → list_all not_colon key ≡ true → decimal_value key ≡ None → vote_at digits (key ++ 58 ∷ t) ≡ None
+unfolding vote_at
+vote_none digits key t h n = rw (slice_split_at is_colon key 58 t (no_colon_in key h) refl) (vote_of_none digits key (slice_split is_colon t) n)
+
+-- a candidate's field that was read is the one that is written
+pub vote_back : (digits : ℕ) (p : List ℕ) (c : Count) → vote_at digits p ≡ Some c → (p ≡ field_text (vote_row c.number) c.votes) × (is_vote digits c ≡ true)
+unfolding vote_at
+vote_back digits p c e = split_back digits p c (slice_split is_colon p) (join_with_byte-slice_split 58 p) e
+  where
+    pair_back : (a b : List ℕ) → a ++ 58 ∷ b ≡ p → vote_of digits (a ∷ b ∷ []) ≡ Some c → (p ≡ field_text (vote_row c.number) c.votes) × (is_vote digits c ≡ true)
+    pair_back a b whole e =
+        let first = and_then_some (decimal_value a) (λ number. option_and_then (vote_with digits number) (decimal_value b)) c e in
+        let second = and_then_some (decimal_value b) (vote_with digits first.0) c first.2 in
+        let found : Count = record { number = first.0; votes = second.0 } in
+        let both = guard_some (is_vote digits found) (Some found) c second.2 in
+        let same : found ≡ c = cc in
+        let P : Count → Type 0 = λ x. (p ≡ field_text (vote_row x.number) x.votes) × (is_vote digits x ≡ true) in
+        subst P same (sym whole ∙ (ap (λ (x : List ℕ). x ++ 58 ∷ b) (sym (decimal-decimal_value a first.0 first.1)) ∙ ap (λ (x : List ℕ). decimal first.0 ++ 58 ∷ x) (sym (decimal-decimal_value b second.0 second.1))), both.0)
+
+    split_back : (digits' : ℕ) (p' : List ℕ) (c' : Count) (parts : List (List ℕ)) → join_with_byte 58 parts ≡ p → vote_of digits parts ≡ Some c → (p ≡ field_text (vote_row c.number) c.votes) × (is_vote digits c ≡ true)
+    split_back d q x [] whole e = absurd (cc)
+    split_back d q x (a ∷ []) whole e = absurd (cc)
+    split_back d q x (a ∷ b ∷ []) whole e = pair_back a b whole e
+    split_back d q x (a ∷ b ∷ more ∷ rest) whole e = absurd (cc)
