@@ -15,3 +15,4 @@ pub mod Spellings
 pub mod Samples
 pub mod Rows
 mod FaultRows
+pub mod WriteLaws

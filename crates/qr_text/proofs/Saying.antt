@@ -128,7 +128,7 @@ candidates_may digits party before kept (c ∷ cs) k h =
 pub votes_cons : (c : Count) (cs : List Count) → votes_of (c ∷ cs) ≡ c.votes + votes_of cs
 votes_cons c cs = sum_by-cons (λ (x : Count). x.votes) c cs
 
-part_votes : (p : Count → Bool) (cs : List Count) → votes_of (filter p cs) ≤ votes_of cs
+pub part_votes : (p : Count → Bool) (cs : List Count) → votes_of (filter p cs) ≤ votes_of cs
 part_votes p [] = lit≤ tt
 part_votes p (c ∷ cs) =
     let rest = part_votes p cs in
@@ -138,7 +138,7 @@ part_votes p (c ∷ cs) =
       | inr e ↦ rw e (omega arith)
     ]
 
-legend_part : (k : ℕ) (ps : List Count) → party_votes k ps ≤ votes_of ps
+pub legend_part : (k : ℕ) (ps : List Count) → party_votes k ps ≤ votes_of ps
 legend_part k [] = lit≤ tt
 legend_part k (c ∷ ps) =
     let rest = legend_part k ps in

@@ -4,3 +4,4 @@ pub mod Spelling
 pub mod Fault
 pub mod Laws
 pub mod Reading
+pub mod Writing

@@ -7,8 +7,11 @@
 #![tactic(auto)]
 
 mod fault;
+mod field;
 pub mod laws;
 pub mod said;
 pub mod table;
+mod write;
 
 pub use fault::{FieldError, FieldFault};
+pub use write::write_fields;
