@@ -1,6 +1,7 @@
 -- A text is read with a fault exactly where it has that fault, and else as what it says; given that the steps follow every
 -- well-formed text (`Complete`) and that what was read so far can always go on to one (`Completes`).
-use Rattle.std.proofs.Common.{◌≡◌, ℕ, zero, suc, ◌+◌, Bool, true, false, List, [], ◌∷◌, ◌++◌, length, take, drop, Option, Some, None, refl, sym, ap, ◌∙◌, subst, ◌⊎◌, inl, inr, arith, add-one, append_assoc}
+use Rattle.std.proofs.lemmas.Bool.{cases_Bool}
+use Rattle.std.proofs.Common.{◌≡◌, ℕ, zero, suc, ◌+◌, true, false, List, [], ◌∷◌, ◌++◌, length, take, drop, Option, Some, None, refl, sym, ap, ◌∙◌, subst, ◌⊎◌, inl, inr, arith, add-one, append_assoc}
 use Rattle.std.specs.Bool.{⊤}
 use Rattle.std.proofs.lemmas.List.{append-nil}
 use Rattle.std.specs.Prelude.{Ok, Err, slice_get}
@@ -141,10 +142,6 @@ list_cases : {A : Type 0} (xs : List A) → (xs ≡ []) ⊎ ((x : A) × (ys : Li
 list_cases [] = inl refl
 list_cases (x ∷ xs) = inr (x, xs, refl)
 
-bool_cases : (b : Bool) → (b ≡ true) ⊎ (b ≡ false)
-bool_cases true = inl refl
-bool_cases false = inr refl
-
 same_at : (k : ℕ) (ps : List (List ℕ)) (fs : List Field) → Same k ps fs → Same k ps (fs ++ [])
 same_at k ps fs s = let e : fs ≡ fs ++ [] = sym (append-nil fs) in let P : List Field → Type 0 = λ x. Same k ps x in subst P e s
 
@@ -155,7 +152,7 @@ stops : Completes → (k : ℕ) (bytes : List ℕ) (fs : List Field) (e : State)
 stops h2 k bytes fs e none_such s r =
     let number : 1 + k ≡ k + 1 = omega arith in
     r.read ∙ (elim (list_cases (drop k (pieces bytes))) [
-      | inl ended_here ↦ ap (λ (x : List (List ℕ)). reading (1 + k) r.at x) ended_here ∙ (elim (bool_cases (may_end r.at.mode)) [
+      | inl ended_here ↦ ap (λ (x : List (List ℕ)). reading (1 + k) r.at x) ended_here ∙ (elim (cases_Bool (may_end r.at.mode)) [
         | inl may ↦
             let q = h2 (take k fs) r.at r.front in
             let whole = q.4 may in
@@ -241,7 +238,7 @@ longer k st p _ n ts h g (unequal _ _ ps fs e f m rest t same tr pass goes fail 
     (step_goes k st p ps n ts h g ∙ (read ∙ ap (λ (x : ℕ). Err (fault_at x t)) number))
 
 walk : (k : ℕ) (st : State) (ps : List (List ℕ)) → Outcome k st ps
-walk k st [] = elim (bool_cases (may_end st.mode)) [
+walk k st [] = elim (cases_Bool (may_end st.mode)) [
   | inl may ↦ whole k st [] [] st refl refl tt may (end_ok k st may)
   | inr may_not ↦ let number : k ≡ k + 0 = omega arith in
       stuck k st [] [] st [] refl refl tt may_not (end_bad k st may_not ∙ ap (λ (x : ℕ). Err (fault.Field x)) number)

@@ -1,4 +1,6 @@
 -- A report comes back from what it says.
+use Rattle.std.proofs.lemmas.List.{map-append}
+use Rattle.std.proofs.lemmas.Bool.{cases_Bool, eqb-true}
 use Rattle.std.proofs.Common.{◌≡◌, ℕ, ◌+◌, ◌/◌, ◌%◌, ◌<◌, ◌≤◌, Bool, true, false, List, [], ◌∷◌, ◌++◌, map, refl, sym, ap, ◌∙◌, subst, inl, inr, arith}
 use Rattle.std.specs.Prelude.{nat_lt, ◌==◌}
 use Rattle.std.specs.List.{AllByRecursion, flat_map, filter, range_with_len}
@@ -12,9 +14,10 @@ use Rattle.poll_report.specs.declared.report.OfficeCount.{OfficeCount}
 use Rattle.poll_report.specs.declared.report.Report.{Report}
 use Rattle.urna_base.proofs.DigitLaws.{both_from_and}
 use Rattle.urna_base.specs.Moment.{is_between}
+use Rattle.poll_report.proofs.Totals.{votes_cons}
 use Rattle.qr_text.proofs.Grouping.{regroup, none_has}
 use Rattle.qr_text.proofs.Reporting.{office_of, whole_moment}
-use Rattle.qr_text.proofs.Saying.{grouped, some_votes, votes_cons, bool_cases, equal_numbers, within_by, ascends_by, within_parties, ascends_parties, numbers_later, numbers_snoc, above_front, no_votes}
+use Rattle.qr_text.proofs.Saying.{zero_of, grouped, some_votes, within_by, ascends_by, within_parties, ascends_parties, numbers_later, above_front, no_votes}
 use Rattle.qr_text.specs.Laws.{OneReport}
 use Rattle.qr_text.specs.Said.{moment}
 use Rattle.qr_text.specs.Spelling.{said, said_office, said_party, candidates_of, party_votes}
@@ -60,7 +63,7 @@ no_candidates : (digits : ℕ) (p : Count → Bool) (before ns : List Count) →
 no_candidates digits p before [] h z = refl
 no_candidates digits p before (c ∷ ns) h z =
     let has = both_from_and (has_digits digits c.number) (is_some_votes c.votes) h.0.0 in
-    elim (bool_cases (p c)) [
+    elim (cases_Bool (p c)) [
       | inl e ↦
           let one = votes_cons c (filter p ns) in
           let none : votes_of (c ∷ filter p ns) ≡ 0 = rw e at z in
@@ -74,7 +77,7 @@ kept_candidates : (digits : ℕ) (o : OfficeCount) (ks : List ℕ) → EachAfter
 kept_candidates digits o [] h = refl
 kept_candidates digits o (k ∷ ks) h =
     let rest = kept_candidates digits o ks h in
-    elim (bool_cases (some_votes (said_party digits o k))) [
+    elim (cases_Bool (some_votes (said_party digits o k))) [
       | inl e ↦ rw e (ap (λ (l : List Count). candidates_of digits k o.nominal ++ l) rest)
       | inr e ↦
           let none = no_candidates digits (λ c. first_two digits c.number == k) [] o.nominal h (no_votes (votes_of (candidates_of digits k o.nominal)) (party_votes k o.parties) e).0 in
@@ -87,10 +90,10 @@ single : (before ps : List Count) (k : ℕ) → EachAfter MayLegend before ps �
     × (0 < party_votes k ps → filter (λ c. c.number == k) ps ≡ record { number = k; votes = party_votes k ps } ∷ [])
 single before [] k h = (λ z. refl, λ s. absurd (omega arith))
 single before (c ∷ ps) k h =
-    let later = numbers_later c (before ++ c ∷ []) ps h.1 (λ n a. (above_front (numbers_of before) c.number n (rw (numbers_snoc before c) at a)).1) in
-    elim (bool_cases (c.number == k)) [
+    let later = numbers_later c (before ++ c ∷ []) ps h.1 (λ n a. (above_front (numbers_of before) c.number n (rw (map-append (λ (x : Count). x.number) before (c ∷ [])) at a)).1) in
+    elim (cases_Bool (c.number == k)) [
       | inl e ↦
-          let same : c.number ≡ k = equal_numbers c.number k e in
+          let same : c.number ≡ k = eqb-true c.number k e in
           let P : ℕ → Type 0 = λ n. AllByRecursion (λ d. n < d.number) ps in
           let none = none_has (λ (d : Count). d.number) k ps (subst P same later) in
           let some = some_of c.votes h.0.1 in
@@ -102,9 +105,6 @@ single before (c ∷ ps) k h =
 positive : (n : ℕ) → nat_lt 0 n ≡ true → 0 < n
 positive n h = grind (arith, nat_tests)
 
-zero_of : (n : ℕ) → nat_lt 0 n ≡ false → n ≡ 0
-zero_of n h = grind (arith, nat_tests)
-
 more_votes : (m n : ℕ) → nat_lt 0 n ≡ true → nat_lt 0 (m + n) ≡ true
 more_votes m n h = grind (arith, nat_tests)
 
@@ -114,13 +114,13 @@ kept_legends digits o [] h = refl
 kept_legends digits o (k ∷ ks) h =
     let rest = kept_legends digits o ks h in
     let one = single [] o.parties k h in
-    elim (bool_cases (nat_lt 0 (party_votes k o.parties))) [
+    elim (cases_Bool (nat_lt 0 (party_votes k o.parties))) [
       | inl e ↦
           let keep = more_votes (votes_of (candidates_of digits k o.nominal)) (party_votes k o.parties) e in
           rw (keep, e, one.1 (positive (party_votes k o.parties) e)) (ap (λ (l : List Count). record { number = k; votes = party_votes k o.parties } ∷ l) rest)
       | inr e ↦
           let none = one.0 (zero_of (party_votes k o.parties) e) in
-          elim (bool_cases (some_votes (said_party digits o k))) [
+          elim (cases_Bool (some_votes (said_party digits o k))) [
             | inl d ↦ rw (d, e, none) rest
             | inr d ↦ rw (d, none) rest
           ]

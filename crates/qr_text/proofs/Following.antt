@@ -1,9 +1,9 @@
 -- The steps follow every well-formed text.
+use Rattle.std.proofs.lemmas.Bool.{eq-eqb}
 use Rattle.std.proofs.Common.{◌≡◌, ℕ, ◌<◌, Bool, true, false, List, [], ◌∷◌, ◌++◌, length, map, Some, None, refl, sym, ap, ◌∙◌, subst, ◌⊎◌, inl, inr, arith, lit<, append_assoc}
 use Rattle.std.specs.Prelude.{codes, nat_lt, if◌then◌else◌, ◌==◌}
 use Rattle.std.specs.List.{AllByRecursion, zip, flat_map}
 use Rattle.std.proofs.lemmas.List.{append-nil}
-use Rattle.std.proofs.lemmas.Bool.Decides.{nat_tests}
 use Rattle.election_tables.specs.Offices.{code_proportional}
 use Rattle.poll_report.specs.Report.{EachAfter, MayVote, may_have_code, digits_in}
 use Rattle.poll_report.specs.declared.report.Count.{Count}
@@ -138,9 +138,6 @@ vote_goes : (s : Said) (done : List SaidOffice) (o : SaidOffice) (before : List 
 unfolding step
 vote_goes s done o before c h = rw (vote_again (digits_in o.code) c (number_small o.code c h.0) h.0, h.1) refl
 
-same_number : (n : ℕ) → (n == n) ≡ true
-same_number n = grind (arith, nat_tests)
-
 -- a candidate of a party
 abbrev of_party : ℕ → List Count → SaidParty
 of_party number before = record { number = number; candidates = before; legend = 0; total = 0 }
@@ -150,7 +147,7 @@ party_vote_goes : (s : Said) (done : List SaidOffice) (o : SaidOffice) (number :
     ≡ Some (at_office OfParty s done o (of_party number (before ++ c ∷ [])), (vote_field c).tests)
 unfolding step
 party_vote_goes s done o number before c h =
-    rw (vote_again (digits_in o.code) c (number_small o.code c h.1.0) h.1.0, h.0, same_number number, h.1.1) refl
+    rw (vote_again (digits_in o.code) c (number_small o.code c h.1.0) h.1.0, h.0, eq-eqb number number refl, h.1.1) refl
 
 -- ---- a party
 
@@ -272,11 +269,7 @@ kind_goes : (s : Said) (done : List SaidOffice) (code : ℕ)
     → step (at_office Kind s done (new_office code) no_party) (field_text TABLE.kind (kind_number (code_proportional code)))
     ≡ Some (at_office (if code_proportional code then Party else Vote) s done (new_office code) no_party, [])
 unfolding step
-kind_goes s done code = rw (number_again TABLE.kind (kind_number (code_proportional code)) (lit< tt) (kind_fits (code_proportional code)), same_number (kind_number (code_proportional code))) refl
-
-bool_cases : (b : Bool) → (b ≡ true) ⊎ (b ≡ false)
-bool_cases true = inl refl
-bool_cases false = inr refl
+kind_goes s done code = rw (number_again TABLE.kind (kind_number (code_proportional code)) (lit< tt) (kind_fits (code_proportional code)), eq-eqb (kind_number (code_proportional code)) (kind_number (code_proportional code)) refl) refl
 
 abbrev behind_kind : Said → SaidOffice → Bool → List Field
 behind_kind s o proportional = votes_fields proportional o ++ sum_fields s proportional o

@@ -1,32 +1,26 @@
 -- What was read so far can always go on to a well-formed text.
-use Rattle.std.proofs.Common.{◌≡◌, ℕ, zero, suc, ◌+◌, ◌<◌, ◌≤◌, Bool, true, false, List, [], ◌∷◌, ◌++◌, length, map, take, drop, Option, Some, None, refl, sym, ap, ◌∙◌, subst, ◌⊎◌, inl, inr, arith, lit<, lit≤, append_assoc}
-use Rattle.std.specs.Prelude.{nat_lt, if◌then◌else◌, ◌==◌, ◌&&◌, option_map}
+use Rattle.std.proofs.lemmas.Bool.{cases_Bool, eqb-true}
+use Rattle.std.proofs.Common.{◌≡◌, ℕ, ◌+◌, ◌<◌, ◌≤◌, Bool, true, false, List, [], ◌∷◌, ◌++◌, length, map, take, drop, Option, Some, None, refl, sym, ap, ◌∙◌, subst, ◌⊎◌, inl, inr, arith, lit<, lit≤, append_assoc}
+use Rattle.std.specs.Prelude.{if◌then◌else◌, ◌==◌, ◌&&◌, option_map}
 use Rattle.std.specs.List.{AllByRecursion, zip, flat_map}
 use Rattle.std.specs.Option.{option_and_then, option_or}
-use Rattle.std.proofs.lemmas.List.{append-nil}
+use Rattle.std.proofs.lemmas.List.{append-nil, take-append-drop}
 use Rattle.std.proofs.lemmas.Bool.Decides.{nat_tests}
 use Rattle.election_tables.specs.Fields.{first_two}
 use Rattle.election_tables.specs.Offices.{code_proportional, row_of}
 use Rattle.poll_report.specs.Report.{EachAfter, MayVote, may_have_code, digits_in, numbers_of, is_above}
 use Rattle.poll_report.specs.declared.report.Count.{Count}
 use Rattle.urna_base.proofs.DigitLaws.{both_from_and}
-use Rattle.urna_base.specs.Moment.{is_date}
 use Rattle.qr_text.proofs.Exact.{Traces, Completes}
-use Rattle.qr_text.proofs.RowLaws.{number_back, vote_back}
+use Rattle.qr_text.proofs.Head.{Fits, after_head, at_row, fields_more, fits_going_on, fits_more, front_stays, going_on, head_list, head_steps, offices_stay, row_at}
+use Rattle.qr_text.proofs.RowLaws.{and_then_some, number_back, vote_back}
 use Rattle.qr_text.specs.Reading.{State, Mode, Head, Code, Kind, Vote, Party, OfParty, PartyTotal, Nominal, Legend, Blank, Null, Total, Done, step, start, may_end, number_at, vote_at, no_party, new_office, with_head}
-use Rattle.qr_text.specs.Said.{Field, Test, IsSaid, IsSaidOffice, MayVoteIn, MayParty, MayOffice, kind_number, fields, head_values, head_field, head_tests, vote_field, party_field, party_fields, office_field, votes_fields, last_fields, sum_fields, office_fields, codes_in}
+use Rattle.qr_text.specs.Said.{Field, Test, IsSaid, IsSaidOffice, MayVoteIn, MayParty, MayOffice, kind_number, fields, head_values, head_tests, vote_field, party_field, party_fields, office_field, votes_fields, last_fields, sum_fields, office_fields, codes_in}
 use Rattle.qr_text.specs.Table.{fits, head_rows, field_text, vote_row}
 use Rattle.qr_text.specs.declared.said.Said.{Said}
 use Rattle.qr_text.specs.declared.said.SaidOffice.{SaidOffice}
 use Rattle.qr_text.specs.declared.said.SaidParty.{SaidParty}
-use Rattle.qr_text.specs.declared.table.Row.{Row}
 use Rattle.qr_text.specs.declared.table.TheConstants.{TABLE}
-
-abbrev pub head_list : Said → List Field
-head_list s = map (head_field s) (zip head_rows (head_values s))
-
-abbrev pub Fits : ℕ → Said → Type 0
-Fits n s = AllByRecursion (λ x. fits x.0.form x.1 ≡ true) (take n (zip head_rows (head_values s)))
 
 -- ---- the fields of the present office that were read
 
@@ -130,99 +124,44 @@ Snoc fs p x = Good x.0 (fs ++ record { text = p; tests = x.1 } ∷ [])
 snoc_to : (fs : List Field) (p q : List ℕ) (x y : State × List Test) → q ≡ p → y ≡ x → Snoc fs q y → Snoc fs p x
 snoc_to fs p q x y e d g = let P : List ℕ → Type 0 = λ t. Snoc fs t x in let Q : State × List Test → Type 0 = λ z. Snoc fs q z in subst P e (subst Q d g)
 
--- the state after row n, and its tests
-abbrev after_head : ℕ → Row → ℕ → Said → SaidOffice → SaidParty → State × List Test
-after_head n r v s o p = (record { mode = if n == 12 then Code else Head (n + 1); said = with_head n v s; office = o; party = p }, head_tests r.tested (with_head n v s))
+not_last : (n : ℕ) → n ≤ 12 → (n == 12) ≡ false → n + 1 ≤ 12
+not_last n few e = grind (arith, nat_tests)
 
-abbrev at_row : ℕ → Said → SaidOffice → SaidParty → State
-at_row n s o p = record { mode = Head n; said = s; office = o; party = p }
-
-head_goes_0 : (s : Said) (o : SaidOffice) (q : SaidParty) (fs : List Field) (v : ℕ) → InHead 0 s fs → fits TABLE.orig.form v ≡ true → Snoc fs (field_text TABLE.orig v) (after_head 0 TABLE.orig v s o q)
+-- all rows were read, and no office yet
+head_ends : (s : Said) (o : SaidOffice) (q : SaidParty) (fs : List Field) → s.offices ≡ [] → fs ≡ take 13 (head_list s) → Fits 13 s → InOffices Code s o q fs
 unfolding head_rows
-head_goes_0 s o q fs v g fit = record { few = lit≤ tt; none = g.none; read = ap (λ (l : List Field). l ++ record { text = field_text TABLE.orig v; tests = head_tests TABLE.orig.tested (with_head 0 v s) } ∷ []) g.read; head = (refl, tt) }
-
-head_goes_1 : (s : Said) (o : SaidOffice) (q : SaidParty) (fs : List Field) (v : ℕ) → InHead 1 s fs → fits TABLE.process.form v ≡ true → Snoc fs (field_text TABLE.process v) (after_head 1 TABLE.process v s o q)
-unfolding head_rows
-head_goes_1 s o q fs v g fit = record { few = lit≤ tt; none = g.none; read = ap (λ (l : List Field). l ++ record { text = field_text TABLE.process v; tests = head_tests TABLE.process.tested (with_head 1 v s) } ∷ []) g.read; head = (g.head.0, (fit, tt)) }
-
-head_goes_2 : (s : Said) (o : SaidOffice) (q : SaidParty) (fs : List Field) (v : ℕ) → InHead 2 s fs → fits TABLE.date.form v ≡ true → Snoc fs (field_text TABLE.date v) (after_head 2 TABLE.date v s o q)
-unfolding head_rows
-head_goes_2 s o q fs v g fit = record { few = lit≤ tt; none = g.none; read = ap (λ (l : List Field). l ++ record { text = field_text TABLE.date v; tests = head_tests TABLE.date.tested (with_head 2 v s) } ∷ []) g.read; head = (g.head.0, (g.head.1.0, (fit, tt))) }
-
-head_goes_3 : (s : Said) (o : SaidOffice) (q : SaidParty) (fs : List Field) (v : ℕ) → InHead 3 s fs → fits TABLE.turn.form v ≡ true → Snoc fs (field_text TABLE.turn v) (after_head 3 TABLE.turn v s o q)
-unfolding head_rows
-head_goes_3 s o q fs v g fit = record { few = lit≤ tt; none = g.none; read = ap (λ (l : List Field). l ++ record { text = field_text TABLE.turn v; tests = head_tests TABLE.turn.tested (with_head 3 v s) } ∷ []) g.read; head = (g.head.0, (g.head.1.0, (g.head.1.1.0, (fit, tt)))) }
-
-head_goes_4 : (s : Said) (o : SaidOffice) (q : SaidParty) (fs : List Field) (v : ℕ) → InHead 4 s fs → fits TABLE.zone.form v ≡ true → Snoc fs (field_text TABLE.zone v) (after_head 4 TABLE.zone v s o q)
-unfolding head_rows
-head_goes_4 s o q fs v g fit = record { few = lit≤ tt; none = g.none; read = ap (λ (l : List Field). l ++ record { text = field_text TABLE.zone v; tests = head_tests TABLE.zone.tested (with_head 4 v s) } ∷ []) g.read; head = (g.head.0, (g.head.1.0, (g.head.1.1.0, (g.head.1.1.1.0, (fit, tt))))) }
-
-head_goes_5 : (s : Said) (o : SaidOffice) (q : SaidParty) (fs : List Field) (v : ℕ) → InHead 5 s fs → fits TABLE.section.form v ≡ true → Snoc fs (field_text TABLE.section v) (after_head 5 TABLE.section v s o q)
-unfolding head_rows
-head_goes_5 s o q fs v g fit = record { few = lit≤ tt; none = g.none; read = ap (λ (l : List Field). l ++ record { text = field_text TABLE.section v; tests = head_tests TABLE.section.tested (with_head 5 v s) } ∷ []) g.read; head = (g.head.0, (g.head.1.0, (g.head.1.1.0, (g.head.1.1.1.0, (g.head.1.1.1.1.0, (fit, tt)))))) }
-
-head_goes_6 : (s : Said) (o : SaidOffice) (q : SaidParty) (fs : List Field) (v : ℕ) → InHead 6 s fs → fits TABLE.able.form v ≡ true → Snoc fs (field_text TABLE.able v) (after_head 6 TABLE.able v s o q)
-unfolding head_rows
-head_goes_6 s o q fs v g fit = record { few = lit≤ tt; none = g.none; read = ap (λ (l : List Field). l ++ record { text = field_text TABLE.able v; tests = head_tests TABLE.able.tested (with_head 6 v s) } ∷ []) g.read; head = (g.head.0, (g.head.1.0, (g.head.1.1.0, (g.head.1.1.1.0, (g.head.1.1.1.1.0, (g.head.1.1.1.1.1.0, (fit, tt))))))) }
-
-head_goes_7 : (s : Said) (o : SaidOffice) (q : SaidParty) (fs : List Field) (v : ℕ) → InHead 7 s fs → fits TABLE.came.form v ≡ true → Snoc fs (field_text TABLE.came v) (after_head 7 TABLE.came v s o q)
-unfolding head_rows
-head_goes_7 s o q fs v g fit = record { few = lit≤ tt; none = g.none; read = ap (λ (l : List Field). l ++ record { text = field_text TABLE.came v; tests = head_tests TABLE.came.tested (with_head 7 v s) } ∷ []) g.read; head = (g.head.0, (g.head.1.0, (g.head.1.1.0, (g.head.1.1.1.0, (g.head.1.1.1.1.0, (g.head.1.1.1.1.1.0, (g.head.1.1.1.1.1.1.0, (fit, tt)))))))) }
-
-head_goes_8 : (s : Said) (o : SaidOffice) (q : SaidParty) (fs : List Field) (v : ℕ) → InHead 8 s fs → fits TABLE.missed.form v ≡ true → Snoc fs (field_text TABLE.missed v) (after_head 8 TABLE.missed v s o q)
-unfolding head_rows
-head_goes_8 s o q fs v g fit = record { few = lit≤ tt; none = g.none; read = ap (λ (l : List Field). l ++ record { text = field_text TABLE.missed v; tests = head_tests TABLE.missed.tested (with_head 8 v s) } ∷ []) g.read; head = (g.head.0, (g.head.1.0, (g.head.1.1.0, (g.head.1.1.1.0, (g.head.1.1.1.1.0, (g.head.1.1.1.1.1.0, (g.head.1.1.1.1.1.1.0, (g.head.1.1.1.1.1.1.1.0, (fit, tt))))))))) }
-
-head_goes_9 : (s : Said) (o : SaidOffice) (q : SaidParty) (fs : List Field) (v : ℕ) → InHead 9 s fs → fits TABLE.open_date.form v ≡ true → Snoc fs (field_text TABLE.open_date v) (after_head 9 TABLE.open_date v s o q)
-unfolding head_rows
-head_goes_9 s o q fs v g fit = record { few = lit≤ tt; none = g.none; read = ap (λ (l : List Field). l ++ record { text = field_text TABLE.open_date v; tests = head_tests TABLE.open_date.tested (with_head 9 v s) } ∷ []) g.read; head = (g.head.0, (g.head.1.0, (g.head.1.1.0, (g.head.1.1.1.0, (g.head.1.1.1.1.0, (g.head.1.1.1.1.1.0, (g.head.1.1.1.1.1.1.0, (g.head.1.1.1.1.1.1.1.0, (g.head.1.1.1.1.1.1.1.1.0, (fit, tt)))))))))) }
-
-head_goes_10 : (s : Said) (o : SaidOffice) (q : SaidParty) (fs : List Field) (v : ℕ) → InHead 10 s fs → fits TABLE.open_time.form v ≡ true → Snoc fs (field_text TABLE.open_time v) (after_head 10 TABLE.open_time v s o q)
-unfolding head_rows
-head_goes_10 s o q fs v g fit = record { few = lit≤ tt; none = g.none; read = ap (λ (l : List Field). l ++ record { text = field_text TABLE.open_time v; tests = head_tests TABLE.open_time.tested (with_head 10 v s) } ∷ []) g.read; head = (g.head.0, (g.head.1.0, (g.head.1.1.0, (g.head.1.1.1.0, (g.head.1.1.1.1.0, (g.head.1.1.1.1.1.0, (g.head.1.1.1.1.1.1.0, (g.head.1.1.1.1.1.1.1.0, (g.head.1.1.1.1.1.1.1.1.0, (g.head.1.1.1.1.1.1.1.1.1.0, (fit, tt))))))))))) }
-
-head_goes_11 : (s : Said) (o : SaidOffice) (q : SaidParty) (fs : List Field) (v : ℕ) → InHead 11 s fs → fits TABLE.close_date.form v ≡ true → Snoc fs (field_text TABLE.close_date v) (after_head 11 TABLE.close_date v s o q)
-unfolding head_rows
-head_goes_11 s o q fs v g fit = record { few = lit≤ tt; none = g.none; read = ap (λ (l : List Field). l ++ record { text = field_text TABLE.close_date v; tests = head_tests TABLE.close_date.tested (with_head 11 v s) } ∷ []) g.read; head = (g.head.0, (g.head.1.0, (g.head.1.1.0, (g.head.1.1.1.0, (g.head.1.1.1.1.0, (g.head.1.1.1.1.1.0, (g.head.1.1.1.1.1.1.0, (g.head.1.1.1.1.1.1.1.0, (g.head.1.1.1.1.1.1.1.1.0, (g.head.1.1.1.1.1.1.1.1.1.0, (g.head.1.1.1.1.1.1.1.1.1.1.0, (fit, tt)))))))))))) }
-
-head_goes_12 : (s : Said) (o : SaidOffice) (q : SaidParty) (fs : List Field) (v : ℕ) → InHead 12 s fs → fits TABLE.close_time.form v ≡ true → Snoc fs (field_text TABLE.close_time v) (after_head 12 TABLE.close_time v s o q)
-unfolding head_rows
-head_goes_12 s o q fs v g fit =
-    let f : Field = record { text = field_text TABLE.close_time v; tests = head_tests TABLE.close_time.tested (with_head 12 v s) } in
-    let whole : fs ++ f ∷ [] ≡ head_list (with_head 12 v s) = ap (λ (l : List Field). l ++ f ∷ []) g.read in
-    let no_offices : flat_map (office_fields (with_head 12 v s)) s.offices ≡ [] = ap (λ (os : List SaidOffice). flat_map (office_fields (with_head 12 v s)) os) g.none in
+head_ends s o q fs none read head =
+    let no_fields : flat_map (office_fields s) s.offices ≡ [] = ap (λ (os : List SaidOffice). flat_map (office_fields s) os) none in
     record {
-      head = (g.head.0, (g.head.1.0, (g.head.1.1.0, (g.head.1.1.1.0, (g.head.1.1.1.1.0, (g.head.1.1.1.1.1.0, (g.head.1.1.1.1.1.1.0, (g.head.1.1.1.1.1.1.1.0, (g.head.1.1.1.1.1.1.1.1.0, (g.head.1.1.1.1.1.1.1.1.1.0, (g.head.1.1.1.1.1.1.1.1.1.1.0, (g.head.1.1.1.1.1.1.1.1.1.1.1.0, (fit, tt)))))))))))));
-      offices = let P : List SaidOffice → Type 0 = λ os. EachAfter MayOffice [] os in subst P (sym g.none) tt;
-      read = whole ∙ sym (append-nil (head_list (with_head 12 v s)) ∙ refl) ∙ ap (λ (l : List Field). head_list (with_head 12 v s) ++ l) (sym no_offices) ∙ sym (append-nil (before_part (with_head 12 v s)));
-      fine = g.none;
+      head = head;
+      offices = let P : List SaidOffice → Type 0 = λ os. EachAfter MayOffice [] os in subst P (sym none) tt;
+      read = read ∙ (sym (append-nil (head_list s)) ∙ (ap (λ (l : List Field). head_list s ++ l) (sym no_fields) ∙ sym (append-nil (before_part s))));
+      fine = none;
     }
 
--- one row is read
-row_keeps : (n : ℕ) (r : Row) (s : Said) (o : SaidOffice) (q : SaidParty) (fs : List Field) (p : List ℕ) (x : State × List Test)
-    → ((v : ℕ) → fits r.form v ≡ true → Snoc fs (field_text r v) (after_head n r v s o q))
-    → option_map (λ v. after_head n r v s o q) (number_at r p) ≡ Some x → Snoc fs p x
-row_keeps n r s o q fs p x goes e =
-    let found = map_some (λ v. after_head n r v s o q) (number_at r p) x e in
-    let back = number_back r p found.0 found.1 in
-    snoc_to fs p (field_text r found.0) x (after_head n r found.0 s o q) (sym back.0) found.2 (goes found.0 back.1)
+-- a row was read: the offices begin behind the last
+head_goes : (n : ℕ) (s : Said) (o : SaidOffice) (q : SaidParty) (fs : List Field) (v : ℕ) → InHead n s fs → fits (row_at n).form v ≡ true
+    → Snoc fs (field_text (row_at n) v) (after_head n v s o q)
+head_goes n s o q fs v g fit =
+    let t : Said = with_head n v s in
+    let f : Field = record { text = field_text (row_at n) v; tests = head_tests (row_at n).tested t } in
+    let none : t.offices ≡ [] = offices_stay n g.few v s ∙ g.none in
+    let read : fs ++ f ∷ [] ≡ take (n + 1) (head_list t) = ap (λ (l : List Field). l ++ f ∷ []) g.read ∙ fields_more n g.few v s in
+    let head : Fits (n + 1) t = fits_more n g.few v s g.head fit in
+    elim (cases_Bool (n == 12)) [
+      | inl e ↦
+          let last : n + 1 ≡ 13 = ap (λ (k : ℕ). k + 1) (eqb-true n 12 e) in
+          let P : ℕ → Type 0 = λ k. Fits k t in
+          rw e (head_ends t o q (fs ++ f ∷ []) none (read ∙ ap (λ (k : ℕ). take k (head_list t)) last) (subst P last head))
+      | inr e ↦ rw e (let few = g.few in record { few = not_last n few e; none = none; read = read; head = head })
+    ]
 
-head_keeps : (n : ℕ) (s : Said) (o : SaidOffice) (q : SaidParty) (fs : List Field) (p : List ℕ) (x : State × List Test) → InHead n s fs → step (at_row n s o q) p ≡ Some x → Snoc fs p x
-unfolding step head_rows
-head_keeps zero s o q fs p x g e = row_keeps 0 TABLE.orig s o q fs p x (λ v fit. head_goes_0 s o q fs v g fit) e
-head_keeps (suc zero) s o q fs p x g e = row_keeps 1 TABLE.process s o q fs p x (λ v fit. head_goes_1 s o q fs v g fit) e
-head_keeps (suc (suc zero)) s o q fs p x g e = row_keeps 2 TABLE.date s o q fs p x (λ v fit. head_goes_2 s o q fs v g fit) e
-head_keeps (suc (suc (suc zero))) s o q fs p x g e = row_keeps 3 TABLE.turn s o q fs p x (λ v fit. head_goes_3 s o q fs v g fit) e
-head_keeps (suc (suc (suc (suc zero)))) s o q fs p x g e = row_keeps 4 TABLE.zone s o q fs p x (λ v fit. head_goes_4 s o q fs v g fit) e
-head_keeps (suc (suc (suc (suc (suc zero))))) s o q fs p x g e = row_keeps 5 TABLE.section s o q fs p x (λ v fit. head_goes_5 s o q fs v g fit) e
-head_keeps (suc (suc (suc (suc (suc (suc zero)))))) s o q fs p x g e = row_keeps 6 TABLE.able s o q fs p x (λ v fit. head_goes_6 s o q fs v g fit) e
-head_keeps (suc (suc (suc (suc (suc (suc (suc zero))))))) s o q fs p x g e = row_keeps 7 TABLE.came s o q fs p x (λ v fit. head_goes_7 s o q fs v g fit) e
-head_keeps (suc (suc (suc (suc (suc (suc (suc (suc zero)))))))) s o q fs p x g e = row_keeps 8 TABLE.missed s o q fs p x (λ v fit. head_goes_8 s o q fs v g fit) e
-head_keeps (suc (suc (suc (suc (suc (suc (suc (suc (suc zero))))))))) s o q fs p x g e = row_keeps 9 TABLE.open_date s o q fs p x (λ v fit. head_goes_9 s o q fs v g fit) e
-head_keeps (suc (suc (suc (suc (suc (suc (suc (suc (suc (suc zero)))))))))) s o q fs p x g e = row_keeps 10 TABLE.open_time s o q fs p x (λ v fit. head_goes_10 s o q fs v g fit) e
-head_keeps (suc (suc (suc (suc (suc (suc (suc (suc (suc (suc (suc zero))))))))))) s o q fs p x g e = row_keeps 11 TABLE.close_date s o q fs p x (λ v fit. head_goes_11 s o q fs v g fit) e
-head_keeps (suc (suc (suc (suc (suc (suc (suc (suc (suc (suc (suc (suc zero)))))))))))) s o q fs p x g e = row_keeps 12 TABLE.close_time s o q fs p x (λ v fit. head_goes_12 s o q fs v g fit) e
-head_keeps (suc (suc (suc (suc (suc (suc (suc (suc (suc (suc (suc (suc (suc n))))))))))))) s o q fs p x g e = let few = g.few in absurd (omega arith)
+head_keeps : (n : ℕ) (s : Said) (o : SaidOffice) (q : SaidParty) (fs : List Field) (p : List ℕ) (x : State × List Test)
+    → InHead n s fs → step (at_row n s o q) p ≡ Some x → Snoc fs p x
+head_keeps n s o q fs p x g e =
+    let found = map_some (λ v. after_head n v s o q) (number_at (row_at n) p) x (sym (head_steps n g.few s o q p) ∙ e) in
+    let back = number_back (row_at n) p found.0 found.1 in
+    snoc_to fs p (field_text (row_at n) found.0) x (after_head n found.0 s o q) (sym back.0) found.2 (head_goes n s o q fs found.0 g back.1)
 
 -- ---- the head can go on
 
@@ -243,116 +182,17 @@ minimal_office = record {
 abbrev pub Completed : List Field → State → Type 0
 Completed fs e = (s : Said) × IsSaid s × (rest : List Field) × (fields s ≡ fs ++ rest) × (may_end e.mode ≡ true → (rest ≡ []) × (e.said ≡ s))
 
-abbrev default : ℕ → Said → Said
-default n s = record {
-  process = if nat_lt 1 n then s.process else 1;
-  date = if nat_lt 2 n then s.date else 10000101;
-  turn = if nat_lt 3 n then s.turn else 1;
-  zone = if nat_lt 4 n then s.zone else 1;
-  section = if nat_lt 5 n then s.section else 1;
-  able = if nat_lt 6 n then s.able else 0;
-  came = if nat_lt 7 n then s.came else 0;
-  missed = if nat_lt 8 n then s.missed else 0;
-  open_date = if nat_lt 9 n then s.open_date else 10000101;
-  open_time = if nat_lt 10 n then s.open_time else 0;
-  close_date = if nat_lt 11 n then s.close_date else 10000101;
-  close_time = if nat_lt 12 n then s.close_time else 0;
-  offices = new_office 1 ∷ [];
-}
-
-head_completes_0 : (s : Said) (fs : List Field) (o : SaidOffice) (q : SaidParty) → fs ≡ take 0 (head_list s) → Fits 0 s → Completed fs (at_row 0 s o q)
-unfolding fields head_rows is_date row_of
-head_completes_0 s fs o q e h =
-    let rest : List Field = drop 0 (head_list (default 0 s)) ++ flat_map (office_fields (default 0 s)) (new_office 1 ∷ []) in
-    (default 0 s, record { head = (refl, (refl, (refl, (refl, (refl, (refl, (refl, (refl, (refl, (refl, (refl, (refl, (refl, tt))))))))))))); some = lit< tt; offices = ((refl, minimal_office), tt) }, rest, ap (λ (l : List Field). l ++ rest) (sym e), λ m. absurd (cc))
-
-head_completes_1 : (s : Said) (fs : List Field) (o : SaidOffice) (q : SaidParty) → fs ≡ take 1 (head_list s) → Fits 1 s → Completed fs (at_row 1 s o q)
-unfolding fields head_rows is_date row_of
-head_completes_1 s fs o q e h =
-    let rest : List Field = drop 1 (head_list (default 1 s)) ++ flat_map (office_fields (default 1 s)) (new_office 1 ∷ []) in
-    (default 1 s, record { head = (h.0, (refl, (refl, (refl, (refl, (refl, (refl, (refl, (refl, (refl, (refl, (refl, (refl, tt))))))))))))); some = lit< tt; offices = ((refl, minimal_office), tt) }, rest, ap (λ (l : List Field). l ++ rest) (sym e), λ m. absurd (cc))
-
-head_completes_2 : (s : Said) (fs : List Field) (o : SaidOffice) (q : SaidParty) → fs ≡ take 2 (head_list s) → Fits 2 s → Completed fs (at_row 2 s o q)
-unfolding fields head_rows is_date row_of
-head_completes_2 s fs o q e h =
-    let rest : List Field = drop 2 (head_list (default 2 s)) ++ flat_map (office_fields (default 2 s)) (new_office 1 ∷ []) in
-    (default 2 s, record { head = (h.0, (h.1.0, (refl, (refl, (refl, (refl, (refl, (refl, (refl, (refl, (refl, (refl, (refl, tt))))))))))))); some = lit< tt; offices = ((refl, minimal_office), tt) }, rest, ap (λ (l : List Field). l ++ rest) (sym e), λ m. absurd (cc))
-
-head_completes_3 : (s : Said) (fs : List Field) (o : SaidOffice) (q : SaidParty) → fs ≡ take 3 (head_list s) → Fits 3 s → Completed fs (at_row 3 s o q)
-unfolding fields head_rows is_date row_of
-head_completes_3 s fs o q e h =
-    let rest : List Field = drop 3 (head_list (default 3 s)) ++ flat_map (office_fields (default 3 s)) (new_office 1 ∷ []) in
-    (default 3 s, record { head = (h.0, (h.1.0, (h.1.1.0, (refl, (refl, (refl, (refl, (refl, (refl, (refl, (refl, (refl, (refl, tt))))))))))))); some = lit< tt; offices = ((refl, minimal_office), tt) }, rest, ap (λ (l : List Field). l ++ rest) (sym e), λ m. absurd (cc))
-
-head_completes_4 : (s : Said) (fs : List Field) (o : SaidOffice) (q : SaidParty) → fs ≡ take 4 (head_list s) → Fits 4 s → Completed fs (at_row 4 s o q)
-unfolding fields head_rows is_date row_of
-head_completes_4 s fs o q e h =
-    let rest : List Field = drop 4 (head_list (default 4 s)) ++ flat_map (office_fields (default 4 s)) (new_office 1 ∷ []) in
-    (default 4 s, record { head = (h.0, (h.1.0, (h.1.1.0, (h.1.1.1.0, (refl, (refl, (refl, (refl, (refl, (refl, (refl, (refl, (refl, tt))))))))))))); some = lit< tt; offices = ((refl, minimal_office), tt) }, rest, ap (λ (l : List Field). l ++ rest) (sym e), λ m. absurd (cc))
-
-head_completes_5 : (s : Said) (fs : List Field) (o : SaidOffice) (q : SaidParty) → fs ≡ take 5 (head_list s) → Fits 5 s → Completed fs (at_row 5 s o q)
-unfolding fields head_rows is_date row_of
-head_completes_5 s fs o q e h =
-    let rest : List Field = drop 5 (head_list (default 5 s)) ++ flat_map (office_fields (default 5 s)) (new_office 1 ∷ []) in
-    (default 5 s, record { head = (h.0, (h.1.0, (h.1.1.0, (h.1.1.1.0, (h.1.1.1.1.0, (refl, (refl, (refl, (refl, (refl, (refl, (refl, (refl, tt))))))))))))); some = lit< tt; offices = ((refl, minimal_office), tt) }, rest, ap (λ (l : List Field). l ++ rest) (sym e), λ m. absurd (cc))
-
-head_completes_6 : (s : Said) (fs : List Field) (o : SaidOffice) (q : SaidParty) → fs ≡ take 6 (head_list s) → Fits 6 s → Completed fs (at_row 6 s o q)
-unfolding fields head_rows is_date row_of
-head_completes_6 s fs o q e h =
-    let rest : List Field = drop 6 (head_list (default 6 s)) ++ flat_map (office_fields (default 6 s)) (new_office 1 ∷ []) in
-    (default 6 s, record { head = (h.0, (h.1.0, (h.1.1.0, (h.1.1.1.0, (h.1.1.1.1.0, (h.1.1.1.1.1.0, (refl, (refl, (refl, (refl, (refl, (refl, (refl, tt))))))))))))); some = lit< tt; offices = ((refl, minimal_office), tt) }, rest, ap (λ (l : List Field). l ++ rest) (sym e), λ m. absurd (cc))
-
-head_completes_7 : (s : Said) (fs : List Field) (o : SaidOffice) (q : SaidParty) → fs ≡ take 7 (head_list s) → Fits 7 s → Completed fs (at_row 7 s o q)
-unfolding fields head_rows is_date row_of
-head_completes_7 s fs o q e h =
-    let rest : List Field = drop 7 (head_list (default 7 s)) ++ flat_map (office_fields (default 7 s)) (new_office 1 ∷ []) in
-    (default 7 s, record { head = (h.0, (h.1.0, (h.1.1.0, (h.1.1.1.0, (h.1.1.1.1.0, (h.1.1.1.1.1.0, (h.1.1.1.1.1.1.0, (refl, (refl, (refl, (refl, (refl, (refl, tt))))))))))))); some = lit< tt; offices = ((refl, minimal_office), tt) }, rest, ap (λ (l : List Field). l ++ rest) (sym e), λ m. absurd (cc))
-
-head_completes_8 : (s : Said) (fs : List Field) (o : SaidOffice) (q : SaidParty) → fs ≡ take 8 (head_list s) → Fits 8 s → Completed fs (at_row 8 s o q)
-unfolding fields head_rows is_date row_of
-head_completes_8 s fs o q e h =
-    let rest : List Field = drop 8 (head_list (default 8 s)) ++ flat_map (office_fields (default 8 s)) (new_office 1 ∷ []) in
-    (default 8 s, record { head = (h.0, (h.1.0, (h.1.1.0, (h.1.1.1.0, (h.1.1.1.1.0, (h.1.1.1.1.1.0, (h.1.1.1.1.1.1.0, (h.1.1.1.1.1.1.1.0, (refl, (refl, (refl, (refl, (refl, tt))))))))))))); some = lit< tt; offices = ((refl, minimal_office), tt) }, rest, ap (λ (l : List Field). l ++ rest) (sym e), λ m. absurd (cc))
-
-head_completes_9 : (s : Said) (fs : List Field) (o : SaidOffice) (q : SaidParty) → fs ≡ take 9 (head_list s) → Fits 9 s → Completed fs (at_row 9 s o q)
-unfolding fields head_rows is_date row_of
-head_completes_9 s fs o q e h =
-    let rest : List Field = drop 9 (head_list (default 9 s)) ++ flat_map (office_fields (default 9 s)) (new_office 1 ∷ []) in
-    (default 9 s, record { head = (h.0, (h.1.0, (h.1.1.0, (h.1.1.1.0, (h.1.1.1.1.0, (h.1.1.1.1.1.0, (h.1.1.1.1.1.1.0, (h.1.1.1.1.1.1.1.0, (h.1.1.1.1.1.1.1.1.0, (refl, (refl, (refl, (refl, tt))))))))))))); some = lit< tt; offices = ((refl, minimal_office), tt) }, rest, ap (λ (l : List Field). l ++ rest) (sym e), λ m. absurd (cc))
-
-head_completes_10 : (s : Said) (fs : List Field) (o : SaidOffice) (q : SaidParty) → fs ≡ take 10 (head_list s) → Fits 10 s → Completed fs (at_row 10 s o q)
-unfolding fields head_rows is_date row_of
-head_completes_10 s fs o q e h =
-    let rest : List Field = drop 10 (head_list (default 10 s)) ++ flat_map (office_fields (default 10 s)) (new_office 1 ∷ []) in
-    (default 10 s, record { head = (h.0, (h.1.0, (h.1.1.0, (h.1.1.1.0, (h.1.1.1.1.0, (h.1.1.1.1.1.0, (h.1.1.1.1.1.1.0, (h.1.1.1.1.1.1.1.0, (h.1.1.1.1.1.1.1.1.0, (h.1.1.1.1.1.1.1.1.1.0, (refl, (refl, (refl, tt))))))))))))); some = lit< tt; offices = ((refl, minimal_office), tt) }, rest, ap (λ (l : List Field). l ++ rest) (sym e), λ m. absurd (cc))
-
-head_completes_11 : (s : Said) (fs : List Field) (o : SaidOffice) (q : SaidParty) → fs ≡ take 11 (head_list s) → Fits 11 s → Completed fs (at_row 11 s o q)
-unfolding fields head_rows is_date row_of
-head_completes_11 s fs o q e h =
-    let rest : List Field = drop 11 (head_list (default 11 s)) ++ flat_map (office_fields (default 11 s)) (new_office 1 ∷ []) in
-    (default 11 s, record { head = (h.0, (h.1.0, (h.1.1.0, (h.1.1.1.0, (h.1.1.1.1.0, (h.1.1.1.1.1.0, (h.1.1.1.1.1.1.0, (h.1.1.1.1.1.1.1.0, (h.1.1.1.1.1.1.1.1.0, (h.1.1.1.1.1.1.1.1.1.0, (h.1.1.1.1.1.1.1.1.1.1.0, (refl, (refl, tt))))))))))))); some = lit< tt; offices = ((refl, minimal_office), tt) }, rest, ap (λ (l : List Field). l ++ rest) (sym e), λ m. absurd (cc))
-
-head_completes_12 : (s : Said) (fs : List Field) (o : SaidOffice) (q : SaidParty) → fs ≡ take 12 (head_list s) → Fits 12 s → Completed fs (at_row 12 s o q)
-unfolding fields head_rows is_date row_of
-head_completes_12 s fs o q e h =
-    let rest : List Field = drop 12 (head_list (default 12 s)) ++ flat_map (office_fields (default 12 s)) (new_office 1 ∷ []) in
-    (default 12 s, record { head = (h.0, (h.1.0, (h.1.1.0, (h.1.1.1.0, (h.1.1.1.1.0, (h.1.1.1.1.1.0, (h.1.1.1.1.1.1.0, (h.1.1.1.1.1.1.1.0, (h.1.1.1.1.1.1.1.1.0, (h.1.1.1.1.1.1.1.1.1.0, (h.1.1.1.1.1.1.1.1.1.1.0, (h.1.1.1.1.1.1.1.1.1.1.1.0, (refl, tt))))))))))))); some = lit< tt; offices = ((refl, minimal_office), tt) }, rest, ap (λ (l : List Field). l ++ rest) (sym e), λ m. absurd (cc))
-
 head_completes : (n : ℕ) (s : Said) (fs : List Field) (o : SaidOffice) (q : SaidParty) → InHead n s fs → Completed fs (at_row n s o q)
-head_completes zero s fs o q g = head_completes_0 s fs o q g.read g.head
-head_completes (suc zero) s fs o q g = head_completes_1 s fs o q g.read g.head
-head_completes (suc (suc zero)) s fs o q g = head_completes_2 s fs o q g.read g.head
-head_completes (suc (suc (suc zero))) s fs o q g = head_completes_3 s fs o q g.read g.head
-head_completes (suc (suc (suc (suc zero)))) s fs o q g = head_completes_4 s fs o q g.read g.head
-head_completes (suc (suc (suc (suc (suc zero))))) s fs o q g = head_completes_5 s fs o q g.read g.head
-head_completes (suc (suc (suc (suc (suc (suc zero)))))) s fs o q g = head_completes_6 s fs o q g.read g.head
-head_completes (suc (suc (suc (suc (suc (suc (suc zero))))))) s fs o q g = head_completes_7 s fs o q g.read g.head
-head_completes (suc (suc (suc (suc (suc (suc (suc (suc zero)))))))) s fs o q g = head_completes_8 s fs o q g.read g.head
-head_completes (suc (suc (suc (suc (suc (suc (suc (suc (suc zero))))))))) s fs o q g = head_completes_9 s fs o q g.read g.head
-head_completes (suc (suc (suc (suc (suc (suc (suc (suc (suc (suc zero)))))))))) s fs o q g = head_completes_10 s fs o q g.read g.head
-head_completes (suc (suc (suc (suc (suc (suc (suc (suc (suc (suc (suc zero))))))))))) s fs o q g = head_completes_11 s fs o q g.read g.head
-head_completes (suc (suc (suc (suc (suc (suc (suc (suc (suc (suc (suc (suc zero)))))))))))) s fs o q g = head_completes_12 s fs o q g.read g.head
-head_completes (suc (suc (suc (suc (suc (suc (suc (suc (suc (suc (suc (suc (suc n))))))))))))) s fs o q g = let few = g.few in absurd (omega arith)
+unfolding fields row_of
+head_completes n s fs o q g =
+    let t : Said = going_on n s in
+    let offices : List Field = flat_map (office_fields t) t.offices in
+    let rest : List Field = drop n (head_list t) ++ offices in
+    (t, record { head = fits_going_on n g.few s g.head; some = lit< tt; offices = ((refl, minimal_office), tt) }, rest,
+      ap (λ (l : List Field). l ++ offices) (sym (take-append-drop n (head_list t)))
+      ∙ (append_assoc (take n (head_list t)) (drop n (head_list t)) offices
+      ∙ ap (λ (l : List Field). l ++ rest) (front_stays n g.few s ∙ sym g.read)),
+      λ m. absurd (cc))
 
 -- ---- lists with one element more
 
@@ -373,10 +213,6 @@ each_snoc May before (y ∷ xs) x h m =
 extend : (s : Said) (fs pt more : List Field) (f : Field) → fs ≡ before_part s ++ pt → more ≡ pt ++ f ∷ [] → fs ++ f ∷ [] ≡ before_part s ++ more
 extend s fs pt more f e d = ap (λ (l : List Field). l ++ f ∷ []) e ∙ (append_assoc (before_part s) pt (f ∷ []) ∙ ap (λ (l : List Field). before_part s ++ l) (sym d))
 
-and_then_some : {A B : Type 0} (o : Option A) (f : A → Option B) (y : B) → option_and_then f o ≡ Some y → (x : A) × (o ≡ Some x) × (f x ≡ Some y)
-and_then_some None f y e = absurd (cc)
-and_then_some (Some x) f y e = (x, refl, e)
-
 guard_some : {A : Type 0} (b : Bool) (x y : A) → (if b then Some x else None) ≡ Some y → (b ≡ true) × (x ≡ y)
 guard_some true x y e = (refl, cc)
 guard_some false x y e = absurd (cc)
@@ -384,10 +220,6 @@ guard_some false x y e = absurd (cc)
 or_some : {A : Type 0} (a b : Option A) (x : A) → option_or a b ≡ Some x → (a ≡ Some x) ⊎ (b ≡ Some x)
 or_some None b x e = inr e
 or_some (Some y) b x e = inl e
-
-bool_cases : (b : Bool) → (b ≡ true) ⊎ (b ≡ false)
-bool_cases true = inl refl
-bool_cases false = inr refl
 
 abbrev at : Mode → Said → SaidOffice → SaidParty → State
 at m s o p = record { mode = m; said = s; office = o; party = p }
@@ -436,9 +268,6 @@ kind_known s code v fs head offices read may same false e =
       fine = (record { may = may; candidates = tt; parties = tt; proportional = λ h. refl; majority = λ h. (refl, refl) }, e);
     }
 
-equal_numbers : (m n : ℕ) → (m == n) ≡ true → m ≡ n
-equal_numbers m n e = grind (arith, nat_tests)
-
 kind_keeps : (s : Said) (o : SaidOffice) (q : SaidParty) (fs : List Field) (p : List ℕ) (x : State × List Test) → InOffices Kind s o q fs
     → option_and_then (λ v. if v == kind_number (code_proportional o.code) then Some (at (if code_proportional o.code then Party else Vote) s o no_party, []) else None) (number_at TABLE.kind p) ≡ Some x
     → Snoc fs p x
@@ -447,7 +276,7 @@ kind_keeps s o q fs p x g e =
     let back = number_back TABLE.kind p found.0 found.1 in
     let y : State × List Test = (at (if code_proportional o.code then Party else Vote) s o no_party, []) in
     let both = guard_some (found.0 == kind_number (code_proportional o.code)) y x found.2 in
-    let same : found.0 ≡ kind_number (code_proportional o.code) = equal_numbers found.0 (kind_number (code_proportional o.code)) both.0 in
+    let same : found.0 ≡ kind_number (code_proportional o.code) = eqb-true found.0 (kind_number (code_proportional o.code)) both.0 in
     let fresh = kind_known s o.code found.0 fs g.head g.offices g.read g.fine.1 same (code_proportional o.code) refl in
     let z : State × List Test = (at (if code_proportional o.code then Party else Vote) s (new_office o.code) no_party, []) in
     let new : z ≡ y = ap (λ (n : SaidOffice). (at (if code_proportional o.code then Party else Vote) s n no_party, [])) (sym g.fine.0) in
@@ -560,7 +389,7 @@ of_party_keeps s o q fs p x g e =
                 kind = read.kind;
                 number = read.number;
                 above = read.above;
-                candidates = each_snoc (MayVoteIn digits q.number) [] q.candidates c read.candidates (equal_numbers _ _ tests.0, (back.1, tests.1));
+                candidates = each_snoc (MayVoteIn digits q.number) [] q.candidates c read.candidates (eqb-true _ _ tests.0, (back.1, tests.1));
               },
             );
           })
@@ -618,10 +447,6 @@ party_total_keeps s o q fs p x g e =
     })
 
 -- ---- sums
-
--- a part with one field more at the end of an inner list
-deeper : (a b : List Field) (x y f : Field) (l : List Field) → a ++ (x ∷ y ∷ (l ++ f ∷ [])) ≡ (a ++ (x ∷ y ∷ l)) ++ f ∷ []
-deeper a b x y f l = sym (append_assoc a (x ∷ y ∷ l) (f ∷ []))
 
 nominal_known : (s : Said) (o : SaidOffice) (fs : List Field) → Fits 13 s → EachAfter MayOffice [] s.offices → Votes s o → fits TABLE.office_able.form o.able ≡ true → fits TABLE.nominal.form o.nominal ≡ true
     → fs ≡ before_part s ++ in_office s o (votes_read s o ++ (office_field s o TABLE.office_able o.able ∷ office_field s o TABLE.nominal o.nominal ∷ []))

@@ -1,5 +1,6 @@
 -- A list that rises by a number comes back from its groups.
-use Rattle.std.proofs.Common.{◌≡◌, ℕ, zero, suc, ◌+◌, ◌<◌, ◌≤◌, Bool, true, false, List, [], ◌∷◌, ◌++◌, refl, ap, ◌∙◌, ◌⊎◌, inl, inr, arith}
+use Rattle.std.proofs.lemmas.Bool.{cases_Bool, eqb-true}
+use Rattle.std.proofs.Common.{◌≡◌, ℕ, zero, suc, ◌+◌, ◌<◌, ◌≤◌, false, List, [], ◌∷◌, ◌++◌, refl, ap, ◌∙◌, inl, inr, arith}
 use Rattle.std.specs.Prelude.{◌==◌}
 use Rattle.std.specs.List.{AllByRecursion, flat_map, filter, range_with_len}
 use Rattle.std.proofs.lemmas.Bool.Decides.{nat_tests}
@@ -14,9 +15,6 @@ Ascends g (x ∷ xs) = AllByRecursion (λ y. g x ≤ g y) xs × Ascends g xs
 
 abbrev pub groups : {A : Type 0} → (A → ℕ) → List A → ℕ → ℕ → List A
 groups g xs a n = flat_map (λ k. filter (λ x. g x == k) xs) (range_with_len a n)
-
-same_number : (n : ℕ) → (n == n) ≡ true
-same_number n = grind (arith, nat_tests)
 
 other_number : (m n : ℕ) → m < n → (m == n) ≡ false
 other_number m n h = grind (arith, nat_tests)
@@ -44,23 +42,16 @@ move_up : {A : Type 0} (g : A → ℕ) (a n : ℕ) (xs : List A) → AllByRecurs
 move_up g a n [] h w = tt
 move_up g a n (x ∷ xs) h w = ((omega arith, omega arith), move_up g a n xs h.1 w.1)
 
-bool_cases : (b : Bool) → (b ≡ true) ⊎ (b ≡ false)
-bool_cases true = inl refl
-bool_cases false = inr refl
-
-equal_numbers : (m n : ℕ) → (m == n) ≡ true → m ≡ n
-equal_numbers m n e = grind (arith, nat_tests)
-
-strictly : (m n : ℕ) → (m == n) ≡ false → n ≤ m → n < m
+pub strictly : (m n : ℕ) → (m == n) ≡ false → n ≤ m → n < m
 strictly m n e h = grind (arith, nat_tests)
 
 first_groups : {A : Type 0} (g : A → ℕ) (n a : ℕ) (xs : List A) → Within g a (suc n) xs → Ascends g xs
     → ((zs : List A) → Within g (a + 1) n zs → Ascends g zs → groups g zs (a + 1) n ≡ zs) → groups g xs a (suc n) ≡ xs
 first_groups g n a [] w s next = next [] tt tt
 first_groups {A = A} g n a (y ∷ ys) w s next =
-    elim (bool_cases (g y == a)) [
+    elim (cases_Bool (g y == a)) [
       | inl e ↦
-          let same : g y ≡ a = equal_numbers (g y) a e in
+          let same : g y ≡ a = eqb-true (g y) a e in
           let rest = first_groups g n a ys w.1 s.1 next in
           let later = later_groups g y ys (a + 1) n (omega arith) in
           rw e (ap (λ (l : List A). y ∷ (filter (λ x. g x == a) ys ++ l)) later ∙ ap (λ (l : List A). y ∷ l) rest)

@@ -2,6 +2,7 @@ pub mod Codes
 pub mod RowLaws
 pub mod Exact
 pub mod Following
+pub mod Head
 pub mod Going
 pub mod Faults
 pub mod Grouping

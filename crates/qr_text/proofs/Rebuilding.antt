@@ -1,4 +1,6 @@
 -- What is said rightly is what one report says: the offices and the head.
+use Rattle.std.proofs.lemmas.List.{map-append}
+use Rattle.std.proofs.lemmas.Bool.{cases_Bool, eqb-true, lt-ltb, ltb-true}
 use Rattle.std.proofs.Common.{◌≡◌, ℕ, ◌+◌, ◌-◌, ◌/◌, ◌%◌, ◌<◌, ◌≤◌, Bool, true, false, List, [], ◌∷◌, ◌++◌, length, map, None, refl, sym, ap, ◌∙◌, subst, inl, inr, arith, append_assoc}
 use Rattle.std.specs.Prelude.{nat_lt, nat_le, if◌then◌else◌, ◌==◌, ◌&&◌}
 use Rattle.std.specs.List.{AllByRecursion, flat_map, sum_by, zip}
@@ -12,11 +14,12 @@ use Rattle.poll_report.specs.declared.report.Count.{Count}
 use Rattle.poll_report.specs.declared.report.OfficeCount.{OfficeCount}
 use Rattle.urna_base.proofs.DigitLaws.{both_from_and}
 use Rattle.urna_base.specs.Moment.{is_between, is_date, is_moment}
+use Rattle.poll_report.proofs.Totals.{votes_cons}
 use Rattle.qr_text.proofs.Flattening.{legends, count_of, report_of}
 use Rattle.qr_text.proofs.Regrouping.{Tells, Parties, Rising, InRange, Right, AllAbove, all_candidates, again}
 use Rattle.qr_text.proofs.Reporting.{Pass}
 use Rattle.qr_text.proofs.RowLaws.{time_small}
-use Rattle.qr_text.proofs.Saying.{Grouped, grouped, votes_append, votes_cons, bool_cases, equal_numbers, above_snoc, above_front, numbers_snoc, lower_test, below_test, parties_snoc, party_numbers}
+use Rattle.qr_text.proofs.Saying.{zero_of, Grouped, grouped, votes_append, above_snoc, above_front, party_numbers}
 use Rattle.qr_text.specs.Fault.{failing}
 use Rattle.qr_text.specs.Laws.{SaidIsReport}
 use Rattle.qr_text.specs.Said.{Field, Equals, Holds, IsSaid, IsSaidOffice, MayOffice, MayParty, MayVoteIn, moment, all_nominal, all_legend, codes_in, fields, head_values, head_field, vote_field, party_fields, votes_fields, sum_fields, office_fields}
@@ -31,23 +34,20 @@ use Rattle.qr_text.specs.declared.said.SaidParty.{SaidParty}
 at_most : (a b : ℕ) → nat_le a b ≡ true → a ≤ b
 at_most a b h = grind (arith, nat_tests)
 
-zero_of : (n : ℕ) → nat_lt 0 n ≡ false → n ≡ 0
-zero_of n h = grind (arith, nat_tests)
-
 equal_from : (a b : ℕ) → failing (Equals a b ∷ []) ≡ None → a ≡ b
-equal_from a b h = elim (bool_cases (a == b)) [
-  | inl e ↦ equal_numbers a b e
+equal_from a b h = elim (cases_Bool (a == b)) [
+  | inl e ↦ eqb-true a b e
   | inr e ↦ let wrong = rw e at h in absurd (cc)
 ]
 
 both_from : (a b c : ℕ) → failing (Equals a c ∷ Equals b c ∷ []) ≡ None → (a ≡ c) × (b ≡ c)
-both_from a b c h = elim (bool_cases (a == c)) [
-  | inl e ↦ let rest : failing (Equals b c ∷ []) ≡ None = rw e at h in (equal_numbers a c e, equal_from b c rest)
+both_from a b c h = elim (cases_Bool (a == c)) [
+  | inl e ↦ let rest : failing (Equals b c ∷ []) ≡ None = rw e at h in (eqb-true a c e, equal_from b c rest)
   | inr e ↦ let wrong = rw e at h in absurd (cc)
 ]
 
 order_from : (a b : ℕ) → failing (Holds (nat_le a b) ∷ []) ≡ None → a ≤ b
-order_from a b h = elim (bool_cases (nat_le a b)) [
+order_from a b h = elim (cases_Bool (nat_le a b)) [
   | inl e ↦ at_most a b e
   | inr e ↦ let wrong = rw e at h in absurd (cc)
 ]
@@ -94,14 +94,14 @@ in_range digits (p ∷ ps) h = (party_range p.number h.0.number, in_range digits
 above_later : (digits : ℕ) (q : SaidParty) (before ps : List SaidParty) → EachAfter (MayParty digits) before ps → ((n : ℕ) → is_above (party_numbers before) n ≡ true → nat_lt q.number n ≡ true) → AllAbove q.number ps
 above_later digits q before [] h a = tt
 above_later digits q before (p ∷ ps) h a = (
-  lower_test q.number p.number (a p.number h.0.1),
-  above_later digits q (before ++ p ∷ []) ps h.1 (λ n l. a n (above_front (party_numbers before) p.number n (rw (parties_snoc before p) at l)).0),
+  ltb-true q.number p.number (a p.number h.0.1),
+  above_later digits q (before ++ p ∷ []) ps h.1 (λ n l. a n (above_front (party_numbers before) p.number n (rw (map-append (λ (x : SaidParty). x.number) before (p ∷ [])) at l)).0),
 )
 
 are_rising : (digits : ℕ) (before ps : List SaidParty) → EachAfter (MayParty digits) before ps → Rising ps
 are_rising digits before [] h = tt
 are_rising digits before (p ∷ ps) h =
-    (above_later digits p (before ++ p ∷ []) ps h.1 (λ n l. (above_front (party_numbers before) p.number n (rw (parties_snoc before p) at l)).1), are_rising digits (before ++ p ∷ []) ps h.1)
+    (above_later digits p (before ++ p ∷ []) ps h.1 (λ n l. (above_front (party_numbers before) p.number n (rw (map-append (λ (x : SaidParty). x.number) before (p ∷ [])) at l)).1), are_rising digits (before ++ p ∷ []) ps h.1)
 
 -- ---- sums of the flattened lists
 
@@ -118,7 +118,7 @@ legends_sum [] = refl
 legends_sum (p ∷ ps) =
     let rest = legends_sum ps in
     let cons = sum_by-cons (λ (q : SaidParty). q.legend) p ps in
-    elim (bool_cases (nat_lt 0 p.legend)) [
+    elim (cases_Bool (nat_lt 0 p.legend)) [
       | inl e ↦ let one = votes_cons (record { number = p.number; votes = p.legend }) (legends ps) in rw e (omega arith)
       | inr e ↦ let none = zero_of p.legend e in rw e (omega arith)
     ]
@@ -195,8 +195,8 @@ strictly_less : (m n : ℕ) → (m == n) ≡ false → m ≤ n → m < n
 strictly_less m n e h = grind (arith, nat_tests)
 
 later_or_same : (digits : ℕ) → Grouped digits → (m n : ℕ) → m ≤ n → first_two digits m ≤ first_two digits n
-later_or_same digits g m n h = elim (bool_cases (m == n)) [
-  | inl e ↦ let same = ap (λ (k : ℕ). first_two digits k) (equal_numbers m n e) in omega arith
+later_or_same digits g m n h = elim (cases_Bool (m == n)) [
+  | inl e ↦ let same = ap (λ (k : ℕ). first_two digits k) (eqb-true m n e) in omega arith
   | inr e ↦ g.ascends m n (strictly_less m n e h)
 ]
 
@@ -204,7 +204,7 @@ backwards : (digits : ℕ) → Grouped digits → (m n : ℕ) → first_two digi
 backwards digits g m n h e = let back = later_or_same digits g n m (not_less m n e) in omega arith
 
 not_above : (digits : ℕ) → Grouped digits → (m n : ℕ) → first_two digits m < first_two digits n → nat_lt m n ≡ true
-not_above digits g m n h = elim (bool_cases (nat_lt m n)) [
+not_above digits g m n h = elim (cases_Bool (nat_lt m n)) [
   | inl e ↦ e
   | inr e ↦ absurd (backwards digits g m n h e)
 ]
@@ -256,12 +256,12 @@ vote_range n h g = grind (arith, nat_tests)
 still_above : (before : List Count) (c : Count) (ps : List SaidParty) → AllAbove c.number ps → AllByRecursion (λ p. is_above (numbers_of before) p.number ≡ true) ps → AllByRecursion (λ p. is_above (numbers_of (before ++ c ∷ [])) p.number ≡ true) ps
 still_above before c [] l a = tt
 still_above before c (p ∷ ps) l a =
-    (rw (numbers_snoc before c) (above_snoc (numbers_of before) c.number p.number a.0 (below_test c.number p.number l.0)), still_above before c ps l.1 a.1)
+    (rw (map-append (λ (x : Count). x.number) before (c ∷ [])) (above_snoc (numbers_of before) c.number p.number a.0 (lt-ltb c.number p.number l.0)), still_above before c ps l.1 a.1)
 
 legends_may : (digits : ℕ) (before : List Count) (ps : List SaidParty) → Parties digits ps → Rising ps → AllByRecursion (λ p. is_above (numbers_of before) p.number ≡ true) ps → EachAfter MayLegend before (legends ps)
 legends_may digits before [] h r a = tt
 legends_may digits before (p ∷ ps) h r a =
-    elim (bool_cases (nat_lt 0 p.legend)) [
+    elim (cases_Bool (nat_lt 0 p.legend)) [
       | inl e ↦
           let c : Count = record { number = p.number; votes = p.legend } in
           rw e ((h.0.number, vote_range p.legend e h.0.legend, a.0), legends_may digits (before ++ c ∷ []) ps h.1 r.1 (still_above before c ps r.0 a.1))

@@ -1,5 +1,7 @@
 -- What is said rightly is what one report says.
-use Rattle.std.proofs.Common.{◌≡◌, ℕ, zero, suc, ◌+◌, ◌<◌, ◌≤◌, Bool, true, false, List, [], ◌∷◌, ◌++◌, map, refl, sym, ap, ◌∙◌, subst, inl, inr, arith}
+use Rattle.std.proofs.lemmas.List.Elements.{filter-append}
+use Rattle.std.proofs.lemmas.Bool.{cases_Bool, eq-eqb, eqb-true}
+use Rattle.std.proofs.Common.{◌≡◌, ℕ, zero, suc, ◌+◌, ◌<◌, ◌≤◌, true, false, List, [], ◌∷◌, ◌++◌, map, refl, sym, ap, ◌∙◌, subst, inl, inr, arith}
 use Rattle.std.specs.Prelude.{nat_lt, ◌==◌}
 use Rattle.std.specs.List.{AllByRecursion, flat_map, filter, range_with_len}
 use Rattle.std.proofs.lemmas.List.{append-nil}
@@ -7,10 +9,10 @@ use Rattle.std.proofs.lemmas.Bool.Decides.{nat_tests}
 use Rattle.election_tables.specs.Fields.{first_two}
 use Rattle.poll_report.specs.Report.{votes_of, EachAfter}
 use Rattle.poll_report.specs.declared.report.Count.{Count}
-use Rattle.poll_report.specs.declared.report.OfficeCount.{OfficeCount}
 use Rattle.urna_base.specs.Moment.{is_between}
+use Rattle.qr_text.proofs.Grouping.{strictly}
 use Rattle.qr_text.proofs.Flattening.{legends}
-use Rattle.qr_text.proofs.Saying.{some_votes, bool_cases, equal_numbers}
+use Rattle.qr_text.proofs.Saying.{zero_of, some_votes}
 use Rattle.qr_text.specs.Said.{IsSaidParty, MayVoteIn}
 use Rattle.qr_text.specs.Spelling.{candidates_of, party_votes}
 use Rattle.qr_text.specs.declared.said.SaidParty.{SaidParty}
@@ -20,24 +22,14 @@ use Rattle.qr_text.specs.declared.said.SaidParty.{SaidParty}
 abbrev pub all_candidates : List SaidParty → List Count
 all_candidates ps = flat_map (λ p. p.candidates) ps
 
-filter_append : (p : Count → Bool) (a b : List Count) → filter p (a ++ b) ≡ filter p a ++ filter p b
-filter_append p [] b = refl
-filter_append p (c ∷ a) b = elim (bool_cases (p c)) [
-  | inl e ↦ rw e (ap (λ (l : List Count). c ∷ l) (filter_append p a b))
-  | inr e ↦ rw e (filter_append p a b)
-]
-
-same_number : (n : ℕ) → (n == n) ≡ true
-same_number n = grind (arith, nat_tests)
-
 own_candidates : (digits k : ℕ) (before cs : List Count) → EachAfter (MayVoteIn digits k) before cs → candidates_of digits k cs ≡ cs
 own_candidates digits k before [] h = refl
 own_candidates digits k before (c ∷ cs) h =
-    let mine : (first_two digits c.number == k) ≡ true = ap (λ (n : ℕ). n == k) h.0.0 ∙ same_number k in
+    let mine : (first_two digits c.number == k) ≡ true = ap (λ (n : ℕ). n == k) h.0.0 ∙ eq-eqb k k refl in
     rw mine (ap (λ (l : List Count). c ∷ l) (own_candidates digits k (before ++ c ∷ []) cs h.1))
 
 other_number : (m n : ℕ) → (m ≡ n → ⊥) → (m == n) ≡ false
-other_number m n h = elim (bool_cases (m == n)) [ inl e ↦ absurd (h (equal_numbers m n e)) | inr e ↦ e ]
+other_number m n h = elim (cases_Bool (m == n)) [ inl e ↦ absurd (h (eqb-true m n e)) | inr e ↦ e ]
 
 foreign_candidates : (digits j k : ℕ) (before cs : List Count) → (j ≡ k → ⊥) → EachAfter (MayVoteIn digits j) before cs → candidates_of digits k cs ≡ []
 foreign_candidates digits j k before [] differ h = refl
@@ -56,7 +48,7 @@ none_later : (digits k : ℕ) (ps : List SaidParty) → Parties digits ps → Al
 none_later digits k [] h a = refl
 none_later digits k (p ∷ ps) h a =
     let mine = foreign_candidates digits p.number k [] p.candidates (λ e. let over = a.0 in omega arith) h.0.candidates in
-    filter_append (λ c. first_two digits c.number == k) p.candidates (all_candidates ps)
+    filter-append (λ c. first_two digits c.number == k) p.candidates (all_candidates ps)
     ∙ (ap (λ (l : List Count). l ++ candidates_of digits k (all_candidates ps)) mine ∙ none_later digits k ps h.1 a.1)
 
 -- ---- a party's votes among those of all parties
@@ -65,33 +57,22 @@ no_legend : (k : ℕ) (ps : List SaidParty) → AllAbove k ps → party_votes k 
 no_legend k [] a = refl
 no_legend k (p ∷ ps) a =
     let other : (p.number == k) ≡ false = other_number p.number k (λ e. let over = a.0 in omega arith) in
-    elim (bool_cases (nat_lt 0 p.legend)) [
+    elim (cases_Bool (nat_lt 0 p.legend)) [
       | inl e ↦ rw (e, other) (no_legend k ps a.1)
       | inr e ↦ rw e (no_legend k ps a.1)
     ]
 
-zero_of : (n : ℕ) → nat_lt 0 n ≡ false → n ≡ 0
-zero_of n h = grind (arith, nat_tests)
-
 own_legend : (p : SaidParty) (ps : List SaidParty) → AllAbove p.number ps → party_votes p.number (legends (p ∷ ps)) ≡ p.legend
-own_legend p ps a = elim (bool_cases (nat_lt 0 p.legend)) [
-  | inl e ↦ rw (e, same_number p.number) refl
+own_legend p ps a = elim (cases_Bool (nat_lt 0 p.legend)) [
+  | inl e ↦ rw (e, eq-eqb p.number p.number refl) refl
   | inr e ↦ rw e (no_legend p.number ps a ∙ sym (zero_of p.legend e))
 ]
 
 -- ---- the parties of the flattened office are the parties
 
--- an office that has these parties
-abbrev holder : ℕ → List SaidParty → ℕ → ℕ → OfficeCount
-holder code ps blank null_votes = record { code = code; places = 1; nominal = all_candidates ps; parties = legends ps; blank = blank; null_votes = null_votes }
-
 -- each party's total is its votes
 abbrev pub Right : List SaidParty → Type 0
 Right ps = AllByRecursion (λ p. votes_of p.candidates + p.legend ≡ p.total) ps
-
--- what is before has smaller numbers than k
-abbrev AllBelow : ℕ → List SaidParty → Type 0
-AllBelow k ps = AllByRecursion (λ p. p.number < k) ps
 
 abbrev pub Rising : List SaidParty → Type 0
 Rising [] = Unit {0}
@@ -108,13 +89,13 @@ Tells digits C V a ps = (k : ℕ) → a ≤ k → (C k ≡ candidates_of digits 
 
 skip_candidates : (digits k : ℕ) (p : SaidParty) (ps : List SaidParty) → IsSaidParty digits p → p.number < k → candidates_of digits k (all_candidates (p ∷ ps)) ≡ candidates_of digits k (all_candidates ps)
 skip_candidates digits k p ps h less =
-    filter_append (λ c. first_two digits c.number == k) p.candidates (all_candidates ps)
+    filter-append (λ c. first_two digits c.number == k) p.candidates (all_candidates ps)
     ∙ ap (λ (l : List Count). l ++ candidates_of digits k (all_candidates ps)) (foreign_candidates digits p.number k [] p.candidates (λ e. omega arith) h.candidates)
 
 skip_legend : (k : ℕ) (p : SaidParty) (ps : List SaidParty) → p.number < k → party_votes k (legends (p ∷ ps)) ≡ party_votes k (legends ps)
 skip_legend k p ps less =
     let other : (p.number == k) ≡ false = other_number p.number k (λ e. omega arith) in
-    elim (bool_cases (nat_lt 0 p.legend)) [ inl e ↦ rw (e, other) refl | inr e ↦ rw e refl ]
+    elim (cases_Bool (nat_lt 0 p.legend)) [ inl e ↦ rw (e, other) refl | inr e ↦ rw e refl ]
 
 dropped : (C : ℕ → List Count) (V : ℕ → ℕ) (a : ℕ) → C a ≡ [] → V a ≡ 0 → some_votes (made C V a) ≡ false
 dropped C V a c v = rw (c, v) refl
@@ -142,20 +123,17 @@ again_none digits C V (suc n) a h =
     let here = h a (omega arith) in
     rw (dropped C V a here.0 here.1) (again_none digits C V n (a + 1) (λ k l. h k (omega arith)))
 
-strictly : (m n : ℕ) → (m == n) ≡ false → n ≤ m → n < m
-strictly m n e h = grind (arith, nat_tests)
-
 pub again : (digits : ℕ) (C : ℕ → List Count) (V : ℕ → ℕ) (n a : ℕ) (ps : List SaidParty) → Tells digits C V a ps → Parties digits ps → Right ps → Rising ps → InRange a n ps
     → filter some_votes (map (made C V) (range_with_len a n)) ≡ ps
 again digits C V n a [] h parties right rising range = again_none digits C V n a h
 again digits C V zero a (p ∷ ps) h parties right rising range = absurd (let x = range.0.0 in let y = range.0.1 in omega arith)
 again digits C V (suc n) a (p ∷ ps) h parties right rising range =
-    elim (bool_cases (p.number == a)) [
+    elim (cases_Bool (p.number == a)) [
       | inl e ↦
-          let same : p.number ≡ a = equal_numbers p.number a e in
+          let same : p.number ≡ a = eqb-true p.number a e in
           let here = h p.number (omega arith) in
           let own : C p.number ≡ p.candidates = here.0
-          ∙ (filter_append (λ c. first_two digits c.number == p.number) p.candidates (all_candidates ps)
+          ∙ (filter-append (λ c. first_two digits c.number == p.number) p.candidates (all_candidates ps)
           ∙ (ap (λ (l : List Count). l ++ candidates_of digits p.number (all_candidates ps)) (own_candidates digits p.number [] p.candidates parties.0.candidates)
           ∙ (ap (λ (l : List Count). p.candidates ++ l) (none_later digits p.number ps parties.1 rising.0) ∙ append-nil p.candidates))) in
           let legend : V p.number ≡ p.legend = here.1 ∙ own_legend p ps rising.0 in

@@ -1,4 +1,5 @@
 -- The text of a report says what the report says.
+use Rattle.std.proofs.lemmas.Bool.{cases_Bool}
 use Rattle.std.proofs.Common.{◌≡◌, ℕ, ◌+◌, ◌-◌, ◌*◌, ◌/◌, ◌%◌, ◌<◌, ◌≤◌, Bool, true, false, List, [], ◌∷◌, ◌++◌, length, map, None, refl, sym, ap, ◌∙◌, subst, inl, inr, arith, lit≤}
 use Rattle.std.specs.Prelude.{nat_le, if◌then◌else◌, ◌==◌}
 use Rattle.std.specs.List.{AllByRecursion, flat_map, filter, range_with_len, zip}
@@ -8,7 +9,7 @@ use Rattle.poll_report.specs.Report.{IsReport, IsOfficeCount, MayCount, votes_of
 use Rattle.poll_report.specs.declared.report.Count.{Count}
 use Rattle.poll_report.specs.declared.report.OfficeCount.{OfficeCount}
 use Rattle.poll_report.specs.declared.report.Report.{Report}
-use Rattle.qr_text.proofs.Saying.{head_fits, few, parties_may, grouped, nominal_groups, legend_groups, kept_sums, bool_cases, some_votes}
+use Rattle.qr_text.proofs.Saying.{head_fits, few, parties_may, grouped, nominal_groups, legend_groups, kept_sums, some_votes}
 use Rattle.qr_text.specs.Fault.{failing}
 use Rattle.qr_text.specs.Said.{Field, Equals, Holds, IsSaid, IsSaidOffice, MayOffice, codes_in, fields, head_values, head_field, vote_field, party_fields, votes_fields, sum_fields, office_fields, all_nominal, all_legend, moment}
 use Rattle.qr_text.specs.Spelling.{said, said_office, said_party, said_parties}
@@ -113,7 +114,7 @@ pass_party digits o k =
 
 pass_parties : (digits : ℕ) (o : OfficeCount) (ks : List ℕ) → Pass (flat_map party_fields (filter some_votes (map (said_party digits o) ks)))
 pass_parties digits o [] = tt
-pass_parties digits o (k ∷ ks) = elim (bool_cases (some_votes (said_party digits o k))) [
+pass_parties digits o (k ∷ ks) = elim (cases_Bool (some_votes (said_party digits o k))) [
   | inl e ↦ rw e (pass_append (party_fields (said_party digits o k)) _ (pass_party digits o k) (pass_parties digits o ks))
   | inr e ↦ rw e (pass_parties digits o ks)
 ]

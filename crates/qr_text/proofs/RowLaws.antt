@@ -1,4 +1,5 @@
 -- Writing and reading of one field, and of a candidate's.
+use Rattle.std.proofs.lemmas.Bool.{eq-eqb}
 use Rattle.std.proofs.Common.{◌≡◌, Bool, true, false, List, [], ◌∷◌, ◌++◌, ℕ, ◌<◌, ◌^◌, Option, Some, None, refl, sym, ap, ◌∙◌, subst, arith, lit<}
 use Rattle.std.specs.Prelude.{codes, not, ◌==◌, if◌then◌else◌, All}
 use Rattle.std.specs.List.{list_all, slice_split, join_with_byte}
@@ -16,7 +17,8 @@ use Rattle.poll_report.specs.declared.report.Count.{Count}
 use Rattle.urna_base.proofs.DecimalLaws.{decimal_value-decimal, decimal-decimal_value, decimal_value-some}
 use Rattle.urna_base.proofs.DigitLaws.{digits_value-padded, padded-digits_value, both_from_and}
 use Rattle.urna_base.specs.Digits.{is_digit, decimal_value}
-use Rattle.urna_base.specs.Moment.{is_between, is_date}
+use Rattle.urna_base.specs.Moment.{is_between}
+use Rattle.urna_base.proofs.MomentLaws.{is_date-below}
 use Rattle.qr_text.proofs.Codes.{digits_few}
 use Rattle.qr_text.specs.Reading.{after_word, only_fitting, written_value, value_at, number_at, vote_with, vote_of, vote_at}
 use Rattle.qr_text.specs.Table.{fits, is_time, value_text, field_text, vote_row}
@@ -31,10 +33,6 @@ IsSmall (Between low high) = high < 10 ^ 18
 IsSmall Date = Unit {0}
 IsSmall Time = Unit {0}
 
-pub date_small : (v : ℕ) → is_date v ≡ true → v < 10 ^ 8
-unfolding is_date
-date_small v e = grind (arith, nat_tests)
-
 pub time_small : (v : ℕ) → is_time v ≡ true → v < 10 ^ 6
 time_small v e = grind (arith, nat_tests)
 
@@ -43,12 +41,9 @@ between_small low high v e h = grind (arith, nat_tests)
 
 -- ---- the word before a text
 
-same_byte : (w : ℕ) → (w == w) ≡ true
-same_byte w = grind (arith, nat_tests)
-
 pub after_word-front : (word text : List ℕ) → after_word word (word ++ text) ≡ Some text
 after_word-front [] text = refl
-after_word-front (w ∷ word) text = rw (same_byte w) (after_word-front word text)
+after_word-front (w ∷ word) text = rw (eq-eqb w w refl) (after_word-front word text)
 
 guard_some : {A : Type 0} (b : Bool) (o : Option A) (x : A) → (if b then o else None) ≡ Some x → (b ≡ true) × (o ≡ Some x)
 guard_some true o x e = (refl, e)
@@ -69,14 +64,15 @@ after_word-back (w ∷ word) (c ∷ text) rest e =
 only_back : (form : Form) (v w : ℕ) → only_fitting form v ≡ Some w → (fits form w ≡ true) × (v ≡ w)
 only_back form v w e = let both = guard_some (fits form v) (Some v) w e in let same : v ≡ w = cc in (rw (← same) both.0, same)
 
-and_then_some : {A B : Type 0} (o : Option A) (f : A → Option B) (y : B) → option_and_then f o ≡ Some y → (x : A) × (o ≡ Some x) × (f x ≡ Some y)
+-- where a step behind an option gives something, the option does
+pub and_then_some : {A B : Type 0} (o : Option A) (f : A → Option B) (y : B) → option_and_then f o ≡ Some y → (x : A) × (o ≡ Some x) × (f x ≡ Some y)
 and_then_some None f y e = cc
 and_then_some (Some x) f y e = (x, refl, e)
 
 written_again : (form : Form) (v : ℕ) → IsSmall form → fits form v ≡ true → written_value form (value_text form v) ≡ Some v
 written_again Vota v s e = let zero_is : v ≡ 0 = grind (arith, nat_tests) in rw zero_is refl
 written_again (Between low high) v s e = decimal_value-decimal v (between_small low high v e s)
-written_again Date v s e = digits_value-padded 8 v (date_small v e)
+written_again Date v s e = digits_value-padded 8 v (is_date-below v e)
 written_again Time v s e = digits_value-padded 6 v (time_small v e)
 
 written_back : (form : Form) (t : List ℕ) (v : ℕ) → written_value form t ≡ Some v → t ≡ value_text form v

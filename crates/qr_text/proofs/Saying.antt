@@ -1,4 +1,6 @@
 -- What a report says is well formed and right.
+use Rattle.std.proofs.lemmas.List.{map-append}
+use Rattle.std.proofs.lemmas.Bool.{cases_Bool, eqb-true, lt-ltb, ltb-true}
 use Rattle.std.proofs.Common.{◌≡◌, ℕ, zero, suc, ◌+◌, ◌-◌, ◌/◌, ◌%◌, ◌<◌, ◌≤◌, Bool, true, false, List, [], ◌∷◌, ◌++◌, map, refl, sym, ap, ◌∙◌, subst, ◌⊎◌, inl, inr, arith, lit≤}
 use Rattle.std.specs.Prelude.{nat_lt, ◌==◌, ◌&&◌}
 use Rattle.std.specs.List.{AllByRecursion, flat_map, filter, range_with_len, sum_by, zip}
@@ -12,6 +14,7 @@ use Rattle.poll_report.specs.declared.report.OfficeCount.{OfficeCount}
 use Rattle.poll_report.specs.declared.report.Report.{Report}
 use Rattle.urna_base.proofs.DigitLaws.{both_from_and}
 use Rattle.urna_base.specs.Moment.{is_between, is_date, is_moment}
+use Rattle.poll_report.proofs.Totals.{votes_cons}
 use Rattle.qr_text.proofs.Codes.{proportional_digits}
 use Rattle.qr_text.proofs.Grouping.{Within, Ascends, regroup, none_has}
 use Rattle.qr_text.specs.Said.{IsSaidParty, MayParty, MayVoteIn, head_values}
@@ -81,13 +84,6 @@ head_fits r h =
 
 -- ---- the candidates of a party
 
-pub bool_cases : (b : Bool) → (b ≡ true) ⊎ (b ≡ false)
-bool_cases true = inl refl
-bool_cases false = inr refl
-
-pub equal_numbers : (m n : ℕ) → (m == n) ≡ true → m ≡ n
-equal_numbers m n e = grind (arith, nat_tests)
-
 pub above_snoc : (before : List ℕ) (x n : ℕ) → is_above before n ≡ true → nat_lt x n ≡ true → is_above (before ++ x ∷ []) n ≡ true
 above_snoc [] x n h g = rw g refl
 above_snoc (y ∷ before) x n h g =
@@ -100,40 +96,33 @@ above_front (y ∷ before) x n h =
     let rest = above_front before x n both.1 in
     (rw (both.0, rest.0) refl, rest.1)
 
-pub numbers_snoc : (cs : List Count) (c : Count) → numbers_of (cs ++ c ∷ []) ≡ numbers_of cs ++ c.number ∷ []
-numbers_snoc [] c = refl
-numbers_snoc (d ∷ cs) c = ap (λ (l : List ℕ). d.number ∷ l) (numbers_snoc cs c)
-
 abbrev Keeps : List Count → List Count → Type 0
 Keeps before kept = (n : ℕ) → is_above (numbers_of before) n ≡ true → is_above (numbers_of kept) n ≡ true
 
 keeps_both : (before kept : List Count) (c : Count) → Keeps before kept → Keeps (before ++ c ∷ []) (kept ++ c ∷ [])
 keeps_both before kept c k n h =
-    let both = above_front (numbers_of before) c.number n (rw (numbers_snoc before c) at h) in
-    rw (numbers_snoc kept c) (above_snoc (numbers_of kept) c.number n (k n both.0) both.1)
+    let both = above_front (numbers_of before) c.number n (rw (map-append (λ (x : Count). x.number) before (c ∷ [])) at h) in
+    rw (map-append (λ (x : Count). x.number) kept (c ∷ [])) (above_snoc (numbers_of kept) c.number n (k n both.0) both.1)
 
 keeps_one : (before kept : List Count) (c : Count) → Keeps before kept → Keeps (before ++ c ∷ []) kept
-keeps_one before kept c k n h = k n (above_front (numbers_of before) c.number n (rw (numbers_snoc before c) at h)).0
+keeps_one before kept c k n h = k n (above_front (numbers_of before) c.number n (rw (map-append (λ (x : Count). x.number) before (c ∷ [])) at h)).0
 
 candidates_may : (digits party : ℕ) (before kept cs : List Count) → Keeps before kept → EachAfter (MayVote digits) before cs → EachAfter (MayVoteIn digits party) kept (candidates_of digits party cs)
 candidates_may digits party before kept [] k h = tt
 candidates_may digits party before kept (c ∷ cs) k h =
-    elim (bool_cases (first_two digits c.number == party)) [
-      | inl e ↦ rw e ((equal_numbers (first_two digits c.number) party e, (h.0.0, k c.number h.0.1)), candidates_may digits party (before ++ c ∷ []) (kept ++ c ∷ []) cs (keeps_both before kept c k) h.1)
+    elim (cases_Bool (first_two digits c.number == party)) [
+      | inl e ↦ rw e ((eqb-true (first_two digits c.number) party e, (h.0.0, k c.number h.0.1)), candidates_may digits party (before ++ c ∷ []) (kept ++ c ∷ []) cs (keeps_both before kept c k) h.1)
       | inr e ↦ rw e (candidates_may digits party (before ++ c ∷ []) kept cs (keeps_one before kept c k) h.1)
     ]
 
 -- ---- sums of parts
-
-pub votes_cons : (c : Count) (cs : List Count) → votes_of (c ∷ cs) ≡ c.votes + votes_of cs
-votes_cons c cs = sum_by-cons (λ (x : Count). x.votes) c cs
 
 pub part_votes : (p : Count → Bool) (cs : List Count) → votes_of (filter p cs) ≤ votes_of cs
 part_votes p [] = lit≤ tt
 part_votes p (c ∷ cs) =
     let rest = part_votes p cs in
     let whole = votes_cons c cs in
-    elim (bool_cases (p c)) [
+    elim (cases_Bool (p c)) [
       | inl e ↦ let kept = votes_cons c (filter p cs) in rw e (omega arith)
       | inr e ↦ rw e (omega arith)
     ]
@@ -143,7 +132,7 @@ legend_part k [] = lit≤ tt
 legend_part k (c ∷ ps) =
     let rest = legend_part k ps in
     let whole = votes_cons c ps in
-    elim (bool_cases (c.number == k)) [
+    elim (cases_Bool (c.number == k)) [
       | inl e ↦ rw e (omega arith)
       | inr e ↦ rw e (omega arith)
     ]
@@ -174,13 +163,6 @@ is_party digits o k votes bound low high some =
 abbrev pub party_numbers : List SaidParty → List ℕ
 party_numbers ps = map (λ p. p.number) ps
 
-pub parties_snoc : (ps : List SaidParty) (p : SaidParty) → party_numbers (ps ++ p ∷ []) ≡ party_numbers ps ++ p.number ∷ []
-parties_snoc [] p = refl
-parties_snoc (q ∷ ps) p = ap (λ (l : List ℕ). q.number ∷ l) (parties_snoc ps p)
-
-pub below_test : (a b : ℕ) → a < b → nat_lt a b ≡ true
-below_test a b h = grind (arith, nat_tests)
-
 abbrev pub some_votes : SaidParty → Bool
 some_votes p = nat_lt 0 p.total
 
@@ -188,11 +170,11 @@ pub parties_may : (digits : ℕ) (o : OfficeCount) (n a : ℕ) (before : List Sa
     → ((k : ℕ) → a ≤ k → is_above (party_numbers before) k ≡ true) → EachAfter (MayParty digits) before (filter some_votes (map (said_party digits o) (range_with_len a n)))
 parties_may digits o zero a before votes bound low high above = tt
 parties_may digits o (suc n) a before votes bound low high above =
-    elim (bool_cases (some_votes (said_party digits o a))) [
+    elim (cases_Bool (some_votes (said_party digits o a))) [
       | inl e ↦ rw e (
         (is_party digits o a votes bound low (omega arith) e, above a (omega arith)),
         parties_may digits o n (a + 1) (before ++ said_party digits o a ∷ []) votes bound (omega arith) (omega arith)
-            (λ k h. rw (parties_snoc before (said_party digits o a)) (above_snoc (party_numbers before) a k (above k (omega arith)) (below_test a k (omega arith)))),
+            (λ k h. rw (map-append (λ (x : SaidParty). x.number) before ((said_party digits o a) ∷ [])) (above_snoc (party_numbers before) a k (above k (omega arith)) (lt-ltb a k (omega arith)))),
       )
       | inr e ↦ rw e (parties_may digits o n (a + 1) before votes bound (omega arith) (omega arith) (λ k h. above k (omega arith)))
     ]
@@ -222,21 +204,18 @@ by_digits digits (inr e) = let P : ℕ → Type 0 = λ n. Grouped n in subst P (
 pub grouped : (code : ℕ) → code_proportional code ≡ true → Grouped (digits_in code)
 grouped code h = by_digits (digits_in code) (proportional_digits code h)
 
-pub lower_test : (a b : ℕ) → nat_lt a b ≡ true → a < b
-lower_test a b h = grind (arith, nat_tests)
-
 all_later : (digits : ℕ) → Grouped digits → (x : Count) (before xs : List Count) → EachAfter (MayVote digits) before xs
     → ((n : ℕ) → is_above (numbers_of before) n ≡ true → nat_lt x.number n ≡ true) → AllByRecursion (λ y. first_two digits x.number ≤ first_two digits y.number) xs
 all_later digits g x before [] h above = tt
 all_later digits g x before (y ∷ xs) h above = (
-  g.ascends x.number y.number (lower_test x.number y.number (above y.number h.0.1)),
-  all_later digits g x (before ++ y ∷ []) xs h.1 (λ n a. above n (above_front (numbers_of before) y.number n (rw (numbers_snoc before y) at a)).0),
+  g.ascends x.number y.number (ltb-true x.number y.number (above y.number h.0.1)),
+  all_later digits g x (before ++ y ∷ []) xs h.1 (λ n a. above n (above_front (numbers_of before) y.number n (rw (map-append (λ (x : Count). x.number) before (y ∷ [])) at a)).0),
 )
 
 pub ascends_by : (digits : ℕ) → Grouped digits → (before ns : List Count) → EachAfter (MayVote digits) before ns → Ascends (λ c. first_two digits c.number) ns
 ascends_by digits g before [] h = tt
 ascends_by digits g before (c ∷ ns) h = (
-  all_later digits g c (before ++ c ∷ []) ns h.1 (λ n a. (above_front (numbers_of before) c.number n (rw (numbers_snoc before c) at a)).1),
+  all_later digits g c (before ++ c ∷ []) ns h.1 (λ n a. (above_front (numbers_of before) c.number n (rw (map-append (λ (x : Count). x.number) before (c ∷ [])) at a)).1),
   ascends_by digits g (before ++ c ∷ []) ns h.1,
 )
 
@@ -273,8 +252,8 @@ nominal_groups digits g ns h =
 pub numbers_later : (x : Count) (before ps : List Count) → EachAfter MayLegend before ps → ((n : ℕ) → is_above (numbers_of before) n ≡ true → nat_lt x.number n ≡ true) → AllByRecursion (λ c. x.number < c.number) ps
 numbers_later x before [] h above = tt
 numbers_later x before (c ∷ ps) h above = (
-  lower_test x.number c.number (above c.number h.0.2),
-  numbers_later x (before ++ c ∷ []) ps h.1 (λ n a. above n (above_front (numbers_of before) c.number n (rw (numbers_snoc before c) at a)).0),
+  ltb-true x.number c.number (above c.number h.0.2),
+  numbers_later x (before ++ c ∷ []) ps h.1 (λ n a. above n (above_front (numbers_of before) c.number n (rw (map-append (λ (x : Count). x.number) before (c ∷ [])) at a)).0),
 )
 
 weaker : (x : Count) (ps : List Count) → AllByRecursion (λ c. x.number < c.number) ps → AllByRecursion (λ c. x.number ≤ c.number) ps
@@ -284,11 +263,11 @@ weaker x (c ∷ ps) h = (let l = h.0 in omega arith, weaker x ps h.1)
 pub legend_of : (before ps : List Count) (k : ℕ) → EachAfter MayLegend before ps → party_votes k ps ≡ votes_of (filter (λ c. c.number == k) ps)
 legend_of before [] k h = refl
 legend_of before (c ∷ ps) k h =
-    let later = numbers_later c (before ++ c ∷ []) ps h.1 (λ n a. (above_front (numbers_of before) c.number n (rw (numbers_snoc before c) at a)).1) in
-    elim (bool_cases (c.number == k)) [
+    let later = numbers_later c (before ++ c ∷ []) ps h.1 (λ n a. (above_front (numbers_of before) c.number n (rw (map-append (λ (x : Count). x.number) before (c ∷ [])) at a)).1) in
+    elim (cases_Bool (c.number == k)) [
       | inl e ↦
           let P : ℕ → Type 0 = λ n. AllByRecursion (λ d. n < d.number) ps in
-          let none = none_has (λ (d : Count). d.number) k ps (subst P (equal_numbers c.number k e) later) in
+          let none = none_has (λ (d : Count). d.number) k ps (subst P (eqb-true c.number k e) later) in
           let one = votes_cons c (filter (λ d. d.number == k) ps) in
           let zero_votes : votes_of (filter (λ d. d.number == k) ps) ≡ 0 = ap (λ (l : List Count). votes_of l) none in
           rw e (omega arith)
@@ -298,7 +277,7 @@ legend_of before (c ∷ ps) k h =
 pub ascends_parties : (before ps : List Count) → EachAfter MayLegend before ps → Ascends (λ c. c.number) ps
 ascends_parties before [] h = tt
 ascends_parties before (c ∷ ps) h =
-    (weaker c ps (numbers_later c (before ++ c ∷ []) ps h.1 (λ n a. (above_front (numbers_of before) c.number n (rw (numbers_snoc before c) at a)).1)), ascends_parties (before ++ c ∷ []) ps h.1)
+    (weaker c ps (numbers_later c (before ++ c ∷ []) ps h.1 (λ n a. (above_front (numbers_of before) c.number n (rw (map-append (λ (x : Count). x.number) before (c ∷ [])) at a)).1)), ascends_parties (before ++ c ∷ []) ps h.1)
 
 party_range : (n : ℕ) → is_between 10 99 n ≡ true → (10 ≤ n) × (n < 100)
 party_range n h = let low : 10 ≤ n = grind (arith, nat_tests) in let high : n ≤ 99 = grind (arith, nat_tests) in (low, omega arith)
@@ -319,6 +298,9 @@ legend_groups ps h =
 
 -- ---- parties without votes add nothing
 
+pub zero_of : (n : ℕ) → nat_lt 0 n ≡ false → n ≡ 0
+zero_of n h = grind (arith, nat_tests)
+
 pub no_votes : (n m : ℕ) → nat_lt 0 (n + m) ≡ false → (n ≡ 0) × (m ≡ 0)
 no_votes n m h = let none : n + m ≡ 0 = grind (arith, nat_tests) in (omega arith, omega arith)
 
@@ -332,7 +314,7 @@ kept_sums digits o (k ∷ ks) =
     let others : List SaidParty = filter some_votes (map (said_party digits o) ks) in
     let n = sum_by-cons (λ (j : ℕ). votes_of (candidates_of digits j o.nominal)) k ks in
     let l = sum_by-cons (λ (j : ℕ). party_votes j o.parties) k ks in
-    elim (bool_cases (some_votes p)) [
+    elim (cases_Bool (some_votes p)) [
       | inl e ↦
           let pn = sum_by-cons (λ (q : SaidParty). votes_of q.candidates) p others in
           let pl = sum_by-cons (λ (q : SaidParty). q.legend) p others in

@@ -1,4 +1,5 @@
 -- The pieces of a report's text, joined.
+use Rattle.std.proofs.lemmas.Bool.{cases_Bool}
 use Rattle.std.proofs.Common.{◌≡◌, ℕ, ◌+◌, ◌-◌, ◌≤◌, ◌<◌, Bool, true, false, List, [], ◌∷◌, ◌++◌, length, map, take, get_or, zero, suc, ◌*◌, append_assoc, refl, sym, ap, subst, ◌∙◌, arith, inl, inr}
 use Rattle.std.specs.Prelude.{if◌then◌else◌, ◌/◌, ◌^◌}
 use Rattle.std.specs.List.{AllByRecursion, flat_map, filter, range_with_len, join_with_byte}
@@ -11,9 +12,9 @@ use Rattle.poll_report.specs.Report.{greatest_count, total_of, IsReport, MayCoun
 use Rattle.poll_report.specs.declared.report.Count.{Count}
 use Rattle.poll_report.specs.declared.report.OfficeCount.{OfficeCount}
 use Rattle.poll_report.specs.declared.report.Report.{Report}
+use Rattle.urna_base.proofs.MomentLaws.{is_date-below}
 use Rattle.qr_text.proofs.Reporting.{office_of}
-use Rattle.qr_text.proofs.RowLaws.{date_small}
-use Rattle.qr_text.proofs.Saying.{date_of, some_votes, bool_cases}
+use Rattle.qr_text.proofs.Saying.{date_of, some_votes}
 use Rattle.qr_text.specs.Said.{Field, fields, vote_field, party_field, office_field, kind_number, party_fields, votes_fields, sum_fields, office_fields, texts}
 use Rattle.qr_text.specs.Spelling.{said, said_office, said_party, report_fields, report_text}
 use Rattle.qr_text.specs.Table.{head_rows, field_text}
@@ -25,10 +26,10 @@ use Rattle.qr_text.specs.declared.table.TheConstants.{TABLE}
 
 -- the dates of a report have eight digits
 pub date_small_of : (r : Report) → IsReport r → r.date < 10 ^ 8
-date_small_of r h = date_small r.date h.date
+date_small_of r h = is_date-below r.date h.date
 
 pub moments_small : (r : Report) → IsReport r → (r.opened / 1000000 < 10 ^ 8) × (r.closed / 1000000 < 10 ^ 8)
-moments_small r h = (date_small _ (date_of r.opened h.opened), date_small _ (date_of r.closed h.closed))
+moments_small r h = (is_date-below _ (date_of r.opened h.opened), is_date-below _ (date_of r.closed h.closed))
 
 pub with_fields_spaced : (text : List ℕ) (fs : List (List ℕ)) → with_fields text fs ≡ text ++ spaced fs
 with_fields_spaced text [] = sym (append-nil text)
@@ -65,7 +66,7 @@ parties_spaced o [] = refl
 parties_spaced o (k ∷ ks) =
     let rest = parties_spaced o ks in
     let p : SaidParty = said_party (digits_in o.code) o k in
-    elim (bool_cases (some_votes p)) [
+    elim (cases_Bool (some_votes p)) [
       | inl e ↦
           let later : List Field = flat_map party_fields (filter some_votes (map (said_party (digits_in o.code) o) ks)) in
           rw e (ap (λ (t : List ℕ). t ++ flat_map (spaced_party o) ks) (party_spaced p) ∙ (ap (λ (t : List ℕ). spaced (texts (party_fields p)) ++ t) rest ∙ sym (spaced_texts (party_fields p) later)))
@@ -111,10 +112,6 @@ written r =
     ∙ (ap (λ (t : List ℕ). orig ++ (spaced (head_texts r) ++ t)) (offices_spaced r r.offices)
     ∙ (ap (λ (t : List ℕ). orig ++ t) (sym (flat_map-append (λ (t : List ℕ). 32 ∷ t) (head_texts r) all))
     ∙ spaced_joins orig (head_texts r ++ all))))
-
-pub parties_none : (o : OfficeCount) → spaced_parties o 0 ≡ []
-unfolding spaced_parties
-parties_none o = refl
 
 pub parties_more : (o : OfficeCount) (n k : ℕ) → 10 + n ≡ k → spaced_parties o (n + 1) ≡ spaced_parties o n ++ spaced_party o k
 unfolding spaced_parties

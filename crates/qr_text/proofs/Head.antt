@@ -1,0 +1,146 @@
+-- The fields before the offices: what is said there when one more is read, and how what was read goes on.
+use Rattle.std.proofs.Common.{◌≡◌, ℕ, zero, suc, ◌+◌, ◌≤◌, true, List, [], ◌∷◌, ◌++◌, map, take, drop, get_or, refl, ap, subst, arith}
+use Rattle.std.specs.Prelude.{if◌then◌else◌, ◌==◌, nat_lt, option_map}
+use Rattle.std.specs.List.{AllByRecursion, zip}
+use Rattle.std.proofs.lemmas.Bool.{eqb-true}
+use Rattle.urna_base.specs.Moment.{is_date}
+use Rattle.qr_text.specs.Reading.{State, Code, Head, new_office, number_at, step, with_head}
+use Rattle.qr_text.specs.Said.{Field, Test, head_field, head_tests, head_values}
+use Rattle.qr_text.specs.Table.{field_text, fits, head_rows}
+use Rattle.qr_text.specs.declared.said.Said.{Said}
+use Rattle.qr_text.specs.declared.said.SaidOffice.{SaidOffice}
+use Rattle.qr_text.specs.declared.said.SaidParty.{SaidParty}
+use Rattle.qr_text.specs.declared.table.Row.{Row}
+use Rattle.qr_text.specs.declared.table.TheConstants.{TABLE}
+
+abbrev pub head_pairs : Said → List (Row × ℕ)
+head_pairs s = zip head_rows (head_values s)
+
+abbrev pub head_list : Said → List Field
+head_list s = map (head_field s) (head_pairs s)
+
+abbrev FitsRow : Row × ℕ → Type 0
+FitsRow x = fits x.0.form x.1 ≡ true
+
+-- the first n numbers have the forms of their fields
+abbrev pub Fits : ℕ → Said → Type 0
+Fits n s = AllByRecursion FitsRow (take n (head_pairs s))
+
+abbrev pub row_at : ℕ → Row
+row_at n = get_or head_rows n TABLE.orig
+
+-- the state in which row n is wanted
+abbrev pub at_row : ℕ → Said → SaidOffice → SaidParty → State
+at_row n s o p = record { mode = Head n; said = s; office = o; party = p }
+
+-- the state behind it, and its tests
+abbrev pub after_head : ℕ → ℕ → Said → SaidOffice → SaidParty → State × List Test
+after_head n v s o p = (
+  record { mode = if n == 12 then Code else Head (n + 1); said = with_head n v s; office = o; party = p },
+  head_tests (row_at n).tested (with_head n v s),
+)
+
+-- what is so of each of the rows
+each_row : (P : ℕ → Type 0) → P 0 → P 1 → P 2 → P 3 → P 4 → P 5 → P 6 → P 7 → P 8 → P 9 → P 10 → P 11 → P 12 → (n : ℕ) → n ≤ 12 → P n
+each_row P a b c d e f g h i j k l m zero few = a
+each_row P a b c d e f g h i j k l m (suc zero) few = b
+each_row P a b c d e f g h i j k l m (suc (suc zero)) few = c
+each_row P a b c d e f g h i j k l m (suc (suc (suc zero))) few = d
+each_row P a b c d e f g h i j k l m (suc (suc (suc (suc zero)))) few = e
+each_row P a b c d e f g h i j k l m (suc (suc (suc (suc (suc zero))))) few = f
+each_row P a b c d e f g h i j k l m (suc (suc (suc (suc (suc (suc zero)))))) few = g
+each_row P a b c d e f g h i j k l m (suc (suc (suc (suc (suc (suc (suc zero))))))) few = h
+each_row P a b c d e f g h i j k l m (suc (suc (suc (suc (suc (suc (suc (suc zero)))))))) few = i
+each_row P a b c d e f g h i j k l m (suc (suc (suc (suc (suc (suc (suc (suc (suc zero))))))))) few = j
+each_row P a b c d e f g h i j k l m (suc (suc (suc (suc (suc (suc (suc (suc (suc (suc zero)))))))))) few = k
+each_row P a b c d e f g h i j k l m (suc (suc (suc (suc (suc (suc (suc (suc (suc (suc (suc zero))))))))))) few = l
+each_row P a b c d e f g h i j k l m (suc (suc (suc (suc (suc (suc (suc (suc (suc (suc (suc (suc zero)))))))))))) few = m
+each_row P a b c d e f g h i j k l m (suc (suc (suc (suc (suc (suc (suc (suc (suc (suc (suc (suc (suc n))))))))))))) few = absurd (omega arith)
+
+-- ---- one more is read
+
+pub head_steps : (n : ℕ) → n ≤ 12 → (s : Said) (o : SaidOffice) (q : SaidParty) (p : List ℕ)
+    → step (at_row n s o q) p ≡ option_map (λ v. after_head n v s o q) (number_at (row_at n) p)
+unfolding step head_rows
+head_steps n few s o q p =
+    each_row (λ m. step (at_row m s o q) p ≡ option_map (λ v. after_head m v s o q) (number_at (row_at m) p))
+      refl refl refl refl refl refl refl refl refl refl refl refl refl n few
+
+pub offices_stay : (n : ℕ) → n ≤ 12 → (v : ℕ) (s : Said) → (with_head n v s).offices ≡ s.offices
+offices_stay n few v s =
+    each_row (λ m. (with_head m v s).offices ≡ s.offices) refl refl refl refl refl refl refl refl refl refl refl refl refl n few
+
+-- the fields that were read, and the one that is
+pub fields_more : (n : ℕ) → n ≤ 12 → (v : ℕ) (s : Said)
+    → take n (head_list s) ++ record { text = field_text (row_at n) v; tests = head_tests (row_at n).tested (with_head n v s) } ∷ []
+      ≡ take (n + 1) (head_list (with_head n v s))
+unfolding head_rows
+fields_more n few v s =
+    each_row (λ m. take m (head_list s) ++ record { text = field_text (row_at m) v; tests = head_tests (row_at m).tested (with_head m v s) } ∷ []
+        ≡ take (m + 1) (head_list (with_head m v s)))
+      refl refl refl refl refl refl refl refl refl refl refl refl refl n few
+
+-- ORIG has no number but 0
+pairs_more : (n : ℕ) → n ≤ 12 → (v : ℕ) (s : Said) → fits (row_at n).form v ≡ true
+    → take n (head_pairs s) ++ (row_at n, v) ∷ [] ≡ take (n + 1) (head_pairs (with_head n v s))
+unfolding head_rows
+pairs_more n few v s =
+    each_row (λ m. fits (row_at m).form v ≡ true → take m (head_pairs s) ++ (row_at m, v) ∷ [] ≡ take (m + 1) (head_pairs (with_head m v s)))
+      (λ e. ap (λ (k : ℕ). (TABLE.orig, k) ∷ []) (eqb-true v 0 e))
+      (λ e. refl) (λ e. refl) (λ e. refl) (λ e. refl) (λ e. refl) (λ e. refl)
+      (λ e. refl) (λ e. refl) (λ e. refl) (λ e. refl) (λ e. refl) (λ e. refl) n few
+
+both_fit : (xs ys : List (Row × ℕ)) → AllByRecursion FitsRow xs → AllByRecursion FitsRow ys → AllByRecursion FitsRow (xs ++ ys)
+both_fit [] ys h g = g
+both_fit (x ∷ xs) ys h g = (h.0, both_fit xs ys h.1 g)
+
+pub fits_more : (n : ℕ) → n ≤ 12 → (v : ℕ) (s : Said) → Fits n s → fits (row_at n).form v ≡ true → Fits (n + 1) (with_head n v s)
+fits_more n few v s h e =
+    let P : List (Row × ℕ) → Type 0 = λ xs. AllByRecursion FitsRow xs in
+    subst P (pairs_more n few v s e) (both_fit (take n (head_pairs s)) ((row_at n, v) ∷ []) h (e, tt))
+
+-- ---- what was read goes on
+
+-- the first n of what is said, and behind it what may stand there: no votes on the first day, and one office
+abbrev pub going_on : ℕ → Said → Said
+going_on n s = record {
+  process = if nat_lt 1 n then s.process else 1;
+  date = if nat_lt 2 n then s.date else 10000101;
+  turn = if nat_lt 3 n then s.turn else 1;
+  zone = if nat_lt 4 n then s.zone else 1;
+  section = if nat_lt 5 n then s.section else 1;
+  able = if nat_lt 6 n then s.able else 0;
+  came = if nat_lt 7 n then s.came else 0;
+  missed = if nat_lt 8 n then s.missed else 0;
+  open_date = if nat_lt 9 n then s.open_date else 10000101;
+  open_time = if nat_lt 10 n then s.open_time else 0;
+  close_date = if nat_lt 11 n then s.close_date else 10000101;
+  close_time = if nat_lt 12 n then s.close_time else 0;
+  offices = new_office 1 ∷ [];
+}
+
+pub front_stays : (n : ℕ) → n ≤ 12 → (s : Said) → take n (head_list (going_on n s)) ≡ take n (head_list s)
+unfolding head_rows
+front_stays n few s =
+    each_row (λ m. take m (head_list (going_on m s)) ≡ take m (head_list s)) refl refl refl refl refl refl refl refl refl refl refl refl refl n few
+
+pairs_going_on : (n : ℕ) → n ≤ 12 → (s : Said) → take n (head_pairs s) ++ drop n (head_pairs (going_on 0 s)) ≡ head_pairs (going_on n s)
+unfolding head_rows
+pairs_going_on n few s =
+    each_row (λ m. take m (head_pairs s) ++ drop m (head_pairs (going_on 0 s)) ≡ head_pairs (going_on m s))
+      refl refl refl refl refl refl refl refl refl refl refl refl refl n few
+
+rest_fits : (n : ℕ) (xs : List (Row × ℕ)) → AllByRecursion FitsRow xs → AllByRecursion FitsRow (drop n xs)
+rest_fits zero xs h = h
+rest_fits (suc n) [] h = tt
+rest_fits (suc n) (x ∷ xs) h = rest_fits n xs h.1
+
+all_fit : (s : Said) → AllByRecursion FitsRow (head_pairs (going_on 0 s))
+unfolding head_rows is_date
+all_fit s = (refl, (refl, (refl, (refl, (refl, (refl, (refl, (refl, (refl, (refl, (refl, (refl, (refl, tt)))))))))))))
+
+pub fits_going_on : (n : ℕ) → n ≤ 12 → (s : Said) → Fits n s → AllByRecursion FitsRow (head_pairs (going_on n s))
+fits_going_on n few s h =
+    let P : List (Row × ℕ) → Type 0 = λ xs. AllByRecursion FitsRow xs in
+    subst P (pairs_going_on n few s)
+      (both_fit (take n (head_pairs s)) (drop n (head_pairs (going_on 0 s))) h (rest_fits n (head_pairs (going_on 0 s)) (all_fit s)))
