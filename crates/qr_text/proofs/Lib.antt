@@ -15,5 +15,4 @@ pub mod Rebuilding
 pub mod Spellings
 pub mod Samples
 pub mod Rows
-mod FaultRows
 pub mod WriteLaws

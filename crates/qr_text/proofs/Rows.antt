@@ -1,71 +1,100 @@
--- Worked rows of the field text.
-use Rattle.std.proofs.Common.{◌≡◌, ℕ, List, [], ◌∷◌, ◌++◌, refl}
+-- Worked rows: the text of two reports, and the fault of texts that differ in little from the second.
+use Rattle.std.proofs.Common.{◌≡◌, ℕ, true, false, List, [], ◌++◌, refl, lit<, lit≤}
 use Rattle.std.specs.Prelude.{codes, Ok, Err}
 use Rattle.std.specs.Fmt.{digits}
 use Rattle.election_tables.specs.Offices.{row_of}
-use Rattle.urna_base.specs.Digits.{padded, digits_value, decimal_value}
-use Rattle.urna_base.specs.Moment.{is_date}
-use Rattle.qr_text.proofs.Samples.{small_report, two_offices}
-use Rattle.qr_text.specs.Reading.{said_by, reading, step, number_at, value_at, vote_at}
+use Rattle.poll_report.specs.Report.{IsReport}
+use Rattle.urna_base.specs.Digits.{decimal_value, digits_value, padded}
+use Rattle.urna_base.specs.Moment.{is_date, is_moment}
+use Rattle.qr_text.proofs.Exact.{read_fault}
+use Rattle.qr_text.proofs.Following.{complete}
+use Rattle.qr_text.proofs.Going.{completes}
+use Rattle.qr_text.proofs.Samples.{mayor, moments, one_voter, poll, two_offices, with_end}
+use Rattle.qr_text.specs.Fault.{IsFault}
+use Rattle.qr_text.specs.Reading.{number_at, reading, said_by, step, value_at, vote_at}
 use Rattle.qr_text.specs.Said.{fields}
-use Rattle.qr_text.specs.Spelling.{said, report_fields, report_text}
+use Rattle.qr_text.specs.Spelling.{report_fields, report_text, said}
 use Rattle.qr_text.specs.Table.{head_rows}
+use Rattle.qr_text.specs.declared.fault.FieldFault.{FieldFault}
 use Rattle.qr_text.specs.declared.fault.FieldFault.TheVariants as fault
-use Rattle.qr_text.specs.declared.said.SaidOffice.{SaidOffice}
 
-text_of_two_offices : report_text two_offices ≡ codes "ORIG:VOTA PROC:7 DTPL:20261004 TURN:1 ZONA:1 SECA:42 APTO:3 COMP:3 FALT:0 DTAB:20261004 HRAB:080000 DTFC:20261004 HRFC:170000 CARG:13 TIPO:1 PART:13 13001:1 LEGP:0 TOTP:1 PART:45 LEGP:1 TOTP:1 APTA:3 NOMI:1 LEGC:1 BRAN:1 NULO:0 TOTC:3 CARG:11 TIPO:0 13:1 45:1 APTA:3 NOMI:2 BRAN:0 NULO:1 TOTC:3"
-unfolding report_text report_fields fields said head_rows row_of padded digits
-text_of_two_offices = refl
+-- ---- texts
 
-text_of_one_voter : report_text small_report ≡ codes "ORIG:VOTA PROC:7 DTPL:20261004 TURN:1 ZONA:1 SECA:42 APTO:1 COMP:1 FALT:0 DTAB:20261004 HRAB:080000 DTFC:20261004 HRFC:170000 CARG:11 TIPO:0 13:1 APTA:1 NOMI:1 BRAN:0 NULO:0 TOTC:1"
+text_of_one_voter : report_text one_voter
+    ≡ poll ++ (codes "APTO:1 COMP:1 FALT:0 " ++ (moments ++ codes "CARG:11 TIPO:0 13:1 APTA:1 NOMI:1 BRAN:0 NULO:0 TOTC:1"))
 unfolding report_text report_fields fields said head_rows row_of padded digits
 text_of_one_voter = refl
 
+text_of_two_offices : report_text two_offices ≡ with_end (codes "NULO:0 TOTC:3 " ++ mayor)
+unfolding report_text report_fields fields said head_rows row_of padded digits
+text_of_two_offices = refl
+
+two_offices_is_report : IsReport two_offices
+unfolding is_date is_moment row_of
+two_offices_is_report = record {
+  process = refl; date = refl; turn = refl; zone = refl; section = refl;
+  able = lit≤ tt; came = lit≤ tt; opened = refl; closed = refl; order = lit≤ tt; some = lit< tt;
+  offices = (
+    (refl, record {
+      nominal = ((refl, refl), tt); parties = ((refl, refl, refl), tt);
+      majority = λ e. let other : true ≡ false = e in absurd (cc); places = refl; total = refl;
+    }),
+    ((refl, record { nominal = ((refl, refl), ((refl, refl), tt)); parties = tt; majority = λ e. refl; places = refl; total = refl }), tt),
+  );
+}
+
+-- ---- faults
+
+-- the fault that the reading of a text meets
+found : (bytes : List ℕ) (f : FieldFault) → said_by bytes ≡ Err f → IsFault bytes f
+found bytes f e = read_fault complete completes bytes f e
+
+-- a total of four, where three votes are listed
+total_too_great : IsFault (with_end (codes "NULO:0 TOTC:4 " ++ mayor)) (fault.Sum 28 3 4)
+unfolding said_by reading step number_at value_at vote_at head_rows row_of digits_value decimal_value is_date
+total_too_great = found _ _ refl
+
+-- a null vote more, where three came: the votes make the total, and the total isn't who came
+votes_too_many : IsFault (with_end (codes "NULO:1 TOTC:4 " ++ mayor)) (fault.Sum 28 3 4)
+unfolding said_by reading step number_at value_at vote_at head_rows row_of digits_value decimal_value is_date
+votes_too_many = found _ _ refl
+
+-- a leading zero
+zero_in_front : IsFault (with_end (codes "NULO:00 TOTC:3 " ++ mayor)) (fault.Field 27)
+unfolding said_by reading step number_at value_at vote_at head_rows row_of digits_value decimal_value is_date
+zero_in_front = found _ _ refl
+
+-- the text ends, and the total is still wanted
+ends_too_early : IsFault (with_end (codes "NULO:0")) (fault.Field 28)
+unfolding said_by reading step number_at value_at vote_at head_rows row_of digits_value decimal_value is_date
+ends_too_early = found _ _ refl
+
+-- a space behind the last field is an empty field more
+space_at_the_end : IsFault (with_end (codes "NULO:0 TOTC:3 ")) (fault.Field 29)
+unfolding said_by reading step number_at value_at vote_at head_rows row_of digits_value decimal_value is_date
+space_at_the_end = found _ _ refl
+
+-- the same office once more
+office_twice : IsFault (with_end (codes "NULO:0 TOTC:3 CARG:13 TIPO:1 APTA:3 NOMI:0 LEGC:0 BRAN:3 NULO:0 TOTC:3")) (fault.Field 29)
+unfolding said_by reading step number_at value_at vote_at head_rows row_of digits_value decimal_value is_date
+office_twice = found _ _ refl
+
+nothing_at_all : IsFault [] (fault.Field 1)
+unfolding said_by reading step number_at value_at head_rows
+nothing_at_all = found _ _ refl
+
+-- more came than there are voters: that shows at FALT
+too_many_came : IsFault (poll ++ codes "APTO:3 COMP:4 FALT:0") (fault.Sum 9 4 3)
+unfolding said_by reading step number_at value_at head_rows digits_value decimal_value is_date
+too_many_came = found _ _ refl
+
+-- closed on the day before: that shows at the time of the day
+closed_too_early : IsFault (poll ++ codes "APTO:3 COMP:3 FALT:0 DTAB:20261004 HRAB:080000 DTFC:20261003 HRFC:170000") (fault.Field 13)
+unfolding said_by reading step number_at value_at head_rows digits_value decimal_value is_date
+closed_too_early = found _ _ refl
+
+-- ---- what is read back
+
 two_offices_read_back : said_by (report_text two_offices) ≡ Ok (said two_offices)
-unfolding said_by reading step number_at value_at vote_at row_of report_text report_fields fields said head_rows padded digits digits_value decimal_value is_date
+unfolding said_by reading step number_at value_at vote_at report_text report_fields fields said head_rows row_of padded digits digits_value decimal_value is_date
 two_offices_read_back = refl
-
-abbrev first_only : List SaidOffice → List SaidOffice
-first_only [] = []
-first_only (o ∷ os) = o ∷ []
-
-abbrev pub before_total : List ℕ
-before_total = codes "ORIG:VOTA PROC:7 DTPL:20261004 TURN:1 ZONA:1 SECA:42 APTO:3 COMP:3 FALT:0 DTAB:20261004 HRAB:080000 DTFC:20261004 HRFC:170000 CARG:13 TIPO:1 PART:13 13001:1 LEGP:0 TOTP:1 PART:45 LEGP:1 TOTP:1 APTA:3 NOMI:1 LEGC:1 BRAN:1 "
-
--- a total of four, where three came and three votes are listed
-pub wrong_total : said_by (before_total ++ codes "NULO:0 TOTC:4 CARG:11 TIPO:0 13:1 45:1 APTA:3 NOMI:2 BRAN:0 NULO:1 TOTC:3") ≡ Err (fault.Sum 28 3 4)
-unfolding said_by reading step number_at value_at vote_at row_of report_text report_fields fields said head_rows padded digits digits_value decimal_value is_date
-wrong_total = refl
-
--- a number with a leading zero
-pub wrong_number : said_by (before_total ++ codes "NULO:00 TOTC:3 CARG:11 TIPO:0 13:1 45:1 APTA:3 NOMI:2 BRAN:0 NULO:1 TOTC:3") ≡ Err (fault.Field 27)
-unfolding said_by reading step number_at value_at vote_at row_of report_text report_fields fields said head_rows padded digits digits_value decimal_value is_date
-wrong_number = refl
-
-pub nothing_at_all : said_by [] ≡ Err (fault.Field 1)
-unfolding said_by reading step number_at value_at vote_at row_of report_text report_fields fields said head_rows padded digits digits_value decimal_value is_date
-nothing_at_all = refl
-
--- the text ends where the second office may begin, and where its fields are wanted
-one_office_will_do : said_by (before_total ++ codes "NULO:0 TOTC:3") ≡ Ok (record (said two_offices) { offices = first_only (said two_offices).offices })
-unfolding said_by reading step number_at value_at vote_at row_of report_text report_fields fields said head_rows padded digits digits_value decimal_value is_date
-one_office_will_do = refl
-
-ends_too_early : said_by (before_total ++ codes "NULO:0") ≡ Err (fault.Field 28)
-unfolding said_by reading step number_at value_at vote_at row_of report_text report_fields fields said head_rows padded digits digits_value decimal_value is_date
-ends_too_early = refl
-
--- a space too many at the end is an empty field 29
-space_at_the_end : said_by (before_total ++ codes "NULO:0 TOTC:3 ") ≡ Err (fault.Field 29)
-unfolding said_by reading step number_at value_at vote_at row_of report_text report_fields fields said head_rows padded digits digits_value decimal_value is_date
-space_at_the_end = refl
-
--- more came than there are voters: told at FALT
-too_many_came : said_by (codes "ORIG:VOTA PROC:7 DTPL:20261004 TURN:1 ZONA:1 SECA:42 APTO:3 COMP:4 FALT:0") ≡ Err (fault.Sum 9 4 3)
-unfolding said_by reading step number_at value_at vote_at row_of report_text report_fields fields said head_rows padded digits digits_value decimal_value is_date
-too_many_came = refl
-
--- closing below opening: told at HRFC, also where the day is already below
-closed_too_early : said_by (codes "ORIG:VOTA PROC:7 DTPL:20261004 TURN:1 ZONA:1 SECA:42 APTO:3 COMP:3 FALT:0 DTAB:20261004 HRAB:080000 DTFC:20261003 HRFC:170000") ≡ Err (fault.Field 13)
-unfolding said_by reading step number_at value_at vote_at row_of report_text report_fields fields said head_rows padded digits digits_value decimal_value is_date
-closed_too_early = refl
