@@ -21,8 +21,10 @@ two_digits n h = grind (arith, nat_tests)
 -- a code that an office may have fits its field
 pub code_fits : (before : List ℕ) (code : ℕ) → may_have_code before code ≡ true → fits TABLE.office.form code ≡ true
 code_fits before code h =
-    let behind = (both_from_and (nat_lt (length before) most_offices) (is_some (code_digits code) && not (list_any (λ (c : ℕ). c == code) before)) h).1 in
-    two_digits code (code_in_range code (both_from_and (is_some (code_digits code)) (not (list_any (λ (c : ℕ). c == code) before)) behind).0)
+    let behind = (both_from_and (nat_lt (length before) most_offices)
+    (is_some (code_digits code) && not (list_any (λ (c : ℕ). c == code) before)) h).1 in
+    two_digits code (code_in_range code
+    (both_from_and (is_some (code_digits code)) (not (list_any (λ (c : ℕ). c == code) before)) behind).0)
 
 few_of : (code : ℕ) (o : Option ℕ) → code_digits code ≡ o → unwrap_or o 0 ≤ 5
 few_of code None e = lit≤ tt
@@ -38,7 +40,8 @@ found_has : {A : Type 0} (has p : A → Bool) (xs : List A) → list_all has xs 
 found_has has p [] h = refl
 found_has has p (x ∷ xs) h = let both = both_from_and (has x) (list_all has xs) h in at (p x) both.0 (found_has has p xs both.1)
   where
-    at : (b : Bool) → has x ≡ true → option_map_or has (find p xs) true ≡ true → option_map_or has (if b then Some x else find p xs) true ≡ true
+    at : (b : Bool) → has x ≡ true → option_map_or has (find p xs) true ≡ true
+        → option_map_or has (if b then Some x else find p xs) true ≡ true
     at true here rest = here
     at false here rest = rest
 
@@ -52,7 +55,8 @@ four_or_five digits true h e = either digits (digits == 4) (digits == 5) h (λ x
 
 -- a row has a kind and digits; a code without one has this other kind
 of_row : {R K : Type 0} (kinds : R → K) (digits : R → ℕ) (allow : K → Bool) (other : K) → allow other ≡ false → (o : Option R)
-    → option_map_or (λ r. not (allow (kinds r)) || (digits r == 4 || digits r == 5)) o true ≡ true → allow (option_map_or kinds o other) ≡ true
+    → option_map_or (λ r. not (allow (kinds r)) || (digits r == 4 || digits r == 5)) o true ≡ true
+    → allow (option_map_or kinds o other) ≡ true
     → (unwrap_or (option_map digits o) 0 ≡ 4) ⊎ (unwrap_or (option_map digits o) 0 ≡ 5)
 of_row kinds digits allow other no_other None all h = let not_so : true ≡ false = sym h ∙ no_other in absurd (cc)
 of_row kinds digits allow other no_other (Some r) all h = four_or_five (digits r) (allow (kinds r)) all h
@@ -61,4 +65,5 @@ pub proportional_digits : (code : ℕ) → code_proportional code ≡ true → (
 unfolding row_of
 proportional_digits code h =
     of_row (λ r. r.kinds) (λ r. r.digits) (λ k. kinds_allow k kind.Proportional) _ refl (row_of code)
-    (found_has (λ r. not (kinds_allow r.kinds kind.Proportional) || (r.digits == 4 || r.digits == 5)) (λ r. code == r.code) office_rows refl) h
+    (found_has (λ r. not (kinds_allow r.kinds kind.Proportional) || (r.digits == 4 || r.digits == 5)) (λ r. code == r.code)
+    office_rows refl) h

@@ -30,7 +30,8 @@ abbrev pub Completes : Type 0
 Completes = (fs : List Field) (e : State) → Traces start fs e
     → (s : Said) × IsSaid s × (rest : List Field) × (fields s ≡ fs ++ rest) × (may_end e.mode ≡ true → (rest ≡ []) × (e.said ≡ s))
 
-traces_snoc : (st : State) (fs : List Field) (e : State) (f : Field) (n : State) → Traces st fs e → step e f.text ≡ Some (n, f.tests) → Traces st (fs ++ f ∷ []) n
+traces_snoc : (st : State) (fs : List Field) (e : State) (f : Field) (n : State) → Traces st fs e → step e f.text ≡ Some (n, f.tests)
+    → Traces st (fs ++ f ∷ []) n
 traces_snoc st [] e f n t h = (n, ap (λ (x : State). step x f.text) t ∙ h, refl)
 traces_snoc st (g ∷ fs) e f n t h = (t.0, t.1, traces_snoc t.0 fs e f n t.2 h)
 
@@ -40,12 +41,14 @@ step_none : (k : ℕ) (st : State) (p : List ℕ) (ps : List (List ℕ)) → ste
 unfolding reading
 step_none k st p ps h = rw (h, reading) refl
 
-step_fails : (k : ℕ) (st : State) (p : List ℕ) (ps : List (List ℕ)) (n : State) (ts : List Test) (t : Test) → step st p ≡ Some (n, ts) → failing ts ≡ Some t
+step_fails : (k : ℕ) (st : State) (p : List ℕ) (ps : List (List ℕ)) (n : State) (ts : List Test) (t : Test) → step st p ≡ Some (n, ts)
+    → failing ts ≡ Some t
     → reading k st (p ∷ ps) ≡ Err (fault_at k t)
 unfolding reading
 step_fails k st p ps n ts t h g = rw (h, g, reading) refl
 
-step_goes : (k : ℕ) (st : State) (p : List ℕ) (ps : List (List ℕ)) (n : State) (ts : List Test) → step st p ≡ Some (n, ts) → failing ts ≡ None
+step_goes : (k : ℕ) (st : State) (p : List ℕ) (ps : List (List ℕ)) (n : State) (ts : List Test) → step st p ≡ Some (n, ts)
+    → failing ts ≡ None
     → reading k st (p ∷ ps) ≡ reading (k + 1) n ps
 unfolding reading
 step_goes k st p ps n ts h g = rw (h, g, reading) refl
@@ -118,7 +121,8 @@ record Reached (j k : ℕ) (st : State) (ps : List (List ℕ)) (fs : List Field)
 follow : (k j : ℕ) (st : State) (ps : List (List ℕ)) (fs : List Field) (e : State) → may_end e.mode ≡ true → Traces st fs e → Same k ps fs
     → AllByRecursion (λ f. failing f.tests ≡ None) (take k fs) → Reached j k st ps fs e
 follow zero j st ps fs e m t s a = record { at = st; front = refl; rest = t; read = ap (λ (n : ℕ). reading n st ps) (omega arith) }
-follow (suc k) j st [] [] e m t s a = record { at = e; front = t; rest = refl; read = ap (λ (x : State). reading j x []) t ∙ (end_ok j e m ∙ sym (end_ok (j + suc k) e m)) }
+follow (suc k) j st [] [] e m t s a =
+    record { at = e; front = t; rest = refl; read = ap (λ (x : State). reading j x []) t ∙ (end_ok j e m ∙ sym (end_ok (j + suc k) e m)) }
 follow (suc k) j st [] (f ∷ fs) e m t s a = absurd s
 follow (suc k) j st (p ∷ ps) [] e m t s a = absurd s
 follow (suc k) j st (p ∷ ps) (f ∷ fs) e m t s a =
@@ -177,7 +181,8 @@ stops h2 k bytes fs e none_such s r =
 -- where the text has the fields of what is said at one field more, and a test fails there
 at_place : (k : ℕ) (ps : List (List ℕ)) (fs : List Field) (t : Test) → Same (suc k) ps fs
     → failing (option_map_or (λ f. f.tests) (slice_get fs k) []) ≡ Some t
-    → (f : Field) × (more : List Field) × (qs : List (List ℕ)) × (drop k fs ≡ f ∷ more) × (drop k ps ≡ f.text ∷ qs) × (failing f.tests ≡ Some t)
+    → (f : Field) × (more : List Field) × (qs : List (List ℕ)) × (drop k fs ≡ f ∷ more) × (drop k ps ≡ f.text ∷ qs)
+    × (failing f.tests ≡ Some t)
 at_place zero [] [] t s h = absurd (cc)
 at_place zero [] (f ∷ fs) t s h = absurd s
 at_place zero (p ∷ ps) [] t s h = absurd s
@@ -217,9 +222,11 @@ Pass fs = AllByRecursion (λ f. failing f.tests ≡ None) fs
 pub data Outcome : ℕ → State → List (List ℕ) → Type 0 where
   whole : (k : ℕ) (st : State) (ps : List (List ℕ)) (fs : List Field) (e : State) → ps ≡ texts fs → Traces st fs e → Pass fs
       → may_end e.mode ≡ true → reading k st ps ≡ Ok e.said → Outcome k st ps
-  stuck : (k : ℕ) (st : State) (ps : List (List ℕ)) (fs : List Field) (e : State) (rest : List (List ℕ)) → ps ≡ texts fs ++ rest → Traces st fs e → Pass fs
+  stuck : (k : ℕ) (st : State) (ps : List (List ℕ)) (fs : List Field) (e : State) (rest : List (List ℕ)) → ps ≡ texts fs ++ rest
+      → Traces st fs e → Pass fs
       → Stuck e rest → reading k st ps ≡ Err (fault.Field (k + length fs)) → Outcome k st ps
-  unequal : (k : ℕ) (st : State) (ps : List (List ℕ)) (fs : List Field) (e : State) (f : Field) (n : State) (rest : List (List ℕ)) (t : Test)
+  unequal : (k : ℕ) (st : State) (ps : List (List ℕ)) (fs : List Field) (e : State) (f : Field) (n : State) (rest : List (List ℕ))
+      (t : Test)
       → ps ≡ texts fs ++ f.text ∷ rest → Traces st fs e → Pass fs → step e f.text ≡ Some (n, f.tests) → failing f.tests ≡ Some t
       → reading k st ps ≡ Err (fault_at (k + length fs) t) → Outcome k st ps
 
@@ -227,14 +234,16 @@ pub data Outcome : ℕ → State → List (List ℕ) → Type 0 where
 longer : (k : ℕ) (st : State) (p : List ℕ) (ps : List (List ℕ)) (n : State) (ts : List Test) → step st p ≡ Some (n, ts) → failing ts ≡ None
     → Outcome (k + 1) n ps → Outcome k st (p ∷ ps)
 longer k st p _ n ts h g (whole _ _ ps fs e same tr pass may read) =
-    whole k st (p ∷ ps) (record { text = p; tests = ts } ∷ fs) e (ap (λ (x : List (List ℕ)). p ∷ x) same) (n, h, tr) (g, pass) may (step_goes k st p ps n ts h g ∙ read)
+    whole k st (p ∷ ps) (record { text = p; tests = ts } ∷ fs) e (ap (λ (x : List (List ℕ)). p ∷ x) same) (n, h, tr) (g, pass) may
+    (step_goes k st p ps n ts h g ∙ read)
 longer k st p _ n ts h g (stuck _ _ ps fs e rest same tr pass bad read) =
     let number : k + 1 + length fs ≡ k + suc (length fs) = omega arith in
     stuck k st (p ∷ ps) (record { text = p; tests = ts } ∷ fs) e rest (ap (λ (x : List (List ℕ)). p ∷ x) same) (n, h, tr) (g, pass) bad
     (step_goes k st p ps n ts h g ∙ (read ∙ ap (λ (x : ℕ). Err (fault.Field x)) number))
 longer k st p _ n ts h g (unequal _ _ ps fs e f m rest t same tr pass goes fail read) =
     let number : k + 1 + length fs ≡ k + suc (length fs) = omega arith in
-    unequal k st (p ∷ ps) (record { text = p; tests = ts } ∷ fs) e f m rest t (ap (λ (x : List (List ℕ)). p ∷ x) same) (n, h, tr) (g, pass) goes fail
+    unequal k st (p ∷ ps) (record { text = p; tests = ts } ∷ fs) e f m rest t (ap (λ (x : List (List ℕ)). p ∷ x) same) (n, h, tr) (g, pass)
+    goes fail
     (step_goes k st p ps n ts h g ∙ (read ∙ ap (λ (x : ℕ). Err (fault_at x t)) number))
 
 walk : (k : ℕ) (st : State) (ps : List (List ℕ)) → Outcome k st ps
@@ -245,7 +254,8 @@ walk k st [] = elim (cases_Bool (may_end st.mode)) [
 ]
 walk k st (p ∷ ps) = let number : k ≡ k + 0 = omega arith in
     elim (option_cases (step st p)) [
-      | inl none ↦ stuck k st (p ∷ ps) [] st (p ∷ ps) refl refl tt none (step_none k st p ps none ∙ ap (λ (x : ℕ). Err (fault.Field x)) number)
+      | inl none ↦ stuck k st (p ∷ ps) [] st (p ∷ ps) refl refl tt none
+          (step_none k st p ps none ∙ ap (λ (x : ℕ). Err (fault.Field x)) number)
       | inr some ↦ elim (option_cases (failing some.0.1)) [
         | inl fine ↦ longer k st p ps some.0.0 some.0.1 some.1 fine (walk (k + 1) some.0.0 ps)
         | inr bad ↦ unequal k st (p ∷ ps) [] st (record { text = p; tests = some.0.1 }) some.0.0 ps bad.0 refl refl tt some.1 bad.1
@@ -259,7 +269,8 @@ same_texts : (fs : List Field) (rest : List (List ℕ)) (more : List Field) → 
 same_texts [] rest more = tt
 same_texts (f ∷ fs) rest more = (refl, same_texts fs rest more)
 
-same_next : (fs : List Field) (f : Field) (rest : List (List ℕ)) (more : List Field) → Same (suc (length fs)) (texts fs ++ f.text ∷ rest) (fs ++ f ∷ more)
+same_next : (fs : List Field) (f : Field) (rest : List (List ℕ)) (more : List Field)
+    → Same (suc (length fs)) (texts fs ++ f.text ∷ rest) (fs ++ f ∷ more)
 same_next [] f rest more = (refl, tt)
 same_next (g ∷ fs) f rest more = (refl, same_next fs f rest more)
 
@@ -281,14 +292,16 @@ no_more st [] [] e d [] t u may s bad = let same : e ≡ d = sym t ∙ u in let 
 no_more st [] [] e d (p ∷ rest) t u may s bad = s
 no_more st [] (g ∷ gs) e d [] t u may s bad = s
 no_more st [] (g ∷ gs) e d (p ∷ rest) t u may s bad =
-    let here : step e p ≡ Some (u.0, g.tests) = ap (λ (x : State). step x p) (sym t) ∙ (ap (λ (x : List ℕ). step st x) s.0 ∙ u.1) in absurd (cc)
+    let here : step e p ≡ Some (u.0, g.tests) = ap (λ (x : State). step x p) (sym t) ∙ (ap (λ (x : List ℕ). step st x) s.0 ∙ u.1) in
+    absurd (cc)
 no_more st (f ∷ fs) [] e d rest t u may s bad = s
 no_more st (f ∷ fs) (g ∷ gs) e d rest t u may s bad =
     let states : u.0 ≡ t.0 = sym (same_state (t.0, f.tests) (u.0, g.tests) (sym t.1 ∙ (ap (λ (x : List ℕ). step st x) s.0 ∙ u.1))) in
     let P : State → Type 0 = λ x. Traces x gs d in
     no_more t.0 fs gs e d rest t.2 (subst P states u.2) may s.1 bad
 
-fault_of_outcome : Complete → Completes → (bytes : List ℕ) (f : FieldFault) → Outcome 1 start (pieces bytes) → reading 1 start (pieces bytes) ≡ Err f → IsFault bytes f
+fault_of_outcome : Complete → Completes → (bytes : List ℕ) (f : FieldFault) → Outcome 1 start (pieces bytes)
+    → reading 1 start (pieces bytes) ≡ Err f → IsFault bytes f
 fault_of_outcome h1 h2 bytes f (whole _ _ _ fs e same tr pass may read) h = let both : Ok e.said ≡ Err f = sym read ∙ h in absurd (cc)
 fault_of_outcome h1 h2 bytes f (stuck _ _ _ fs e rest same tr pass bad read) h =
     let q = h2 fs e tr in
@@ -303,7 +316,8 @@ fault_of_outcome h1 h2 bytes f (stuck _ _ _ fs e rest same tr pass bad read) h =
     let alike : Same (length fs + 1) (pieces bytes) (fields s) = same_of (length fs + 1) (pieces bytes) (fields s) b in
     let there : Same (suc (length fs)) (texts fs ++ rest) (fields s) = rw (add-one, same) at alike in
     no_more start fs (fields s) e other.0 rest tr other.3 other.1 there bad in
-    subst P (ap (λ (n : ℕ). fault.Field n) number ∙ faults) (strange bytes (length fs) q.0 q.1 (of_same (length fs) (pieces bytes) (fields q.0) begins) passes none_such)
+    subst P (ap (λ (n : ℕ). fault.Field n) number ∙ faults)
+    (strange bytes (length fs) q.0 q.1 (of_same (length fs) (pieces bytes) (fields q.0) begins) passes none_such)
 fault_of_outcome h1 h2 bytes f (unequal _ _ _ fs e g n rest t same tr pass goes fail read) h =
     let q = h2 (fs ++ g ∷ []) n (traces_snoc start fs e g n tr goes) in
     let all : fields q.0 ≡ fs ++ g ∷ q.2 = q.3 ∙ append_assoc fs (g ∷ []) q.2 in
@@ -313,8 +327,10 @@ fault_of_outcome h1 h2 bytes f (unequal _ _ _ fs e g n rest t same tr pass goes 
     let P : FieldFault → Type 0 = λ x. IsFault bytes x in
     let begins : Same (length fs + 1) (pieces bytes) (fields q.0) = rw (add-one, same, all) (same_next fs g rest q.2) in
     let passes : Pass (take (length fs) (fields q.0)) = rw all (pass_front fs (g ∷ q.2) pass) in
-    let there : failing (option_map_or (λ x. x.tests) (slice_get (fields q.0) (length fs)) []) ≡ Some t = rw (all, field_there fs g q.2) fail in
-    subst P (ap (λ (k : ℕ). fault_at k t) number ∙ faults) (failed bytes (length fs) q.0 q.1 (of_same (length fs + 1) (pieces bytes) (fields q.0) begins) passes t there)
+    let there : failing (option_map_or (λ x. x.tests) (slice_get (fields q.0) (length fs)) []) ≡ Some t =
+    rw (all, field_there fs g q.2) fail in
+    subst P (ap (λ (k : ℕ). fault_at k t) number ∙ faults)
+    (failed bytes (length fs) q.0 q.1 (of_same (length fs + 1) (pieces bytes) (fields q.0) begins) passes t there)
 
 pub read_fault : Complete → Completes → (bytes : List ℕ) (f : FieldFault) → said_by bytes ≡ Err f → IsFault bytes f
 unfolding said_by
@@ -331,14 +347,18 @@ said_of_outcome h2 bytes s (whole _ _ _ fs e same tr pass may read) h =
     let P : Said → Type 0 = λ x. IsSaid x × (pieces bytes ≡ texts (fields x)) × Pass (fields x) in
     let Q : List Field → Type 0 = λ x. Pass x in
     subst P said_is (q.1, same ∙ ap (λ (x : List Field). texts x) all, subst Q all pass)
-said_of_outcome h2 bytes s (stuck _ _ _ fs e rest same tr pass bad read) h = let both : Err (fault.Field (1 + length fs)) ≡ Ok s = sym read ∙ h in absurd (cc)
-said_of_outcome h2 bytes s (unequal _ _ _ fs e g n rest t same tr pass goes fail read) h = let both : Err (fault_at (1 + length fs) t) ≡ Ok s = sym read ∙ h in absurd (cc)
+said_of_outcome h2 bytes s (stuck _ _ _ fs e rest same tr pass bad read) h = let both : Err (fault.Field (1 + length fs)) ≡ Ok s = sym read
+    ∙ h in absurd (cc)
+said_of_outcome h2 bytes s (unequal _ _ _ fs e g n rest t same tr pass goes fail read) h =
+    let both : Err (fault_at (1 + length fs) t) ≡ Ok s = sym read ∙ h in absurd (cc)
 
-pub read_said : Completes → (bytes : List ℕ) (s : Said) → said_by bytes ≡ Ok s → IsSaid s × (pieces bytes ≡ texts (fields s)) × Pass (fields s)
+pub read_said : Completes → (bytes : List ℕ) (s : Said) → said_by bytes ≡ Ok s
+    → IsSaid s × (pieces bytes ≡ texts (fields s)) × Pass (fields s)
 unfolding said_by
 read_said h2 bytes s h = said_of_outcome h2 bytes s (walk 1 start (pieces bytes)) h
 
-traced : (k : ℕ) (st : State) (fs : List Field) (e : State) → Traces st fs e → Pass fs → may_end e.mode ≡ true → reading k st (texts fs) ≡ Ok e.said
+traced : (k : ℕ) (st : State) (fs : List Field) (e : State) → Traces st fs e → Pass fs → may_end e.mode ≡ true
+    → reading k st (texts fs) ≡ Ok e.said
 traced k st [] e t a may = ap (λ (x : State). reading k x []) t ∙ end_ok k e may
 traced k st (f ∷ fs) e t a may = step_goes k st f.text (texts fs) t.0 f.tests t.1 a.0 ∙ traced (k + 1) t.0 fs e t.2 a.1 may
 

@@ -59,7 +59,8 @@ report_of s = record {
 some_of : (n : ℕ) → is_between 1 9999 n ≡ true → 1 ≤ n
 some_of n h = grind (arith, nat_tests)
 
-no_candidates : (digits : ℕ) (p : Count → Bool) (before ns : List Count) → EachAfter (MayVote digits) before ns → votes_of (filter p ns) ≡ 0 → filter p ns ≡ []
+no_candidates : (digits : ℕ) (p : Count → Bool) (before ns : List Count) → EachAfter (MayVote digits) before ns
+    → votes_of (filter p ns) ≡ 0 → filter p ns ≡ []
 no_candidates digits p before [] h z = refl
 no_candidates digits p before (c ∷ ns) h z =
     let has = both_from_and (has_digits digits c.number) (is_some_votes c.votes) h.0.0 in
@@ -80,7 +81,8 @@ kept_candidates digits o (k ∷ ks) h =
     elim (cases_Bool (some_votes (said_party digits o k))) [
       | inl e ↦ rw e (ap (λ (l : List Count). candidates_of digits k o.nominal ++ l) rest)
       | inr e ↦
-          let none = no_candidates digits (λ c. first_two digits c.number == k) [] o.nominal h (no_votes (votes_of (candidates_of digits k o.nominal)) (party_votes k o.parties) e).0 in
+          let none = no_candidates digits (λ c. first_two digits c.number == k) [] o.nominal h
+          (no_votes (votes_of (candidates_of digits k o.nominal)) (party_votes k o.parties) e).0 in
           rw (e, none) rest
     ]
 
@@ -90,14 +92,16 @@ single : (before ps : List Count) (k : ℕ) → EachAfter MayLegend before ps �
     × (0 < party_votes k ps → filter (λ c. c.number == k) ps ≡ record { number = k; votes = party_votes k ps } ∷ [])
 single before [] k h = (λ z. refl, λ s. absurd (omega arith))
 single before (c ∷ ps) k h =
-    let later = numbers_later c (before ++ c ∷ []) ps h.1 (λ n a. (above_front (numbers_of before) c.number n (rw (map-append (λ (x : Count). x.number) before (c ∷ [])) at a)).1) in
+    let later = numbers_later c (before ++ c ∷ []) ps h.1
+    (λ n a. (above_front (numbers_of before) c.number n (rw (map-append (λ (x : Count). x.number) before (c ∷ [])) at a)).1) in
     elim (cases_Bool (c.number == k)) [
       | inl e ↦
           let same : c.number ≡ k = eqb-true c.number k e in
           let P : ℕ → Type 0 = λ n. AllByRecursion (λ d. n < d.number) ps in
           let none = none_has (λ (d : Count). d.number) k ps (subst P same later) in
           let some = some_of c.votes h.0.1 in
-          let one : c ∷ [] ≡ record { number = k; votes = c.votes } ∷ [] = ap (λ (n : ℕ). record { number = n; votes = c.votes } ∷ []) same in
+          let one : c ∷ [] ≡ record { number = k; votes = c.votes } ∷ [] =
+          ap (λ (n : ℕ). record { number = n; votes = c.votes } ∷ []) same in
           rw (e, none) (λ z. absurd (omega arith), λ s. one)
       | inr e ↦ rw e (single (before ++ c ∷ []) ps k h.1)
     ]
@@ -117,7 +121,8 @@ kept_legends digits o (k ∷ ks) h =
     elim (cases_Bool (nat_lt 0 (party_votes k o.parties))) [
       | inl e ↦
           let keep = more_votes (votes_of (candidates_of digits k o.nominal)) (party_votes k o.parties) e in
-          rw (keep, e, one.1 (positive (party_votes k o.parties) e)) (ap (λ (l : List Count). record { number = k; votes = party_votes k o.parties } ∷ l) rest)
+          rw (keep, e, one.1 (positive (party_votes k o.parties) e))
+          (ap (λ (l : List Count). record { number = k; votes = party_votes k o.parties } ∷ l) rest)
       | inr e ↦
           let none = one.0 (zero_of (party_votes k o.parties) e) in
           elim (cases_Bool (some_votes (said_party digits o k))) [
@@ -131,21 +136,48 @@ kept_legends digits o (k ∷ ks) h =
 rebuilt : (o : OfficeCount) (nominal parties : List Count) → nominal ≡ o.nominal → parties ≡ o.parties → o.places ≡ 1
     → record { code = o.code; places = 1; nominal = nominal; parties = parties; blank = o.blank; null_votes = o.null_votes } ≡ o
 rebuilt o nominal parties a b p =
-    ap (λ (l : List Count). record { code = o.code; places = 1; nominal = l; parties = parties; blank = o.blank; null_votes = o.null_votes }) a
-    ∙ (ap (λ (l : List Count). record { code = o.code; places = 1; nominal = o.nominal; parties = l; blank = o.blank; null_votes = o.null_votes }) b
-    ∙ ap (λ (n : ℕ). record { code = o.code; places = n; nominal = o.nominal; parties = o.parties; blank = o.blank; null_votes = o.null_votes }) (sym p))
+    ap (λ (l : List Count). record {
+      code = o.code;
+      places = 1;
+      nominal = l;
+      parties = parties;
+      blank = o.blank;
+      null_votes = o.null_votes;
+    }) a
+    ∙ (ap (λ (l : List Count). record {
+      code = o.code;
+      places = 1;
+      nominal = o.nominal;
+      parties = l;
+      blank = o.blank;
+      null_votes = o.null_votes;
+    }) b
+    ∙ ap (λ (n : ℕ). record {
+      code = o.code;
+      places = n;
+      nominal = o.nominal;
+      parties = o.parties;
+      blank = o.blank;
+      null_votes = o.null_votes;
+    }) (sym p))
 
-office_back : (r : Report) (o : OfficeCount) (b : Bool) → IsOfficeCount r.came o → code_proportional o.code ≡ b → count_of (office_of b r o) ≡ o
+office_back : (r : Report) (o : OfficeCount) (b : Bool) → IsOfficeCount r.came o → code_proportional o.code ≡ b
+    → count_of (office_of b r o) ≡ o
 office_back r o true h e =
     let digits : ℕ = digits_in o.code in
     let g = grouped o.code e in
     rebuilt o _ _
-    (kept_candidates digits o (range_with_len 10 90) h.nominal ∙ regroup (λ (c : Count). first_two digits c.number) 90 10 o.nominal (within_by digits g [] o.nominal h.nominal) (ascends_by digits g [] o.nominal h.nominal))
-    (kept_legends digits o (range_with_len 10 90) h.parties ∙ regroup (λ (c : Count). c.number) 90 10 o.parties (within_parties [] o.parties h.parties) (ascends_parties [] o.parties h.parties))
+    (kept_candidates digits o (range_with_len 10 90) h.nominal
+    ∙ regroup (λ (c : Count). first_two digits c.number) 90 10 o.nominal (within_by digits g [] o.nominal h.nominal)
+    (ascends_by digits g [] o.nominal h.nominal))
+    (kept_legends digits o (range_with_len 10 90) h.parties
+    ∙ regroup (λ (c : Count). c.number) 90 10 o.parties (within_parties [] o.parties h.parties)
+    (ascends_parties [] o.parties h.parties))
     h.places
 office_back r o false h e = rebuilt o (o.nominal ++ []) [] (append-nil o.nominal) (sym (h.majority e)) h.places
 
-offices_back : (r : Report) (before os : List OfficeCount) → EachAfter (MayCount r.came) before os → map count_of (map (said_office r) os) ≡ os
+offices_back : (r : Report) (before os : List OfficeCount) → EachAfter (MayCount r.came) before os
+    → map count_of (map (said_office r) os) ≡ os
 offices_back r before [] h = refl
 offices_back r before (o ∷ os) h =
     ap (λ (l : List OfficeCount). count_of (said_office r o) ∷ l) (offices_back r (before ++ o ∷ []) os h.1)
@@ -154,7 +186,11 @@ offices_back r before (o ∷ os) h =
 pub report_back : (r : Report) → IsReport r → report_of (said r) ≡ r
 unfolding said
 report_back r h =
-    ap (λ (n : ℕ). record r { opened = n; closed = moment (r.closed / 1000000) (r.closed % 1000000); offices = map count_of (map (said_office r) r.offices) }) (whole_moment r.opened)
+    ap (λ (n : ℕ). record r {
+      opened = n;
+      closed = moment (r.closed / 1000000) (r.closed % 1000000);
+      offices = map count_of (map (said_office r) r.offices);
+    }) (whole_moment r.opened)
     ∙ (ap (λ (n : ℕ). record r { closed = n; offices = map count_of (map (said_office r) r.offices) }) (whole_moment r.closed)
     ∙ ap (λ (l : List OfficeCount). record r { offices = l }) (offices_back r [] r.offices h.offices))
 

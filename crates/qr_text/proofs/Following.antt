@@ -115,7 +115,8 @@ each_mapped May f st one before [] h = ap st (sym (append-nil before))
 each_mapped May f st one before (x ∷ xs) h = (
   st (before ++ x ∷ []),
   one before x h.0,
-  traces_to (st (before ++ x ∷ [])) (map f xs) _ _ (ap st (append_assoc before (x ∷ []) xs)) (each_mapped May f st one (before ++ x ∷ []) xs h.1),
+  traces_to (st (before ++ x ∷ [])) (map f xs) _ _ (ap st (append_assoc before (x ∷ []) xs))
+      (each_mapped May f st one (before ++ x ∷ []) xs h.1),
 )
 
 each_traced : {A : Type 0} (May : List A → A → Type 0) (f : A → List Field) (st : List A → State)
@@ -124,7 +125,8 @@ each_traced : {A : Type 0} (May : List A → A → Type 0) (f : A → List Field
 each_traced May f st one before [] h = ap st (sym (append-nil before))
 each_traced May f st one before (x ∷ xs) h =
     traces_to (st before) (f x ++ flat_map f xs) _ _ (ap st (append_assoc before (x ∷ []) xs))
-    (traces_append (st before) (f x) (flat_map f xs) (st (before ++ x ∷ [])) _ (one before x h.0) (each_traced May f st one (before ++ x ∷ []) xs h.1))
+    (traces_append (st before) (f x) (flat_map f xs) (st (before ++ x ∷ [])) _ (one before x h.0)
+    (each_traced May f st one (before ++ x ∷ []) xs h.1))
 
 -- ---- an office
 
@@ -142,7 +144,8 @@ vote_goes s done o before c h = rw (vote_again (digits_in o.code) c (number_smal
 abbrev of_party : ℕ → List Count → SaidParty
 of_party number before = record { number = number; candidates = before; legend = 0; total = 0 }
 
-party_vote_goes : (s : Said) (done : List SaidOffice) (o : SaidOffice) (number : ℕ) (before : List Count) (c : Count) → MayVoteIn (digits_in o.code) number before c
+party_vote_goes : (s : Said) (done : List SaidOffice) (o : SaidOffice) (number : ℕ) (before : List Count) (c : Count)
+    → MayVoteIn (digits_in o.code) number before c
     → step (at_office OfParty s done o (of_party number before)) (vote_field c).text
     ≡ Some (at_office OfParty s done o (of_party number (before ++ c ∷ [])), (vote_field c).tests)
 unfolding step
@@ -154,8 +157,10 @@ party_vote_goes s done o number before c h =
 abbrev in_parties : Said → List SaidOffice → SaidOffice → List SaidParty → State
 in_parties s done o before = at_office Party s done (record o { parties = before }) no_party
 
-party_begins : (s : Said) (done : List SaidOffice) (o : SaidOffice) (before : List SaidParty) (p : SaidParty) → MayParty (digits_in o.code) before p
-    → step (in_parties s done o before) (field_text TABLE.party p.number) ≡ Some (at_office OfParty s done (record o { parties = before }) (of_party p.number []), [])
+party_begins : (s : Said) (done : List SaidOffice) (o : SaidOffice) (before : List SaidParty) (p : SaidParty)
+    → MayParty (digits_in o.code) before p
+    → step (in_parties s done o before) (field_text TABLE.party p.number)
+    ≡ Some (at_office OfParty s done (record o { parties = before }) (of_party p.number []), [])
 unfolding step
 party_begins s done o before p h = rw (number_again TABLE.party p.number (lit< tt) h.0.number, h.1) refl
 
@@ -163,15 +168,21 @@ legend_goes : (s : Said) (done : List SaidOffice) (o : SaidOffice) (p : SaidPart
     → step (at_office OfParty s done o (of_party p.number p.candidates)) (field_text TABLE.party_legend p.legend)
     ≡ Some (at_office PartyTotal s done o (record (of_party p.number p.candidates) { legend = p.legend }), [])
 unfolding step decimal_value
-legend_goes s done o p h = rw (vote_none (digits_in o.code) (codes "LEGP") _ refl refl, number_again TABLE.party_legend p.legend (lit< tt) h) refl
+legend_goes s done o p h = rw (
+  vote_none (digits_in o.code) (codes "LEGP") _ refl refl,
+  number_again TABLE.party_legend p.legend (lit< tt) h,
+) refl
 
-party_ends : (s : Said) (done : List SaidOffice) (o : SaidOffice) (before : List SaidParty) (p : SaidParty) → fits TABLE.party_total.form p.total ≡ true
-    → step (at_office PartyTotal s done (record o { parties = before }) (record (of_party p.number p.candidates) { legend = p.legend })) (field_text TABLE.party_total p.total)
+party_ends : (s : Said) (done : List SaidOffice) (o : SaidOffice) (before : List SaidParty) (p : SaidParty)
+    → fits TABLE.party_total.form p.total ≡ true
+    → step (at_office PartyTotal s done (record o { parties = before }) (record (of_party p.number p.candidates) { legend = p.legend }))
+    (field_text TABLE.party_total p.total)
     ≡ Some (in_parties s done o (before ++ p ∷ []), (party_field p TABLE.party_total p.total).tests)
 unfolding step
 party_ends s done o before p h = rw (number_again TABLE.party_total p.total (lit< tt) h) refl
 
-party_traced : (s : Said) (done : List SaidOffice) (o : SaidOffice) (before : List SaidParty) (p : SaidParty) → MayParty (digits_in o.code) before p
+party_traced : (s : Said) (done : List SaidOffice) (o : SaidOffice) (before : List SaidParty) (p : SaidParty)
+    → MayParty (digits_in o.code) before p
     → Traces (in_parties s done o before) (party_fields p) (in_parties s done o (before ++ p ∷ []))
 party_traced s done o before p h =
     let o1 : SaidOffice = record o { parties = before } in (
@@ -212,7 +223,10 @@ with_nominal o = record (voted o) { able = o.able; nominal = o.nominal }
 
 nominal_goes : (s : Said) (done : List SaidOffice) (o : SaidOffice) → fits TABLE.nominal.form o.nominal ≡ true
     → step (at_office Nominal s done (record (voted o) { able = o.able }) no_party) (field_text TABLE.nominal o.nominal)
-    ≡ Some (at_office (if code_proportional o.code then Legend else Blank) s done (with_nominal o) no_party, (office_field s o TABLE.nominal o.nominal).tests)
+    ≡ Some (
+      at_office (if code_proportional o.code then Legend else Blank) s done (with_nominal o) no_party,
+      (office_field s o TABLE.nominal o.nominal).tests,
+    )
 unfolding step
 nominal_goes s done o h = rw (number_again TABLE.nominal o.nominal (lit< tt) h) refl
 
@@ -224,12 +238,16 @@ office_legend_goes s done o h = rw (number_again TABLE.legend o.legend (lit< tt)
 
 blank_goes : (s : Said) (done : List SaidOffice) (o : SaidOffice) → fits TABLE.blank.form o.blank ≡ true
     → step (at_office Blank s done (record (with_nominal o) { legend = o.legend }) no_party) (field_text TABLE.blank o.blank)
-    ≡ Some (at_office Null s done (record (with_nominal o) { legend = o.legend; blank = o.blank }) no_party, (office_field s o TABLE.blank o.blank).tests)
+    ≡ Some (
+      at_office Null s done (record (with_nominal o) { legend = o.legend; blank = o.blank }) no_party,
+      (office_field s o TABLE.blank o.blank).tests,
+    )
 unfolding step
 blank_goes s done o h = rw (number_again TABLE.blank o.blank (lit< tt) h) refl
 
 null_goes : (s : Said) (done : List SaidOffice) (o : SaidOffice) → fits TABLE.null_votes.form o.null_votes ≡ true
-    → step (at_office Null s done (record (with_nominal o) { legend = o.legend; blank = o.blank }) no_party) (field_text TABLE.null_votes o.null_votes)
+    → step (at_office Null s done (record (with_nominal o) { legend = o.legend; blank = o.blank }) no_party)
+    (field_text TABLE.null_votes o.null_votes)
     ≡ Some (at_office Total s done (record o { total = 0 }) no_party, (office_field s o TABLE.null_votes o.null_votes).tests)
 unfolding step
 null_goes s done o h = rw (number_again TABLE.null_votes o.null_votes (lit< tt) h) refl
@@ -241,7 +259,8 @@ unfolding step
 total_goes s done o h = rw (number_again TABLE.total o.total (lit< tt) h) refl
 
 last_traced : (s : Said) (done : List SaidOffice) (o : SaidOffice) → IsSaidOffice o
-    → Traces (at_office Blank s done (record (with_nominal o) { legend = o.legend }) no_party) (last_fields s o) (at_office Done s (done ++ o ∷ []) o no_party)
+    → Traces (at_office Blank s done (record (with_nominal o) { legend = o.legend }) no_party) (last_fields s o)
+    (at_office Done s (done ++ o ∷ []) o no_party)
 last_traced s done o h = (
   at_office Null s done (record (with_nominal o) { legend = o.legend; blank = o.blank }) no_party,
   blank_goes s done o h.blank,
@@ -254,7 +273,8 @@ last_traced s done o h = (
 
 -- ---- a whole office
 
-code_goes : (m : Mode) (s : Said) (done : List SaidOffice) (x : SaidOffice) (q : SaidParty) (o : SaidOffice) → (m ≡ Code) ⊎ (m ≡ Done) → may_have_code (codes_in done) o.code ≡ true
+code_goes : (m : Mode) (s : Said) (done : List SaidOffice) (x : SaidOffice) (q : SaidParty) (o : SaidOffice) → (m ≡ Code) ⊎ (m ≡ Done)
+    → may_have_code (codes_in done) o.code ≡ true
     → fits TABLE.office.form o.code ≡ true
     → step (at_office m s done x q) (field_text TABLE.office o.code) ≡ Some (at_office Kind s done (new_office o.code) no_party, [])
 unfolding step
@@ -269,7 +289,10 @@ kind_goes : (s : Said) (done : List SaidOffice) (code : ℕ)
     → step (at_office Kind s done (new_office code) no_party) (field_text TABLE.kind (kind_number (code_proportional code)))
     ≡ Some (at_office (if code_proportional code then Party else Vote) s done (new_office code) no_party, [])
 unfolding step
-kind_goes s done code = rw (number_again TABLE.kind (kind_number (code_proportional code)) (lit< tt) (kind_fits (code_proportional code)), eq-eqb (kind_number (code_proportional code)) (kind_number (code_proportional code)) refl) refl
+kind_goes s done code = rw (
+  number_again TABLE.kind (kind_number (code_proportional code)) (lit< tt) (kind_fits (code_proportional code)),
+  eq-eqb (kind_number (code_proportional code)) (kind_number (code_proportional code)) refl,
+) refl
 
 abbrev behind_kind : Said → SaidOffice → Bool → List Field
 behind_kind s o proportional = votes_fields proportional o ++ sum_fields s proportional o
@@ -280,13 +303,17 @@ majority_traced s done o h e =
     let none = h.majority e in
     let voted_so : record (new_office o.code) { candidates = o.candidates } ≡ voted o =
     ap (λ (ps : List SaidParty). record (new_office o.code) { candidates = o.candidates; parties = ps }) (sym none.0) in
-    let votes = each_mapped (MayVote (digits_in o.code)) vote_field (λ cs. at_office Vote s done (record (new_office o.code) { candidates = cs }) no_party)
+    let votes = each_mapped (MayVote (digits_in o.code)) vote_field
+    (λ cs. at_office Vote s done (record (new_office o.code) { candidates = cs }) no_party)
     (vote_goes s done (new_office o.code)) [] o.candidates h.candidates in
-    let next : at_office (if code_proportional o.code then Legend else Blank) s done (with_nominal o) no_party ≡ at_office Blank s done (record (with_nominal o) { legend = o.legend }) no_party =
+    let next : at_office (if code_proportional o.code then Legend else Blank) s done (with_nominal o) no_party
+    ≡ at_office Blank s done (record (with_nominal o) { legend = o.legend }) no_party =
     ap (λ (b : Bool). at_office (if b then Legend else Blank) s done (with_nominal o) no_party) e
     ∙ ap (λ (n : ℕ). at_office Blank s done (record (with_nominal o) { legend = n }) no_party) (sym none.1) in
-    traces_append (at_office Vote s done (new_office o.code) no_party) (map vote_field o.candidates) (sum_fields s false o) (at_office Vote s done (voted o) no_party) (at_office Done s (done ++ o ∷ []) o no_party)
-    (traces_to (at_office Vote s done (new_office o.code) no_party) (map vote_field o.candidates) _ _ (ap (λ (x : SaidOffice). at_office Vote s done x no_party) voted_so) votes) (
+    traces_append (at_office Vote s done (new_office o.code) no_party) (map vote_field o.candidates) (sum_fields s false o)
+    (at_office Vote s done (voted o) no_party) (at_office Done s (done ++ o ∷ []) o no_party)
+    (traces_to (at_office Vote s done (new_office o.code) no_party) (map vote_field o.candidates) _ _
+    (ap (λ (x : SaidOffice). at_office Vote s done x no_party) voted_so) votes) (
       at_office Nominal s done (record (voted o) { able = o.able }) no_party,
       able_goes s done o h.able,
       (
@@ -304,10 +331,13 @@ proportional_traced s done o h e =
     ap (λ (cs : List Count). record (new_office o.code) { candidates = cs; parties = o.parties }) (sym none) in
     let votes = each_traced (MayParty (digits_in o.code)) party_fields (in_parties s done (new_office o.code))
     (party_traced s done (new_office o.code)) [] o.parties h.parties in
-    let next : at_office (if code_proportional o.code then Legend else Blank) s done (with_nominal o) no_party ≡ at_office Legend s done (with_nominal o) no_party =
+    let next : at_office (if code_proportional o.code then Legend else Blank) s done (with_nominal o) no_party
+    ≡ at_office Legend s done (with_nominal o) no_party =
     ap (λ (b : Bool). at_office (if b then Legend else Blank) s done (with_nominal o) no_party) e in
-    traces_append (at_office Party s done (new_office o.code) no_party) (flat_map party_fields o.parties) (sum_fields s true o) (at_office Party s done (voted o) no_party) (at_office Done s (done ++ o ∷ []) o no_party)
-    (traces_to (at_office Party s done (new_office o.code) no_party) (flat_map party_fields o.parties) _ _ (ap (λ (x : SaidOffice). at_office Party s done x no_party) voted_so) votes) (
+    traces_append (at_office Party s done (new_office o.code) no_party) (flat_map party_fields o.parties) (sum_fields s true o)
+    (at_office Party s done (voted o) no_party) (at_office Done s (done ++ o ∷ []) o no_party)
+    (traces_to (at_office Party s done (new_office o.code) no_party) (flat_map party_fields o.parties) _ _
+    (ap (λ (x : SaidOffice). at_office Party s done x no_party) voted_so) votes) (
       at_office Nominal s done (record (voted o) { able = o.able }) no_party,
       able_goes_behind_parties s done o h.able,
       (
@@ -322,11 +352,13 @@ proportional_traced s done o h e =
     )
 
 behind_kind_traced : (s : Said) (done : List SaidOffice) (o : SaidOffice) (b : Bool) → IsSaidOffice o → code_proportional o.code ≡ b
-    → Traces (at_office (if b then Party else Vote) s done (new_office o.code) no_party) (behind_kind s o b) (at_office Done s (done ++ o ∷ []) o no_party)
+    → Traces (at_office (if b then Party else Vote) s done (new_office o.code) no_party) (behind_kind s o b)
+    (at_office Done s (done ++ o ∷ []) o no_party)
 behind_kind_traced s done o true h e = proportional_traced s done o h e
 behind_kind_traced s done o false h e = majority_traced s done o h e
 
-office_traced : (m : Mode) (s : Said) (done : List SaidOffice) (x : SaidOffice) (q : SaidParty) (o : SaidOffice) → (m ≡ Code) ⊎ (m ≡ Done) → MayOffice done o
+office_traced : (m : Mode) (s : Said) (done : List SaidOffice) (x : SaidOffice) (q : SaidParty) (o : SaidOffice) → (m ≡ Code) ⊎ (m ≡ Done)
+    → MayOffice done o
     → Traces (at_office m s done x q) (office_fields s o) (at_office Done s (done ++ o ∷ []) o no_party)
 office_traced m s done x q o first h = (
   at_office Kind s done (new_office o.code) no_party,
@@ -340,21 +372,28 @@ office_traced m s done x q o first h = (
 
 -- ---- all offices
 
-offices_traced : (m : Mode) (s : Said) (done : List SaidOffice) (x : SaidOffice) (q : SaidParty) (os : List SaidOffice) (o : SaidOffice) → (m ≡ Code) ⊎ (m ≡ Done)
+offices_traced : (m : Mode) (s : Said) (done : List SaidOffice) (x : SaidOffice) (q : SaidParty) (os : List SaidOffice) (o : SaidOffice)
+    → (m ≡ Code) ⊎ (m ≡ Done)
     → EachAfter MayOffice done (o ∷ os)
-    → (last : SaidOffice) × Traces (at_office m s done x q) (flat_map (office_fields s) (o ∷ os)) (at_office Done s (done ++ o ∷ os) last no_party)
-offices_traced m s done x q [] o first h =
-    (o, traces_append _ (office_fields s o) [] (at_office Done s (done ++ o ∷ []) o no_party) _ (office_traced m s done x q o first h.0) refl)
+    → (last : SaidOffice) × Traces (at_office m s done x q) (flat_map (office_fields s) (o ∷ os))
+    (at_office Done s (done ++ o ∷ os) last no_party)
+offices_traced m s done x q [] o first h = (
+  o,
+  traces_append _ (office_fields s o) [] (at_office Done s (done ++ o ∷ []) o no_party) _
+      (office_traced m s done x q o first h.0) refl,
+)
 offices_traced m s done x q (p ∷ os) o first h =
     let rest = offices_traced Done s (done ++ o ∷ []) o no_party os p (inr refl) h.1 in (
       rest.0,
       traces_append _ (office_fields s o) (flat_map (office_fields s) (p ∷ os)) (at_office Done s (done ++ o ∷ []) o no_party) _
           (office_traced m s done x q o first h.0)
-          (traces_to _ (flat_map (office_fields s) (p ∷ os)) _ _ (ap (λ (ls : List SaidOffice). at_office Done s ls rest.0 no_party) (append_assoc done (o ∷ []) (p ∷ os))) rest.1),
+          (traces_to _ (flat_map (office_fields s) (p ∷ os)) _ _
+          (ap (λ (ls : List SaidOffice). at_office Done s ls rest.0 no_party) (append_assoc done (o ∷ []) (p ∷ os))) rest.1),
     )
 
 all_traced : (s : Said) (os : List SaidOffice) → 0 < length os → EachAfter MayOffice [] os
-    → (last : SaidOffice) × Traces (at_office Code s [] (new_office 0) no_party) (flat_map (office_fields s) os) (at_office Done s os last no_party)
+    → (last : SaidOffice) × Traces (at_office Code s [] (new_office 0) no_party) (flat_map (office_fields s) os)
+    (at_office Done s os last no_party)
 all_traced s [] some h = absurd (omega arith)
 all_traced s (o ∷ os) some h = offices_traced Code s [] (new_office 0) no_party os o (inl refl) h
 
@@ -365,5 +404,6 @@ complete s h =
       at_office Done s s.offices rest.0 no_party,
       refl,
       refl,
-      traces_append start (map (head_field s) (zip head_rows (head_values s))) (flat_map (office_fields s) s.offices) (at_head 13 s) _ (head_traced s h.head) rest.1,
+      traces_append start (map (head_field s) (zip head_rows (head_values s))) (flat_map (office_fields s) s.offices) (at_head 13 s) _
+          (head_traced s h.head) rest.1,
     )

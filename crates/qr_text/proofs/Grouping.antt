@@ -34,11 +34,13 @@ later_groups g x xs a (suc n) h =
     let rest = later_groups g x xs (a + 1) n (omega arith) in
     rw (other_number (g x) a h) (ap (λ l. filter (λ y. g y == a) xs ++ l) rest)
 
-above_all : {A : Type 0} (g : A → ℕ) (a : ℕ) (x : A) (xs : List A) → a < g x → AllByRecursion (λ y. g x ≤ g y) xs → AllByRecursion (λ y. a < g y) xs
+above_all : {A : Type 0} (g : A → ℕ) (a : ℕ) (x : A) (xs : List A) → a < g x → AllByRecursion (λ y. g x ≤ g y) xs
+    → AllByRecursion (λ y. a < g y) xs
 above_all g a x [] h l = tt
 above_all g a x (y ∷ xs) h l = (omega arith, above_all g a x xs h l.1)
 
-move_up : {A : Type 0} (g : A → ℕ) (a n : ℕ) (xs : List A) → AllByRecursion (λ x. a < g x) xs → Within g a (suc n) xs → Within g (a + 1) n xs
+move_up : {A : Type 0} (g : A → ℕ) (a n : ℕ) (xs : List A) → AllByRecursion (λ x. a < g x) xs → Within g a (suc n) xs
+    → Within g (a + 1) n xs
 move_up g a n [] h w = tt
 move_up g a n (x ∷ xs) h w = ((omega arith, omega arith), move_up g a n xs h.1 w.1)
 

@@ -55,7 +55,8 @@ each_row P a b c d e f g h i j k l m (suc (suc (suc (suc (suc (suc (suc (suc (su
 each_row P a b c d e f g h i j k l m (suc (suc (suc (suc (suc (suc (suc (suc (suc (suc zero)))))))))) few = k
 each_row P a b c d e f g h i j k l m (suc (suc (suc (suc (suc (suc (suc (suc (suc (suc (suc zero))))))))))) few = l
 each_row P a b c d e f g h i j k l m (suc (suc (suc (suc (suc (suc (suc (suc (suc (suc (suc (suc zero)))))))))))) few = m
-each_row P a b c d e f g h i j k l m (suc (suc (suc (suc (suc (suc (suc (suc (suc (suc (suc (suc (suc n))))))))))))) few = absurd (omega arith)
+each_row P a b c d e f g h i j k l m (suc (suc (suc (suc (suc (suc (suc (suc (suc (suc (suc (suc (suc n))))))))))))) few =
+    absurd (omega arith)
 
 -- ---- one more is read
 
@@ -64,7 +65,7 @@ pub head_steps : (n : ℕ) → n ≤ 12 → (s : Said) (o : SaidOffice) (q : Sai
 unfolding step head_rows
 head_steps n few s o q p =
     each_row (λ m. step (at_row m s o q) p ≡ option_map (λ v. after_head m v s o q) (number_at (row_at m) p))
-      refl refl refl refl refl refl refl refl refl refl refl refl refl n few
+    refl refl refl refl refl refl refl refl refl refl refl refl refl n few
 
 pub offices_stay : (n : ℕ) → n ≤ 12 → (v : ℕ) (s : Said) → (with_head n v s).offices ≡ s.offices
 offices_stay n few v s =
@@ -73,22 +74,26 @@ offices_stay n few v s =
 -- the fields that were read, and the one that is
 pub fields_more : (n : ℕ) → n ≤ 12 → (v : ℕ) (s : Said)
     → take n (head_list s) ++ record { text = field_text (row_at n) v; tests = head_tests (row_at n).tested (with_head n v s) } ∷ []
-      ≡ take (n + 1) (head_list (with_head n v s))
+    ≡ take (n + 1) (head_list (with_head n v s))
 unfolding head_rows
 fields_more n few v s =
-    each_row (λ m. take m (head_list s) ++ record { text = field_text (row_at m) v; tests = head_tests (row_at m).tested (with_head m v s) } ∷ []
-        ≡ take (m + 1) (head_list (with_head m v s)))
-      refl refl refl refl refl refl refl refl refl refl refl refl refl n few
+    each_row (λ m. take m (head_list s) ++ record {
+      text = field_text (row_at m) v;
+      tests = head_tests (row_at m).tested (with_head m v s);
+    } ∷ []
+    ≡ take (m + 1) (head_list (with_head m v s)))
+    refl refl refl refl refl refl refl refl refl refl refl refl refl n few
 
 -- ORIG has no number but 0
 pairs_more : (n : ℕ) → n ≤ 12 → (v : ℕ) (s : Said) → fits (row_at n).form v ≡ true
     → take n (head_pairs s) ++ (row_at n, v) ∷ [] ≡ take (n + 1) (head_pairs (with_head n v s))
 unfolding head_rows
 pairs_more n few v s =
-    each_row (λ m. fits (row_at m).form v ≡ true → take m (head_pairs s) ++ (row_at m, v) ∷ [] ≡ take (m + 1) (head_pairs (with_head m v s)))
-      (λ e. ap (λ (k : ℕ). (TABLE.orig, k) ∷ []) (eqb-true v 0 e))
-      (λ e. refl) (λ e. refl) (λ e. refl) (λ e. refl) (λ e. refl) (λ e. refl)
-      (λ e. refl) (λ e. refl) (λ e. refl) (λ e. refl) (λ e. refl) (λ e. refl) n few
+    each_row (λ m. fits (row_at m).form v ≡ true
+    → take m (head_pairs s) ++ (row_at m, v) ∷ [] ≡ take (m + 1) (head_pairs (with_head m v s)))
+    (λ e. ap (λ (k : ℕ). (TABLE.orig, k) ∷ []) (eqb-true v 0 e))
+    (λ e. refl) (λ e. refl) (λ e. refl) (λ e. refl) (λ e. refl) (λ e. refl)
+    (λ e. refl) (λ e. refl) (λ e. refl) (λ e. refl) (λ e. refl) (λ e. refl) n few
 
 both_fit : (xs ys : List (Row × ℕ)) → AllByRecursion FitsRow xs → AllByRecursion FitsRow ys → AllByRecursion FitsRow (xs ++ ys)
 both_fit [] ys h g = g
@@ -122,13 +127,14 @@ going_on n s = record {
 pub front_stays : (n : ℕ) → n ≤ 12 → (s : Said) → take n (head_list (going_on n s)) ≡ take n (head_list s)
 unfolding head_rows
 front_stays n few s =
-    each_row (λ m. take m (head_list (going_on m s)) ≡ take m (head_list s)) refl refl refl refl refl refl refl refl refl refl refl refl refl n few
+    each_row (λ m. take m (head_list (going_on m s)) ≡ take m (head_list s)) refl refl refl refl refl refl refl refl refl refl refl refl
+    refl n few
 
 pairs_going_on : (n : ℕ) → n ≤ 12 → (s : Said) → take n (head_pairs s) ++ drop n (head_pairs (going_on 0 s)) ≡ head_pairs (going_on n s)
 unfolding head_rows
 pairs_going_on n few s =
     each_row (λ m. take m (head_pairs s) ++ drop m (head_pairs (going_on 0 s)) ≡ head_pairs (going_on m s))
-      refl refl refl refl refl refl refl refl refl refl refl refl refl n few
+    refl refl refl refl refl refl refl refl refl refl refl refl refl n few
 
 rest_fits : (n : ℕ) (xs : List (Row × ℕ)) → AllByRecursion FitsRow xs → AllByRecursion FitsRow (drop n xs)
 rest_fits zero xs h = h
@@ -143,4 +149,4 @@ pub fits_going_on : (n : ℕ) → n ≤ 12 → (s : Said) → Fits n s → AllBy
 fits_going_on n few s h =
     let P : List (Row × ℕ) → Type 0 = λ xs. AllByRecursion FitsRow xs in
     subst P (pairs_going_on n few s)
-      (both_fit (take n (head_pairs s)) (drop n (head_pairs (going_on 0 s))) h (rest_fits n (head_pairs (going_on 0 s)) (all_fit s)))
+    (both_fit (take n (head_pairs s)) (drop n (head_pairs (going_on 0 s))) h (rest_fits n (head_pairs (going_on 0 s)) (all_fit s)))

@@ -66,10 +66,22 @@ record SumsRight (s : Said) (b : Bool) (o : SaidOffice) : Type 0 where
 sums_right : (s : Said) (b : Bool) (o : SaidOffice) → Pass (sum_fields s b o) → SumsRight s b o
 sums_right s true o h =
     let total = both_from (o.nominal + o.legend + o.blank + o.null_votes) s.came o.total h.1.1.1.1.1.0 in
-    record { able = equal_from s.able o.able h.0; nominal = equal_from (all_nominal o) o.nominal h.1.0; legend = λ e. equal_from (all_legend o) o.legend h.1.1.0; all = total.0; came = total.1 }
+    record {
+      able = equal_from s.able o.able h.0;
+      nominal = equal_from (all_nominal o) o.nominal h.1.0;
+      legend = λ e. equal_from (all_legend o) o.legend h.1.1.0;
+      all = total.0;
+      came = total.1;
+    }
 sums_right s false o h =
     let total = both_from (o.nominal + o.legend + o.blank + o.null_votes) s.came o.total h.1.1.1.1.0 in
-    record { able = equal_from s.able o.able h.0; nominal = equal_from (all_nominal o) o.nominal h.1.0; legend = λ e. absurd (cc); all = total.0; came = total.1 }
+    record {
+      able = equal_from s.able o.able h.0;
+      nominal = equal_from (all_nominal o) o.nominal h.1.0;
+      legend = λ e. absurd (cc);
+      all = total.0;
+      came = total.1;
+    }
 
 parties_right : (ps : List SaidParty) → Pass (flat_map party_fields ps) → Right ps
 parties_right [] h = tt
@@ -91,17 +103,22 @@ in_range : (digits : ℕ) (ps : List SaidParty) → Parties digits ps → InRang
 in_range digits [] h = tt
 in_range digits (p ∷ ps) h = (party_range p.number h.0.number, in_range digits ps h.1)
 
-above_later : (digits : ℕ) (q : SaidParty) (before ps : List SaidParty) → EachAfter (MayParty digits) before ps → ((n : ℕ) → is_above (party_numbers before) n ≡ true → nat_lt q.number n ≡ true) → AllAbove q.number ps
+above_later : (digits : ℕ) (q : SaidParty) (before ps : List SaidParty) → EachAfter (MayParty digits) before ps
+    → ((n : ℕ) → is_above (party_numbers before) n ≡ true → nat_lt q.number n ≡ true) → AllAbove q.number ps
 above_later digits q before [] h a = tt
 above_later digits q before (p ∷ ps) h a = (
   ltb-true q.number p.number (a p.number h.0.1),
-  above_later digits q (before ++ p ∷ []) ps h.1 (λ n l. a n (above_front (party_numbers before) p.number n (rw (map-append (λ (x : SaidParty). x.number) before (p ∷ [])) at l)).0),
+  above_later digits q (before ++ p ∷ []) ps h.1
+      (λ n l. a n (above_front (party_numbers before) p.number n (rw (map-append (λ (x : SaidParty). x.number) before (p ∷ [])) at l)).0),
 )
 
 are_rising : (digits : ℕ) (before ps : List SaidParty) → EachAfter (MayParty digits) before ps → Rising ps
 are_rising digits before [] h = tt
-are_rising digits before (p ∷ ps) h =
-    (above_later digits p (before ++ p ∷ []) ps h.1 (λ n l. (above_front (party_numbers before) p.number n (rw (map-append (λ (x : SaidParty). x.number) before (p ∷ [])) at l)).1), are_rising digits (before ++ p ∷ []) ps h.1)
+are_rising digits before (p ∷ ps) h = (
+  above_later digits p (before ++ p ∷ []) ps h.1
+      (λ n l. (above_front (party_numbers before) p.number n (rw (map-append (λ (x : SaidParty). x.number) before (p ∷ [])) at l)).1),
+  are_rising digits (before ++ p ∷ []) ps h.1,
+)
 
 -- ---- sums of the flattened lists
 
@@ -127,9 +144,20 @@ legends_sum (p ∷ ps) =
 
 same_office : (o : SaidOffice) (candidates : List Count) (parties : List SaidParty) (able nominal legend total : ℕ)
     → candidates ≡ o.candidates → parties ≡ o.parties → able ≡ o.able → nominal ≡ o.nominal → legend ≡ o.legend → total ≡ o.total
-    → record { code = o.code; candidates = candidates; parties = parties; able = able; nominal = nominal; legend = legend; blank = o.blank; null_votes = o.null_votes; total = total } ≡ o
+    → record {
+      code = o.code;
+      candidates = candidates;
+      parties = parties;
+      able = able;
+      nominal = nominal;
+      legend = legend;
+      blank = o.blank;
+      null_votes = o.null_votes;
+      total = total;
+    } ≡ o
 same_office o candidates parties able nominal legend total c p a n l t =
-    ap (λ (x : List Count). record o { candidates = x; parties = parties; able = able; nominal = nominal; legend = legend; total = total }) c
+    ap (λ (x : List Count). record o
+    { candidates = x; parties = parties; able = able; nominal = nominal; legend = legend; total = total }) c
     ∙ (ap (λ (x : List SaidParty). record o { parties = x; able = able; nominal = nominal; legend = legend; total = total }) p
     ∙ (ap (λ (x : ℕ). record o { able = x; nominal = nominal; legend = legend; total = total }) a
     ∙ (ap (λ (x : ℕ). record o { nominal = x; legend = legend; total = total }) n
@@ -154,14 +182,17 @@ again_of b able o =
 nominal_of : (o : SaidOffice) → votes_of (count_of o).nominal ≡ all_nominal o
 nominal_of o = let both = votes_append o.candidates (all_candidates o.parties) in let flat = votes_flat o.parties in omega arith
 
-office_again : (s : Said) (o : SaidOffice) (b : Bool) → IsSaidOffice o → code_proportional o.code ≡ b → Pass (votes_fields b o) → SumsRight s b o → again_of b s.able o ≡ o
+office_again : (s : Said) (o : SaidOffice) (b : Bool) → IsSaidOffice o → code_proportional o.code ≡ b → Pass (votes_fields b o)
+    → SumsRight s b o → again_of b s.able o ≡ o
 office_again s o true h e votes sums =
     let digits : ℕ = digits_in o.code in
     let none = h.proportional e in
     let are = are_parties digits [] o.parties h.parties in
     let flat : (count_of o).nominal ≡ all_candidates o.parties = ap (λ (l : List Count). l ++ all_candidates o.parties) none in
-    let tells : Tells digits (λ k. candidates_of digits k (count_of o).nominal) (λ k. party_votes k (legends o.parties)) 10 o.parties = λ k l. (ap (λ (x : List Count). candidates_of digits k x) flat, refl) in
-    let parties = again digits (λ k. candidates_of digits k (count_of o).nominal) (λ k. party_votes k (legends o.parties)) 90 10 o.parties tells are (parties_right o.parties votes) (are_rising digits [] o.parties h.parties) (in_range digits o.parties are) in
+    let tells : Tells digits (λ k. candidates_of digits k (count_of o).nominal) (λ k. party_votes k (legends o.parties)) 10 o.parties =
+    λ k l. (ap (λ (x : List Count). candidates_of digits k x) flat, refl) in
+    let parties = again digits (λ k. candidates_of digits k (count_of o).nominal) (λ k. party_votes k (legends o.parties)) 90 10 o.parties
+    tells are (parties_right o.parties votes) (are_rising digits [] o.parties h.parties) (in_range digits o.parties are) in
     let nominal = nominal_of o ∙ sums.nominal in
     let legend = legends_sum o.parties ∙ sums.legend refl in
     let all = sums.all in
@@ -210,12 +241,15 @@ not_above digits g m n h = elim (cases_Bool (nat_lt m n)) [
 ]
 
 -- through the candidates of one party
-flat_party : (digits k : ℕ) → Grouped digits → (before inner cs rest : List Count) → Below digits k before → EachAfter (MayVoteIn digits k) inner cs
-    → ((all : List Count) → all ≡ inner ++ cs → EachAfter (MayVote digits) (before ++ all) rest) → EachAfter (MayVote digits) (before ++ inner) (cs ++ rest)
+flat_party : (digits k : ℕ) → Grouped digits → (before inner cs rest : List Count) → Below digits k before
+    → EachAfter (MayVoteIn digits k) inner cs
+    → ((all : List Count) → all ≡ inner ++ cs → EachAfter (MayVote digits) (before ++ all) rest)
+    → EachAfter (MayVote digits) (before ++ inner) (cs ++ rest)
 flat_party digits k g before inner [] rest b h next = next inner (sym (append-nil inner))
 flat_party digits k g before inner (c ∷ cs) rest b h next =
     let from : k ≤ first_two digits c.number = let same = h.0.0 in omega arith in
-    let here : is_above (numbers_of (before ++ inner)) c.number ≡ true = rw (numbers_append before inner) (above_both (numbers_of before) (numbers_of inner) c.number (b c.number from) h.0.1.1) in
+    let here : is_above (numbers_of (before ++ inner)) c.number ≡ true =
+    rw (numbers_append before inner) (above_both (numbers_of before) (numbers_of inner) c.number (b c.number from) h.0.1.1) in
     let P : List Count → Type 0 = λ l. EachAfter (MayVote digits) l (cs ++ rest) in (
       (h.0.1.0, here),
       subst P (sym (append_assoc before inner (c ∷ [])))
@@ -223,7 +257,8 @@ flat_party digits k g before inner (c ∷ cs) rest b h next =
     )
 
 -- the candidates of a party are below those of later ones
-below_later : (digits k j : ℕ) → Grouped digits → (inner cs : List Count) → k < j → EachAfter (MayVoteIn digits k) inner cs → (n : ℕ) → j ≤ first_two digits n → is_above (numbers_of cs) n ≡ true
+below_later : (digits k j : ℕ) → Grouped digits → (inner cs : List Count) → k < j → EachAfter (MayVoteIn digits k) inner cs → (n : ℕ)
+    → j ≤ first_two digits n → is_above (numbers_of cs) n ≡ true
 below_later digits k j g inner [] less h n l = refl
 below_later digits k j g inner (c ∷ cs) less h n l =
     let same = h.0.0 in
@@ -238,7 +273,8 @@ next_from : (k : ℕ) (ps : List SaidParty) → AllAbove k ps → From (k + 1) p
 next_from k [] h = tt
 next_from k (p ∷ ps) h = (let l = h.0 in omega arith, next_from k ps h.1)
 
-flat_may : (digits : ℕ) → Grouped digits → (k : ℕ) (before : List Count) (ps : List SaidParty) → Below digits k before → From k ps → Parties digits ps → Rising ps → EachAfter (MayVote digits) before (all_candidates ps)
+flat_may : (digits : ℕ) → Grouped digits → (k : ℕ) (before : List Count) (ps : List SaidParty) → Below digits k before → From k ps
+    → Parties digits ps → Rising ps → EachAfter (MayVote digits) before (all_candidates ps)
 flat_may digits g k before [] b f h r = tt
 flat_may digits g k before (p ∷ ps) b f h r =
     let P : List Count → Type 0 = λ l. EachAfter (MayVote digits) l (p.candidates ++ all_candidates ps) in
@@ -247,24 +283,35 @@ flat_may digits g k before (p ∷ ps) b f h r =
     (flat_party digits p.number g before [] p.candidates (all_candidates ps) here h.0.candidates
     (λ all e. let Q : List Count → Type 0 = λ l. EachAfter (MayVote digits) (before ++ l) (all_candidates ps) in
     subst Q (sym e) (flat_may digits g (p.number + 1) (before ++ p.candidates) ps
-    (λ n l. rw (numbers_append before p.candidates) (above_both (numbers_of before) (numbers_of p.candidates) n (here n (omega arith)) (below_later digits p.number (p.number + 1) g [] p.candidates (omega arith) h.0.candidates n l)))
+    (λ n l. rw (numbers_append before p.candidates)
+    (above_both (numbers_of before) (numbers_of p.candidates) n (here n (omega arith))
+    (below_later digits p.number (p.number + 1) g [] p.candidates (omega arith) h.0.candidates n l)))
     (next_from p.number ps r.0) h.1 r.1)))
 
 vote_range : (n : ℕ) → nat_lt 0 n ≡ true → is_between 0 9999 n ≡ true → is_between 1 9999 n ≡ true
 vote_range n h g = grind (arith, nat_tests)
 
-still_above : (before : List Count) (c : Count) (ps : List SaidParty) → AllAbove c.number ps → AllByRecursion (λ p. is_above (numbers_of before) p.number ≡ true) ps → AllByRecursion (λ p. is_above (numbers_of (before ++ c ∷ [])) p.number ≡ true) ps
+still_above : (before : List Count) (c : Count) (ps : List SaidParty) → AllAbove c.number ps
+    → AllByRecursion (λ p. is_above (numbers_of before) p.number ≡ true) ps
+    → AllByRecursion (λ p. is_above (numbers_of (before ++ c ∷ [])) p.number ≡ true) ps
 still_above before c [] l a = tt
-still_above before c (p ∷ ps) l a =
-    (rw (map-append (λ (x : Count). x.number) before (c ∷ [])) (above_snoc (numbers_of before) c.number p.number a.0 (lt-ltb c.number p.number l.0)), still_above before c ps l.1 a.1)
+still_above before c (p ∷ ps) l a = (
+  rw (map-append (λ (x : Count). x.number) before (c ∷ []))
+      (above_snoc (numbers_of before) c.number p.number a.0 (lt-ltb c.number p.number l.0)),
+  still_above before c ps l.1 a.1,
+)
 
-legends_may : (digits : ℕ) (before : List Count) (ps : List SaidParty) → Parties digits ps → Rising ps → AllByRecursion (λ p. is_above (numbers_of before) p.number ≡ true) ps → EachAfter MayLegend before (legends ps)
+legends_may : (digits : ℕ) (before : List Count) (ps : List SaidParty) → Parties digits ps → Rising ps
+    → AllByRecursion (λ p. is_above (numbers_of before) p.number ≡ true) ps → EachAfter MayLegend before (legends ps)
 legends_may digits before [] h r a = tt
 legends_may digits before (p ∷ ps) h r a =
     elim (cases_Bool (nat_lt 0 p.legend)) [
       | inl e ↦
           let c : Count = record { number = p.number; votes = p.legend } in
-          rw e ((h.0.number, vote_range p.legend e h.0.legend, a.0), legends_may digits (before ++ c ∷ []) ps h.1 r.1 (still_above before c ps r.0 a.1))
+          rw e (
+            (h.0.number, vote_range p.legend e h.0.legend, a.0),
+            legends_may digits (before ++ c ∷ []) ps h.1 r.1 (still_above before c ps r.0 a.1),
+          )
       | inr e ↦ rw e (legends_may digits before ps h.1 r.1 a.1)
     ]
 
@@ -276,7 +323,8 @@ from_ten : (digits : ℕ) (ps : List SaidParty) → Parties digits ps → From 0
 from_ten digits [] h = tt
 from_ten digits (p ∷ ps) h = (omega arith, from_ten digits ps h.1)
 
-count_is : (s : Said) (o : SaidOffice) (b : Bool) → IsSaidOffice o → code_proportional o.code ≡ b → SumsRight s b o → IsOfficeCount s.came (count_of o)
+count_is : (s : Said) (o : SaidOffice) (b : Bool) → IsSaidOffice o → code_proportional o.code ≡ b → SumsRight s b o
+    → IsOfficeCount s.came (count_of o)
 count_is s o true h e sums =
     let digits : ℕ = digits_in o.code in
     let are = are_parties digits [] o.parties h.parties in
@@ -286,7 +334,8 @@ count_is s o true h e sums =
     let legend = legends_sum o.parties ∙ sums.legend refl in
     let all = sums.all in let came = sums.came in
     record {
-      nominal = subst P (sym (h.proportional e)) (flat_may digits (grouped o.code e) 0 [] o.parties (λ n l. refl) (from_ten digits o.parties are) are rising);
+      nominal = subst P (sym (h.proportional e))
+          (flat_may digits (grouped o.code e) 0 [] o.parties (λ n l. refl) (from_ten digits o.parties are) are rising);
       parties = legends_may digits [] o.parties are rising (none_before o.parties);
       majority = λ other. let clash : true ≡ false = sym e ∙ other in absurd (cc);
       places = refl;
@@ -296,7 +345,8 @@ count_is s o false h e sums =
     let none = h.majority e in
     let digits : ℕ = digits_in o.code in
     let P : List Count → Type 0 = λ l. EachAfter (MayVote digits) [] l in
-    let candidates : (count_of o).nominal ≡ o.candidates = ap (λ (ps : List SaidParty). o.candidates ++ all_candidates ps) none.0 ∙ append-nil o.candidates in
+    let candidates : (count_of o).nominal ≡ o.candidates = ap (λ (ps : List SaidParty). o.candidates ++ all_candidates ps) none.0
+    ∙ append-nil o.candidates in
     let parties : legends o.parties ≡ [] = ap (λ (ps : List SaidParty). legends ps) none.0 in
     let Q : List Count → Type 0 = λ l. EachAfter MayLegend [] l in
     let nominal = nominal_of o ∙ sums.nominal in
@@ -329,7 +379,8 @@ office_pass s o h =
     let both = pass_left (votes_fields (code_proportional o.code) o) (sum_fields s (code_proportional o.code) o) h.1.1 in
     record { votes = both.0; sums = sums_right s (code_proportional o.code) o both.1 }
 
-offices_are : (s : Said) (before os : List SaidOffice) → EachAfter MayOffice before os → Pass (flat_map (office_fields s) os) → EachAfter (MayCount s.came) (map count_of before) (map count_of os)
+offices_are : (s : Said) (before os : List SaidOffice) → EachAfter MayOffice before os → Pass (flat_map (office_fields s) os)
+    → EachAfter (MayCount s.came) (map count_of before) (map count_of os)
 offices_are s before [] h p = tt
 offices_are s before (o ∷ os) h p =
     let both = pass_left (office_fields s o) (flat_map (office_fields s) os) p in
@@ -340,7 +391,8 @@ offices_are s before (o ∷ os) h p =
       subst Q (counts_snoc before o) (offices_are s (before ++ o ∷ []) os h.1 both.1),
     )
 
-offices_again : (s : Said) (before os : List SaidOffice) → EachAfter MayOffice before os → Pass (flat_map (office_fields s) os) → map (said_office (report_of s)) (map count_of os) ≡ os
+offices_again : (s : Said) (before os : List SaidOffice) → EachAfter MayOffice before os → Pass (flat_map (office_fields s) os)
+    → map (said_office (report_of s)) (map count_of os) ≡ os
 offices_again s before [] h p = refl
 offices_again s before (o ∷ os) h p =
     let both = pass_left (office_fields s o) (flat_map (office_fields s) os) p in
@@ -378,8 +430,10 @@ moment_is d t hd ht =
     let hours : moment d t / 10000 % 100 ≡ t / 10000 = omega arith in
     let minutes : moment d t / 100 % 100 ≡ t / 100 % 100 = omega arith in
     let seconds : moment d t % 100 ≡ t % 100 = omega arith in
-    all_true (is_date (moment d t / 1000000)) (is_between 0 23 (moment d t / 10000 % 100)) (is_between 0 59 (moment d t / 100 % 100)) (is_between 0 59 (moment d t % 100))
-    (ap (λ (n : ℕ). is_date n) day ∙ hd) (ap (λ (n : ℕ). is_between 0 23 n) hours ∙ parts.0) (ap (λ (n : ℕ). is_between 0 59 n) minutes ∙ parts.1) (ap (λ (n : ℕ). is_between 0 59 n) seconds ∙ parts.2)
+    all_true (is_date (moment d t / 1000000)) (is_between 0 23 (moment d t / 10000 % 100)) (is_between 0 59 (moment d t / 100 % 100))
+    (is_between 0 59 (moment d t % 100))
+    (ap (λ (n : ℕ). is_date n) day ∙ hd) (ap (λ (n : ℕ). is_between 0 23 n) hours ∙ parts.0)
+    (ap (λ (n : ℕ). is_between 0 59 n) minutes ∙ parts.1) (ap (λ (n : ℕ). is_between 0 59 n) seconds ∙ parts.2)
 
 record HeadRight (s : Said) : Type 0 where
   voters : s.came + s.missed ≡ s.able
@@ -387,7 +441,10 @@ record HeadRight (s : Said) : Type 0 where
 
 head_right : (s : Said) → Pass (map (head_field s) (zip head_rows (head_values s))) → HeadRight s
 unfolding head_rows
-head_right s h = record { voters = equal_from (s.came + s.missed) s.able h.1.1.1.1.1.1.1.1.0; order = order_from _ _ h.1.1.1.1.1.1.1.1.1.1.1.1.0 }
+head_right s h = record {
+  voters = equal_from (s.came + s.missed) s.able h.1.1.1.1.1.1.1.1.0;
+  order = order_from _ _ h.1.1.1.1.1.1.1.1.1.1.1.1.0;
+}
 
 at_most_9999 : (n : ℕ) → is_between 0 9999 n ≡ true → n ≤ 9999
 at_most_9999 n h = grind (arith, nat_tests)
@@ -427,9 +484,23 @@ said_again s h right pass =
     let m1 : ℕ = moment s.open_date s.open_time in
     let m2 : ℕ = moment s.close_date s.close_time in
     let os : List SaidOffice = map (said_office (report_of s)) (map count_of s.offices) in
-    ap (λ (n : ℕ). record s { missed = n; open_date = m1 / 1000000; open_time = m1 % 1000000; close_date = m2 / 1000000; close_time = m2 % 1000000; offices = os }) missed
-    ∙ (ap (λ (n : ℕ). record s { open_date = n; open_time = m1 % 1000000; close_date = m2 / 1000000; close_time = m2 % 1000000; offices = os }) (date_back s.open_date s.open_time opens)
-    ∙ (ap (λ (n : ℕ). record s { open_time = n; close_date = m2 / 1000000; close_time = m2 % 1000000; offices = os }) (time_back s.open_date s.open_time opens)
+    ap (λ (n : ℕ). record s {
+      missed = n;
+      open_date = m1 / 1000000;
+      open_time = m1 % 1000000;
+      close_date = m2 / 1000000;
+      close_time = m2 % 1000000;
+      offices = os;
+    }) missed
+    ∙ (ap (λ (n : ℕ). record s {
+      open_date = n;
+      open_time = m1 % 1000000;
+      close_date = m2 / 1000000;
+      close_time = m2 % 1000000;
+      offices = os;
+    }) (date_back s.open_date s.open_time opens)
+    ∙ (ap (λ (n : ℕ). record s { open_time = n; close_date = m2 / 1000000; close_time = m2 % 1000000; offices = os })
+    (time_back s.open_date s.open_time opens)
     ∙ (ap (λ (n : ℕ). record s { close_date = n; close_time = m2 % 1000000; offices = os }) (date_back s.close_date s.close_time closes)
     ∙ (ap (λ (n : ℕ). record s { close_time = n; offices = os }) (time_back s.close_date s.close_time closes)
     ∙ ap (λ (l : List SaidOffice). record s { offices = l }) (offices_again s [] s.offices h.offices pass)))))

@@ -31,7 +31,8 @@ own_candidates digits k before (c ∷ cs) h =
 other_number : (m n : ℕ) → (m ≡ n → ⊥) → (m == n) ≡ false
 other_number m n h = elim (cases_Bool (m == n)) [ inl e ↦ absurd (h (eqb-true m n e)) | inr e ↦ e ]
 
-foreign_candidates : (digits j k : ℕ) (before cs : List Count) → (j ≡ k → ⊥) → EachAfter (MayVoteIn digits j) before cs → candidates_of digits k cs ≡ []
+foreign_candidates : (digits j k : ℕ) (before cs : List Count) → (j ≡ k → ⊥) → EachAfter (MayVoteIn digits j) before cs
+    → candidates_of digits k cs ≡ []
 foreign_candidates digits j k before [] differ h = refl
 foreign_candidates digits j k before (c ∷ cs) differ h =
     let not_mine : (first_two digits c.number == k) ≡ false = ap (λ (n : ℕ). n == k) h.0.0 ∙ other_number j k differ in
@@ -87,10 +88,12 @@ made C V k = record { number = k; candidates = C k; legend = V k; total = votes_
 abbrev pub Tells : ℕ → (ℕ → List Count) → (ℕ → ℕ) → ℕ → List SaidParty → Type 0
 Tells digits C V a ps = (k : ℕ) → a ≤ k → (C k ≡ candidates_of digits k (all_candidates ps)) × (V k ≡ party_votes k (legends ps))
 
-skip_candidates : (digits k : ℕ) (p : SaidParty) (ps : List SaidParty) → IsSaidParty digits p → p.number < k → candidates_of digits k (all_candidates (p ∷ ps)) ≡ candidates_of digits k (all_candidates ps)
+skip_candidates : (digits k : ℕ) (p : SaidParty) (ps : List SaidParty) → IsSaidParty digits p → p.number < k
+    → candidates_of digits k (all_candidates (p ∷ ps)) ≡ candidates_of digits k (all_candidates ps)
 skip_candidates digits k p ps h less =
     filter-append (λ c. first_two digits c.number == k) p.candidates (all_candidates ps)
-    ∙ ap (λ (l : List Count). l ++ candidates_of digits k (all_candidates ps)) (foreign_candidates digits p.number k [] p.candidates (λ e. omega arith) h.candidates)
+    ∙ ap (λ (l : List Count). l ++ candidates_of digits k (all_candidates ps))
+    (foreign_candidates digits p.number k [] p.candidates (λ e. omega arith) h.candidates)
 
 skip_legend : (k : ℕ) (p : SaidParty) (ps : List SaidParty) → p.number < k → party_votes k (legends (p ∷ ps)) ≡ party_votes k (legends ps)
 skip_legend k p ps less =
@@ -111,19 +114,22 @@ range_up a n (p ∷ ps) l r = (let x = l.0 in let y = r.0.1 in (omega arith, ome
 kept_total : (n : ℕ) → is_between 1 9999 n ≡ true → nat_lt 0 n ≡ true
 kept_total n h = grind (arith, nat_tests)
 
-made_is : (C : ℕ → List Count) (V : ℕ → ℕ) (p : SaidParty) → C p.number ≡ p.candidates → V p.number ≡ p.legend → votes_of p.candidates + p.legend ≡ p.total → made C V p.number ≡ p
+made_is : (C : ℕ → List Count) (V : ℕ → ℕ) (p : SaidParty) → C p.number ≡ p.candidates → V p.number ≡ p.legend
+    → votes_of p.candidates + p.legend ≡ p.total → made C V p.number ≡ p
 made_is C V p c v t =
     ap (λ (l : List Count). record { number = p.number; candidates = l; legend = V p.number; total = votes_of l + V p.number }) c
     ∙ (ap (λ (n : ℕ). record { number = p.number; candidates = p.candidates; legend = n; total = votes_of p.candidates + n }) v
     ∙ ap (λ (n : ℕ). record { number = p.number; candidates = p.candidates; legend = p.legend; total = n }) t)
 
-again_none : (digits : ℕ) (C : ℕ → List Count) (V : ℕ → ℕ) (n a : ℕ) → Tells digits C V a [] → filter some_votes (map (made C V) (range_with_len a n)) ≡ []
+again_none : (digits : ℕ) (C : ℕ → List Count) (V : ℕ → ℕ) (n a : ℕ) → Tells digits C V a []
+    → filter some_votes (map (made C V) (range_with_len a n)) ≡ []
 again_none digits C V zero a h = refl
 again_none digits C V (suc n) a h =
     let here = h a (omega arith) in
     rw (dropped C V a here.0 here.1) (again_none digits C V n (a + 1) (λ k l. h k (omega arith)))
 
-pub again : (digits : ℕ) (C : ℕ → List Count) (V : ℕ → ℕ) (n a : ℕ) (ps : List SaidParty) → Tells digits C V a ps → Parties digits ps → Right ps → Rising ps → InRange a n ps
+pub again : (digits : ℕ) (C : ℕ → List Count) (V : ℕ → ℕ) (n a : ℕ) (ps : List SaidParty) → Tells digits C V a ps → Parties digits ps
+    → Right ps → Rising ps → InRange a n ps
     → filter some_votes (map (made C V) (range_with_len a n)) ≡ ps
 again digits C V n a [] h parties right rising range = again_none digits C V n a h
 again digits C V zero a (p ∷ ps) h parties right rising range = absurd (let x = range.0.0 in let y = range.0.1 in omega arith)
@@ -134,16 +140,20 @@ again digits C V (suc n) a (p ∷ ps) h parties right rising range =
           let here = h p.number (omega arith) in
           let own : C p.number ≡ p.candidates = here.0
           ∙ (filter-append (λ c. first_two digits c.number == p.number) p.candidates (all_candidates ps)
-          ∙ (ap (λ (l : List Count). l ++ candidates_of digits p.number (all_candidates ps)) (own_candidates digits p.number [] p.candidates parties.0.candidates)
+          ∙ (ap (λ (l : List Count). l ++ candidates_of digits p.number (all_candidates ps))
+          (own_candidates digits p.number [] p.candidates parties.0.candidates)
           ∙ (ap (λ (l : List Count). p.candidates ++ l) (none_later digits p.number ps parties.1 rising.0) ∙ append-nil p.candidates))) in
           let legend : V p.number ≡ p.legend = here.1 ∙ own_legend p ps rising.0 in
           let is : made C V p.number ≡ p = made_is C V p own legend right.0 in
-          let kept : some_votes (made C V a) ≡ true = ap (λ (k : ℕ). some_votes (made C V k)) (sym same) ∙ (ap (λ (q : SaidParty). some_votes q) is ∙ kept_total p.total parties.0.total) in
+          let kept : some_votes (made C V a) ≡ true = ap (λ (k : ℕ). some_votes (made C V k)) (sym same)
+          ∙ (ap (λ (q : SaidParty). some_votes q) is ∙ kept_total p.total parties.0.total) in
           let above : AllAbove a ps = let P : ℕ → Type 0 = λ k. AllAbove k ps in subst P same rising.0 in
           let rest = again digits C V n (a + 1) ps
-          (λ k l. let t = h k (omega arith) in (t.0 ∙ skip_candidates digits k p ps parties.0 (omega arith), t.1 ∙ skip_legend k p ps (omega arith)))
+          (λ k l. let t = h k (omega arith) in
+          (t.0 ∙ skip_candidates digits k p ps parties.0 (omega arith), t.1 ∙ skip_legend k p ps (omega arith)))
           parties.1 right.1 rising.1 (range_up a n ps above range.1) in
-          rw kept (ap (λ (l : List SaidParty). made C V a ∷ l) rest ∙ ap (λ (q : SaidParty). q ∷ ps) (ap (λ (k : ℕ). made C V k) (sym same) ∙ is))
+          rw kept (ap (λ (l : List SaidParty). made C V a ∷ l) rest
+          ∙ ap (λ (q : SaidParty). q ∷ ps) (ap (λ (k : ℕ). made C V k) (sym same) ∙ is))
       | inr e ↦
           let over : a < p.number = strictly p.number a e range.0.0 in
           let all : AllAbove a (p ∷ ps) = (over, above_from a ps p over rising.0) in

@@ -39,7 +39,8 @@ office_of proportional r o = record {
 total_is : (came : ℕ) (o : OfficeCount) → IsOfficeCount came o → votes_of o.nominal + votes_of o.parties + o.blank + o.null_votes ≡ came
 total_is came o h = let one = ap (λ (n : ℕ). came * n) h.places in let all = h.total in omega arith
 
-is_office : (r : Report) (o : OfficeCount) (b : Bool) → r.able ≤ 9999 → r.came ≤ r.able → IsOfficeCount r.came o → code_proportional o.code ≡ b → IsSaidOffice (office_of b r o)
+is_office : (r : Report) (o : OfficeCount) (b : Bool) → r.able ≤ 9999 → r.came ≤ r.able → IsOfficeCount r.came o
+    → code_proportional o.code ≡ b → IsSaidOffice (office_of b r o)
 is_office r o true able came h e =
     let all = total_is r.came o h in
     record {
@@ -73,11 +74,13 @@ codes_same : (r : Report) (os : List OfficeCount) → codes_in (map (said_office
 codes_same r [] = refl
 codes_same r (o ∷ os) = ap (λ (l : List ℕ). o.code ∷ l) (codes_same r os)
 
-offices_snoc : (r : Report) (os : List OfficeCount) (o : OfficeCount) → map (said_office r) (os ++ o ∷ []) ≡ map (said_office r) os ++ said_office r o ∷ []
+offices_snoc : (r : Report) (os : List OfficeCount) (o : OfficeCount)
+    → map (said_office r) (os ++ o ∷ []) ≡ map (said_office r) os ++ said_office r o ∷ []
 offices_snoc r [] o = refl
 offices_snoc r (p ∷ os) o = ap (λ (l : List SaidOffice). said_office r p ∷ l) (offices_snoc r os o)
 
-offices_may : (r : Report) (before os : List OfficeCount) → r.able ≤ 9999 → r.came ≤ r.able → EachAfter (MayCount r.came) before os → EachAfter MayOffice (map (said_office r) before) (map (said_office r) os)
+offices_may : (r : Report) (before os : List OfficeCount) → r.able ≤ 9999 → r.came ≤ r.able → EachAfter (MayCount r.came) before os
+    → EachAfter MayOffice (map (said_office r) before) (map (said_office r) os)
 offices_may r before [] able came h = tt
 offices_may r before (o ∷ os) able came h =
     let P : List ℕ → Type 0 = λ l. may_have_code l o.code ≡ true in
@@ -92,7 +95,11 @@ some_map r (o ∷ os) h = omega arith
 
 pub is_said : (r : Report) → IsReport r → IsSaid (said r)
 unfolding said
-is_said r h = record { head = head_fits r h; some = some_map r r.offices h.some; offices = offices_may r [] r.offices h.able h.came h.offices }
+is_said r h = record {
+  head = head_fits r h;
+  some = some_map r r.offices h.some;
+  offices = offices_may r [] r.offices h.able h.came h.offices;
+}
 
 -- ---- its tests pass
 
@@ -109,10 +116,14 @@ pass_votes (c ∷ cs) = (refl, pass_votes cs)
 
 pass_party : (digits : ℕ) (o : OfficeCount) (k : ℕ) → Pass (party_fields (said_party digits o k))
 pass_party digits o k =
-    let p : SaidParty = said_party digits o k in
-    (refl, pass_append (map vote_field p.candidates) _ (pass_votes p.candidates) (refl, (equal_passes (votes_of p.candidates + p.legend) p.total refl, tt)))
+    let p : SaidParty = said_party digits o k in (
+      refl,
+      pass_append (map vote_field p.candidates) _ (pass_votes p.candidates)
+          (refl, (equal_passes (votes_of p.candidates + p.legend) p.total refl, tt)),
+    )
 
-pass_parties : (digits : ℕ) (o : OfficeCount) (ks : List ℕ) → Pass (flat_map party_fields (filter some_votes (map (said_party digits o) ks)))
+pass_parties : (digits : ℕ) (o : OfficeCount) (ks : List ℕ)
+    → Pass (flat_map party_fields (filter some_votes (map (said_party digits o) ks)))
 pass_parties digits o [] = tt
 pass_parties digits o (k ∷ ks) = elim (cases_Bool (some_votes (said_party digits o k))) [
   | inl e ↦ rw e (pass_append (party_fields (said_party digits o k)) _ (pass_party digits o k) (pass_parties digits o ks))
@@ -120,21 +131,32 @@ pass_parties digits o (k ∷ ks) = elim (cases_Bool (some_votes (said_party digi
 ]
 
 total_passes : (a b c : ℕ) → a ≡ c → b ≡ c → failing (Equals a c ∷ Equals b c ∷ []) ≡ None
-total_passes a b c e d = let first : (a == c) ≡ true = grind (arith, nat_tests) in let second : (b == c) ≡ true = grind (arith, nat_tests) in rw (first, second) refl
+total_passes a b c e d = let first : (a == c) ≡ true = grind (arith, nat_tests) in let second : (b == c) ≡ true =
+    grind (arith, nat_tests) in rw (first, second) refl
 
 -- an office whose sums are right
-pass_sums : (s : Said) (b : Bool) (o : SaidOffice) → s.able ≡ o.able → all_nominal o ≡ o.nominal → all_legend o ≡ o.legend → o.nominal + o.legend + o.blank + o.null_votes ≡ o.total → s.came ≡ o.total → Pass (sum_fields s b o)
-pass_sums s true o able nominal legend total came =
-    (equal_passes s.able o.able able, (equal_passes (all_nominal o) o.nominal nominal, (equal_passes (all_legend o) o.legend legend, (refl, (refl, (total_passes _ s.came o.total total came, tt))))))
-pass_sums s false o able nominal legend total came =
-    (equal_passes s.able o.able able, (equal_passes (all_nominal o) o.nominal nominal, (refl, (refl, (total_passes _ s.came o.total total came, tt)))))
+pass_sums : (s : Said) (b : Bool) (o : SaidOffice) → s.able ≡ o.able → all_nominal o ≡ o.nominal → all_legend o ≡ o.legend
+    → o.nominal + o.legend + o.blank + o.null_votes ≡ o.total → s.came ≡ o.total → Pass (sum_fields s b o)
+pass_sums s true o able nominal legend total came = (
+  equal_passes s.able o.able able,
+  (
+    equal_passes (all_nominal o) o.nominal nominal,
+    (equal_passes (all_legend o) o.legend legend, (refl, (refl, (total_passes _ s.came o.total total came, tt)))),
+  ),
+)
+pass_sums s false o able nominal legend total came = (
+  equal_passes s.able o.able able,
+  (equal_passes (all_nominal o) o.nominal nominal, (refl, (refl, (total_passes _ s.came o.total total came, tt)))),
+)
 
-pass_office : (s : Said) (r : Report) (o : OfficeCount) (b : Bool) → s.able ≡ r.able → s.came ≡ r.came → IsOfficeCount r.came o → code_proportional o.code ≡ b
+pass_office : (s : Said) (r : Report) (o : OfficeCount) (b : Bool) → s.able ≡ r.able → s.came ≡ r.came → IsOfficeCount r.came o
+    → code_proportional o.code ≡ b
     → Pass (votes_fields b (office_of b r o) ++ sum_fields s b (office_of b r o))
 pass_office s r o true able came h e =
     let n : SaidOffice = office_of true r o in
     let kept = kept_sums (digits_in o.code) o (range_with_len 10 90) in
-    let nominal : all_nominal n ≡ votes_of o.nominal = let a = kept.0 ∙ nominal_groups (digits_in o.code) (grouped o.code e) o.nominal h.nominal in omega arith in
+    let nominal : all_nominal n ≡ votes_of o.nominal = let a = kept.0
+    ∙ nominal_groups (digits_in o.code) (grouped o.code e) o.nominal h.nominal in omega arith in
     let legend : all_legend n ≡ votes_of o.parties = kept.1 ∙ legend_groups o.parties h.parties in
     pass_append (flat_map party_fields (said_parties o)) (sum_fields s true n) (pass_parties (digits_in o.code) o (range_with_len 10 90))
     (pass_sums s true n able nominal legend refl (came ∙ sym (total_is r.came o h)))
@@ -144,7 +166,8 @@ pass_office s r o false able came h e =
     pass_append (map vote_field o.nominal) (sum_fields s false n) (pass_votes o.nominal)
     (pass_sums s false n able (omega arith) legend refl (came ∙ sym (total_is r.came o h)))
 
-pass_offices : (s : Said) (r : Report) (before os : List OfficeCount) → s.able ≡ r.able → s.came ≡ r.came → EachAfter (MayCount r.came) before os → Pass (flat_map (office_fields s) (map (said_office r) os))
+pass_offices : (s : Said) (r : Report) (before os : List OfficeCount) → s.able ≡ r.able → s.came ≡ r.came
+    → EachAfter (MayCount r.came) before os → Pass (flat_map (office_fields s) (map (said_office r) os))
 pass_offices s r before [] able came h = tt
 pass_offices s r before (o ∷ os) able came h =
     pass_append (office_fields s (said_office r o)) (flat_map (office_fields s) (map (said_office r) os))
@@ -187,7 +210,11 @@ pass_head r h =
                           refl,
                           (
                             refl,
-                            (order_passes (moment (r.opened / 1000000) (r.opened % 1000000)) (moment (r.closed / 1000000) (r.closed % 1000000)) (omega arith), tt),
+                            (
+                              order_passes (moment (r.opened / 1000000) (r.opened % 1000000))
+                                  (moment (r.closed / 1000000) (r.closed % 1000000)) (omega arith),
+                              tt,
+                            ),
                           ),
                         ),
                       ),
@@ -203,4 +230,5 @@ pass_head r h =
 
 pub passes : (r : Report) → IsReport r → Pass (fields (said r))
 unfolding fields said
-passes r h = pass_append _ (flat_map (office_fields (said r)) (said r).offices) (pass_head r h) (pass_offices (said r) r [] r.offices refl refl h.offices)
+passes r h = pass_append _ (flat_map (office_fields (said r)) (said r).offices) (pass_head r h)
+    (pass_offices (said r) r [] r.offices refl refl h.offices)

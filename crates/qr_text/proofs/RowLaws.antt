@@ -65,7 +65,8 @@ only_back : (form : Form) (v w : ℕ) → only_fitting form v ≡ Some w → (fi
 only_back form v w e = let both = guard_some (fits form v) (Some v) w e in let same : v ≡ w = cc in (rw (← same) both.0, same)
 
 -- where a step behind an option gives something, the option does
-pub and_then_some : {A B : Type 0} (o : Option A) (f : A → Option B) (y : B) → option_and_then f o ≡ Some y → (x : A) × (o ≡ Some x) × (f x ≡ Some y)
+pub and_then_some : {A B : Type 0} (o : Option A) (f : A → Option B) (y : B) → option_and_then f o ≡ Some y
+    → (x : A) × (o ≡ Some x) × (f x ≡ Some y)
 and_then_some None f y e = cc
 and_then_some (Some x) f y e = (x, refl, e)
 
@@ -104,7 +105,8 @@ number_back r p v e =
     let outer = and_then_some (option_and_then (after_word (58 ∷ [])) (after_word r.key p)) (value_at r.form) v e in
     let colon = and_then_some (after_word r.key p) (after_word (58 ∷ [])) outer.0 outer.1 in
     let text = value_back r.form outer.0 v outer.2 in
-    let behind : colon.0 ≡ 58 ∷ value_text r.form v = after_word-back (58 ∷ []) colon.0 outer.0 colon.2 ∙ ap (λ (x : List ℕ). 58 ∷ x) text.0 in
+    let behind : colon.0 ≡ 58 ∷ value_text r.form v = after_word-back (58 ∷ []) colon.0 outer.0 colon.2
+    ∙ ap (λ (x : List ℕ). 58 ∷ x) text.0 in
     (after_word-back r.key p colon.0 colon.1 ∙ ap (λ (x : List ℕ). r.key ++ x) behind, text.1)
 
 -- ---- a candidate's field
@@ -124,7 +126,8 @@ all_digits : (v : ℕ) → v < 10 ^ 18 → list_all is_digit (decimal v) ≡ tru
 all_digits v s = (decimal_value-some (decimal v) v (decimal_value-decimal v s)).0.all
 
 vote_small : (digits : ℕ) (c : Count) → is_vote digits c ≡ true → c.votes < 10 ^ 18
-vote_small digits c e = let few = (both_from_and (has_digits digits c.number) (is_some_votes c.votes) e).1 in between_small 1 9999 c.votes few (lit< tt)
+vote_small digits c e = let few = (both_from_and (has_digits digits c.number) (is_some_votes c.votes) e).1 in
+    between_small 1 9999 c.votes few (lit< tt)
 
 -- the numbers of candidates are small
 pub number_small : (code : ℕ) (c : Count) → is_vote (digits_in code) c ≡ true → c.number < 10 ^ 18
@@ -133,13 +136,15 @@ number_small code c e =
     let few = has_digits-below (digits_in code) c.number (digits_few code) has in
     omega arith
 
-pub vote_again : (digits : ℕ) (c : Count) → c.number < 10 ^ 18 → is_vote digits c ≡ true → vote_at digits (field_text (vote_row c.number) c.votes) ≡ Some c
+pub vote_again : (digits : ℕ) (c : Count) → c.number < 10 ^ 18 → is_vote digits c ≡ true
+    → vote_at digits (field_text (vote_row c.number) c.votes) ≡ Some c
 unfolding vote_at
 vote_again digits c small e =
     let votes_small : c.votes < 10 ^ 18 = vote_small digits c e in
     let number = decimal_value-decimal c.number small in
     let votes = decimal_value-decimal c.votes votes_small in
-    let first = slice_split_at is_colon (decimal c.number) 58 (decimal c.votes) (no_colons (decimal c.number) (all_digits c.number small)) refl in
+    let first = slice_split_at is_colon (decimal c.number) 58 (decimal c.votes)
+    (no_colons (decimal c.number) (all_digits c.number small)) refl in
     let second = slice_split_none is_colon (decimal c.votes) (no_colons (decimal c.votes) (all_digits c.votes votes_small)) in
     rw (first, second, number, votes, e) refl
 
@@ -162,16 +167,20 @@ vote_of_none digits a (b ∷ []) h = rw h refl
 vote_of_none digits a (b ∷ c ∷ more) h = refl
 
 -- a field whose key is no number is no candidate's
-pub vote_none : (digits : ℕ) (key t : List ℕ) → list_all not_colon key ≡ true → decimal_value key ≡ None → vote_at digits (key ++ 58 ∷ t) ≡ None
+pub vote_none : (digits : ℕ) (key t : List ℕ) → list_all not_colon key ≡ true → decimal_value key ≡ None
+    → vote_at digits (key ++ 58 ∷ t) ≡ None
 unfolding vote_at
-vote_none digits key t h n = rw (slice_split_at is_colon key 58 t (no_colon_in key h) refl) (vote_of_none digits key (slice_split is_colon t) n)
+vote_none digits key t h n = rw (slice_split_at is_colon key 58 t (no_colon_in key h) refl)
+    (vote_of_none digits key (slice_split is_colon t) n)
 
 -- a candidate's field that was read is the one that is written
-pub vote_back : (digits : ℕ) (p : List ℕ) (c : Count) → vote_at digits p ≡ Some c → (p ≡ field_text (vote_row c.number) c.votes) × (is_vote digits c ≡ true)
+pub vote_back : (digits : ℕ) (p : List ℕ) (c : Count) → vote_at digits p ≡ Some c
+    → (p ≡ field_text (vote_row c.number) c.votes) × (is_vote digits c ≡ true)
 unfolding vote_at
 vote_back digits p c e = split_back digits p c (slice_split is_colon p) (join_with_byte-slice_split 58 p) e
   where
-    pair_back : (a b : List ℕ) → a ++ 58 ∷ b ≡ p → vote_of digits (a ∷ b ∷ []) ≡ Some c → (p ≡ field_text (vote_row c.number) c.votes) × (is_vote digits c ≡ true)
+    pair_back : (a b : List ℕ) → a ++ 58 ∷ b ≡ p → vote_of digits (a ∷ b ∷ []) ≡ Some c
+        → (p ≡ field_text (vote_row c.number) c.votes) × (is_vote digits c ≡ true)
     pair_back a b whole e =
         let first = and_then_some (decimal_value a) (λ number. option_and_then (vote_with digits number) (decimal_value b)) c e in
         let second = and_then_some (decimal_value b) (vote_with digits first.0) c first.2 in
@@ -179,9 +188,14 @@ vote_back digits p c e = split_back digits p c (slice_split is_colon p) (join_wi
         let both = guard_some (is_vote digits found) (Some found) c second.2 in
         let same : found ≡ c = cc in
         let P : Count → Type 0 = λ x. (p ≡ field_text (vote_row x.number) x.votes) × (is_vote digits x ≡ true) in
-        subst P same (sym whole ∙ (ap (λ (x : List ℕ). x ++ 58 ∷ b) (sym (decimal-decimal_value a first.0 first.1)) ∙ ap (λ (x : List ℕ). decimal first.0 ++ 58 ∷ x) (sym (decimal-decimal_value b second.0 second.1))), both.0)
+        subst P same (
+          sym whole ∙ (ap (λ (x : List ℕ). x ++ 58 ∷ b) (sym (decimal-decimal_value a first.0 first.1))
+              ∙ ap (λ (x : List ℕ). decimal first.0 ++ 58 ∷ x) (sym (decimal-decimal_value b second.0 second.1))),
+          both.0,
+        )
 
-    split_back : (digits' : ℕ) (p' : List ℕ) (c' : Count) (parts : List (List ℕ)) → join_with_byte 58 parts ≡ p → vote_of digits parts ≡ Some c → (p ≡ field_text (vote_row c.number) c.votes) × (is_vote digits c ≡ true)
+    split_back : (digits' : ℕ) (p' : List ℕ) (c' : Count) (parts : List (List ℕ)) → join_with_byte 58 parts ≡ p
+        → vote_of digits parts ≡ Some c → (p ≡ field_text (vote_row c.number) c.votes) × (is_vote digits c ≡ true)
     split_back d q x [] whole e = absurd (cc)
     split_back d q x (a ∷ []) whole e = absurd (cc)
     split_back d q x (a ∷ b ∷ []) whole e = pair_back a b whole e

@@ -32,13 +32,28 @@ text_of_two_offices = refl
 two_offices_is_report : IsReport two_offices
 unfolding is_date is_moment row_of
 two_offices_is_report = record {
-  process = refl; date = refl; turn = refl; zone = refl; section = refl;
-  able = lit≤ tt; came = lit≤ tt; opened = refl; closed = refl; order = lit≤ tt; some = lit< tt;
+  process = refl;
+  date = refl;
+  turn = refl;
+  zone = refl;
+  section = refl;
+  able = lit≤ tt;
+  came = lit≤ tt;
+  opened = refl;
+  closed = refl;
+  order = lit≤ tt;
+  some = lit< tt;
   offices = (
-    (refl, record {
-      nominal = ((refl, refl), tt); parties = ((refl, refl, refl), tt);
-      majority = λ e. let other : true ≡ false = e in absurd (cc); places = refl; total = refl;
-    }),
+    (
+      refl,
+      record {
+        nominal = ((refl, refl), tt);
+        parties = ((refl, refl, refl), tt);
+        majority = λ e. let other : true ≡ false = e in absurd (cc);
+        places = refl;
+        total = refl;
+      },
+    ),
     ((refl, record { nominal = ((refl, refl), ((refl, refl), tt)); parties = tt; majority = λ e. refl; places = refl; total = refl }), tt),
   );
 }

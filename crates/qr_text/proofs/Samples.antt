@@ -10,8 +10,15 @@ counted number votes = record { number = number; votes = votes }
 -- one voter, who chose the candidate 13 of a majority office
 abbrev pub one_voter : Report
 one_voter = record {
-  process = 7; date = 20261004; turn = 1; zone = 1; section = 42; able = 1; came = 1;
-  opened = 20261004080000; closed = 20261004170000;
+  process = 7;
+  date = 20261004;
+  turn = 1;
+  zone = 1;
+  section = 42;
+  able = 1;
+  came = 1;
+  opened = 20261004080000;
+  closed = 20261004170000;
   offices = record { code = 11; places = 1; nominal = counted 13 1 ∷ []; parties = []; blank = 0; null_votes = 0 } ∷ [];
 }
 
@@ -19,8 +26,15 @@ one_voter = record {
 -- two candidates and null.
 abbrev pub two_offices : Report
 two_offices = record {
-  process = 7; date = 20261004; turn = 1; zone = 1; section = 42; able = 3; came = 3;
-  opened = 20261004080000; closed = 20261004170000;
+  process = 7;
+  date = 20261004;
+  turn = 1;
+  zone = 1;
+  section = 42;
+  able = 3;
+  came = 3;
+  opened = 20261004080000;
+  closed = 20261004170000;
   offices =
       record { code = 13; places = 1; nominal = counted 13001 1 ∷ []; parties = counted 45 1 ∷ []; blank = 1; null_votes = 0 }
       ∷ record { code = 11; places = 1; nominal = counted 13 1 ∷ counted 45 1 ∷ []; parties = []; blank = 0; null_votes = 1 }

@@ -31,9 +31,12 @@ by_parts true true false d h = absurd (cc)
 by_parts true false c d h = absurd (cc)
 by_parts false b c d h = absurd (cc)
 
-moment_parts : (n : ℕ) → is_moment n ≡ true → (is_date (n / 1000000) ≡ true) × (is_between 0 23 (n / 10000 % 100) ≡ true) × (is_between 0 59 (n / 100 % 100) ≡ true) × (is_between 0 59 (n % 100) ≡ true)
+moment_parts : (n : ℕ) → is_moment n ≡ true
+    → (is_date (n / 1000000) ≡ true) × (is_between 0 23 (n / 10000 % 100) ≡ true) × (is_between 0 59 (n / 100 % 100) ≡ true)
+    × (is_between 0 59 (n % 100) ≡ true)
 unfolding is_moment
-moment_parts n h = by_parts (is_date (n / 1000000)) (is_between 0 23 (n / 10000 % 100)) (is_between 0 59 (n / 100 % 100)) (is_between 0 59 (n % 100)) h
+moment_parts n h = by_parts (is_date (n / 1000000)) (is_between 0 23 (n / 10000 % 100)) (is_between 0 59 (n / 100 % 100))
+    (is_between 0 59 (n % 100)) h
 
 time_of : (n : ℕ) → is_moment n ≡ true → is_time (n % 1000000) ≡ true
 time_of n h =
@@ -71,7 +74,13 @@ head_fits r h =
                     few r.came came,
                     (
                       few (r.able - r.came) missed,
-                      (date_of r.opened h.opened, (time_of r.opened h.opened, (date_of r.closed h.closed, (time_of r.closed h.closed, tt)))),
+                      (
+                        date_of r.opened h.opened,
+                        (
+                          time_of r.opened h.opened,
+                          (date_of r.closed h.closed, (time_of r.closed h.closed, tt)),
+                        ),
+                      ),
                     ),
                   ),
                 ),
@@ -105,13 +114,18 @@ keeps_both before kept c k n h =
     rw (map-append (λ (x : Count). x.number) kept (c ∷ [])) (above_snoc (numbers_of kept) c.number n (k n both.0) both.1)
 
 keeps_one : (before kept : List Count) (c : Count) → Keeps before kept → Keeps (before ++ c ∷ []) kept
-keeps_one before kept c k n h = k n (above_front (numbers_of before) c.number n (rw (map-append (λ (x : Count). x.number) before (c ∷ [])) at h)).0
+keeps_one before kept c k n h =
+    k n (above_front (numbers_of before) c.number n (rw (map-append (λ (x : Count). x.number) before (c ∷ [])) at h)).0
 
-candidates_may : (digits party : ℕ) (before kept cs : List Count) → Keeps before kept → EachAfter (MayVote digits) before cs → EachAfter (MayVoteIn digits party) kept (candidates_of digits party cs)
+candidates_may : (digits party : ℕ) (before kept cs : List Count) → Keeps before kept → EachAfter (MayVote digits) before cs
+    → EachAfter (MayVoteIn digits party) kept (candidates_of digits party cs)
 candidates_may digits party before kept [] k h = tt
 candidates_may digits party before kept (c ∷ cs) k h =
     elim (cases_Bool (first_two digits c.number == party)) [
-      | inl e ↦ rw e ((eqb-true (first_two digits c.number) party e, (h.0.0, k c.number h.0.1)), candidates_may digits party (before ++ c ∷ []) (kept ++ c ∷ []) cs (keeps_both before kept c k) h.1)
+      | inl e ↦ rw e (
+        (eqb-true (first_two digits c.number) party e, (h.0.0, k c.number h.0.1)),
+        candidates_may digits party (before ++ c ∷ []) (kept ++ c ∷ []) cs (keeps_both before kept c k) h.1,
+      )
       | inr e ↦ rw e (candidates_may digits party (before ++ c ∷ []) kept cs (keeps_one before kept c k) h.1)
     ]
 
@@ -148,7 +162,8 @@ small_total n h g = grind (arith, nat_tests)
 party_number : (n : ℕ) → 10 ≤ n → n < 100 → is_between 10 99 n ≡ true
 party_number n h g = grind (arith, nat_tests)
 
-is_party : (digits : ℕ) (o : OfficeCount) (k : ℕ) → EachAfter (MayVote digits) [] o.nominal → total_votes o ≤ 9999 → 10 ≤ k → k < 100 → nat_lt 0 (said_party digits o k).total ≡ true
+is_party : (digits : ℕ) (o : OfficeCount) (k : ℕ) → EachAfter (MayVote digits) [] o.nominal → total_votes o ≤ 9999 → 10 ≤ k → k < 100
+    → nat_lt 0 (said_party digits o k).total ≡ true
     → IsSaidParty digits (said_party digits o k)
 is_party digits o k votes bound low high some =
     let nominal = part_votes (λ c. first_two digits c.number == k) o.nominal in
@@ -166,15 +181,18 @@ party_numbers ps = map (λ p. p.number) ps
 abbrev pub some_votes : SaidParty → Bool
 some_votes p = nat_lt 0 p.total
 
-pub parties_may : (digits : ℕ) (o : OfficeCount) (n a : ℕ) (before : List SaidParty) → EachAfter (MayVote digits) [] o.nominal → total_votes o ≤ 9999 → 10 ≤ a → a + n ≤ 100
-    → ((k : ℕ) → a ≤ k → is_above (party_numbers before) k ≡ true) → EachAfter (MayParty digits) before (filter some_votes (map (said_party digits o) (range_with_len a n)))
+pub parties_may : (digits : ℕ) (o : OfficeCount) (n a : ℕ) (before : List SaidParty) → EachAfter (MayVote digits) [] o.nominal
+    → total_votes o ≤ 9999 → 10 ≤ a → a + n ≤ 100
+    → ((k : ℕ) → a ≤ k → is_above (party_numbers before) k ≡ true)
+    → EachAfter (MayParty digits) before (filter some_votes (map (said_party digits o) (range_with_len a n)))
 parties_may digits o zero a before votes bound low high above = tt
 parties_may digits o (suc n) a before votes bound low high above =
     elim (cases_Bool (some_votes (said_party digits o a))) [
       | inl e ↦ rw e (
         (is_party digits o a votes bound low (omega arith) e, above a (omega arith)),
         parties_may digits o n (a + 1) (before ++ said_party digits o a ∷ []) votes bound (omega arith) (omega arith)
-            (λ k h. rw (map-append (λ (x : SaidParty). x.number) before ((said_party digits o a) ∷ [])) (above_snoc (party_numbers before) a k (above k (omega arith)) (lt-ltb a k (omega arith)))),
+            (λ k h. rw (map-append (λ (x : SaidParty). x.number) before ((said_party digits o a) ∷ []))
+            (above_snoc (party_numbers before) a k (above k (omega arith)) (lt-ltb a k (omega arith)))),
       )
       | inr e ↦ rw e (parties_may digits o n (a + 1) before votes bound (omega arith) (omega arith) (λ k h. above k (omega arith)))
     ]
@@ -186,10 +204,12 @@ pub record Grouped (digits : ℕ) : Type 0 where
   pub within : (n : ℕ) → has_digits digits n ≡ true → (10 ≤ first_two digits n) × (first_two digits n < 100)
 
 four_digits : (n : ℕ) → has_digits 4 n ≡ true → (10 ≤ n / 100) × (n / 100 < 100)
-four_digits n h = let low : 1000 ≤ n = grind (arith, nat_tests) in let high : n ≤ 9999 = grind (arith, nat_tests) in (omega arith, omega arith)
+four_digits n h = let low : 1000 ≤ n = grind (arith, nat_tests) in let high : n ≤ 9999 = grind (arith, nat_tests) in
+    (omega arith, omega arith)
 
 five_digits : (n : ℕ) → has_digits 5 n ≡ true → (10 ≤ n / 1000) × (n / 1000 < 100)
-five_digits n h = let low : 10000 ≤ n = grind (arith, nat_tests) in let high : n ≤ 99999 = grind (arith, nat_tests) in (omega arith, omega arith)
+five_digits n h = let low : 10000 ≤ n = grind (arith, nat_tests) in let high : n ≤ 99999 = grind (arith, nat_tests) in
+    (omega arith, omega arith)
 
 grouped_4 : Grouped 4
 grouped_4 = record { ascends = λ m n h. omega arith; within = four_digits }
@@ -205,21 +225,26 @@ pub grouped : (code : ℕ) → code_proportional code ≡ true → Grouped (digi
 grouped code h = by_digits (digits_in code) (proportional_digits code h)
 
 all_later : (digits : ℕ) → Grouped digits → (x : Count) (before xs : List Count) → EachAfter (MayVote digits) before xs
-    → ((n : ℕ) → is_above (numbers_of before) n ≡ true → nat_lt x.number n ≡ true) → AllByRecursion (λ y. first_two digits x.number ≤ first_two digits y.number) xs
+    → ((n : ℕ) → is_above (numbers_of before) n ≡ true → nat_lt x.number n ≡ true)
+    → AllByRecursion (λ y. first_two digits x.number ≤ first_two digits y.number) xs
 all_later digits g x before [] h above = tt
 all_later digits g x before (y ∷ xs) h above = (
   g.ascends x.number y.number (ltb-true x.number y.number (above y.number h.0.1)),
-  all_later digits g x (before ++ y ∷ []) xs h.1 (λ n a. above n (above_front (numbers_of before) y.number n (rw (map-append (λ (x : Count). x.number) before (y ∷ [])) at a)).0),
+  all_later digits g x (before ++ y ∷ []) xs h.1
+      (λ n a. above n (above_front (numbers_of before) y.number n (rw (map-append (λ (x : Count). x.number) before (y ∷ [])) at a)).0),
 )
 
-pub ascends_by : (digits : ℕ) → Grouped digits → (before ns : List Count) → EachAfter (MayVote digits) before ns → Ascends (λ c. first_two digits c.number) ns
+pub ascends_by : (digits : ℕ) → Grouped digits → (before ns : List Count) → EachAfter (MayVote digits) before ns
+    → Ascends (λ c. first_two digits c.number) ns
 ascends_by digits g before [] h = tt
 ascends_by digits g before (c ∷ ns) h = (
-  all_later digits g c (before ++ c ∷ []) ns h.1 (λ n a. (above_front (numbers_of before) c.number n (rw (map-append (λ (x : Count). x.number) before (c ∷ [])) at a)).1),
+  all_later digits g c (before ++ c ∷ []) ns h.1
+      (λ n a. (above_front (numbers_of before) c.number n (rw (map-append (λ (x : Count). x.number) before (c ∷ [])) at a)).1),
   ascends_by digits g (before ++ c ∷ []) ns h.1,
 )
 
-pub within_by : (digits : ℕ) → Grouped digits → (before ns : List Count) → EachAfter (MayVote digits) before ns → Within (λ c. first_two digits c.number) 10 90 ns
+pub within_by : (digits : ℕ) → Grouped digits → (before ns : List Count) → EachAfter (MayVote digits) before ns
+    → Within (λ c. first_two digits c.number) 10 90 ns
 within_by digits g before [] h = tt
 within_by digits g before (c ∷ ns) h =
     let has = both_from_and (has_digits digits c.number) (is_some_votes c.votes) h.0.0 in
@@ -242,28 +267,34 @@ votes_groups f (k ∷ ks) =
     let right = sum_by-cons (λ (j : ℕ). votes_of (f j)) k ks in
     omega arith
 
-pub nominal_groups : (digits : ℕ) → Grouped digits → (ns : List Count) → EachAfter (MayVote digits) [] ns → sum_by (λ k. votes_of (candidates_of digits k ns)) (range_with_len 10 90) ≡ votes_of ns
+pub nominal_groups : (digits : ℕ) → Grouped digits → (ns : List Count) → EachAfter (MayVote digits) [] ns
+    → sum_by (λ k. votes_of (candidates_of digits k ns)) (range_with_len 10 90) ≡ votes_of ns
 nominal_groups digits g ns h =
     sym (votes_groups (λ k. candidates_of digits k ns) (range_with_len 10 90))
-    ∙ ap (λ (l : List Count). votes_of l) (regroup (λ (c : Count). first_two digits c.number) 90 10 ns (within_by digits g [] ns h) (ascends_by digits g [] ns h))
+    ∙ ap (λ (l : List Count). votes_of l)
+    (regroup (λ (c : Count). first_two digits c.number) 90 10 ns (within_by digits g [] ns h) (ascends_by digits g [] ns h))
 
 -- ---- so are the parties' votes
 
-pub numbers_later : (x : Count) (before ps : List Count) → EachAfter MayLegend before ps → ((n : ℕ) → is_above (numbers_of before) n ≡ true → nat_lt x.number n ≡ true) → AllByRecursion (λ c. x.number < c.number) ps
+pub numbers_later : (x : Count) (before ps : List Count) → EachAfter MayLegend before ps
+    → ((n : ℕ) → is_above (numbers_of before) n ≡ true → nat_lt x.number n ≡ true) → AllByRecursion (λ c. x.number < c.number) ps
 numbers_later x before [] h above = tt
 numbers_later x before (c ∷ ps) h above = (
   ltb-true x.number c.number (above c.number h.0.2),
-  numbers_later x (before ++ c ∷ []) ps h.1 (λ n a. above n (above_front (numbers_of before) c.number n (rw (map-append (λ (x : Count). x.number) before (c ∷ [])) at a)).0),
+  numbers_later x (before ++ c ∷ []) ps h.1
+      (λ n a. above n (above_front (numbers_of before) c.number n (rw (map-append (λ (x : Count). x.number) before (c ∷ [])) at a)).0),
 )
 
 weaker : (x : Count) (ps : List Count) → AllByRecursion (λ c. x.number < c.number) ps → AllByRecursion (λ c. x.number ≤ c.number) ps
 weaker x [] h = tt
 weaker x (c ∷ ps) h = (let l = h.0 in omega arith, weaker x ps h.1)
 
-pub legend_of : (before ps : List Count) (k : ℕ) → EachAfter MayLegend before ps → party_votes k ps ≡ votes_of (filter (λ c. c.number == k) ps)
+pub legend_of : (before ps : List Count) (k : ℕ) → EachAfter MayLegend before ps
+    → party_votes k ps ≡ votes_of (filter (λ c. c.number == k) ps)
 legend_of before [] k h = refl
 legend_of before (c ∷ ps) k h =
-    let later = numbers_later c (before ++ c ∷ []) ps h.1 (λ n a. (above_front (numbers_of before) c.number n (rw (map-append (λ (x : Count). x.number) before (c ∷ [])) at a)).1) in
+    let later = numbers_later c (before ++ c ∷ []) ps h.1
+    (λ n a. (above_front (numbers_of before) c.number n (rw (map-append (λ (x : Count). x.number) before (c ∷ [])) at a)).1) in
     elim (cases_Bool (c.number == k)) [
       | inl e ↦
           let P : ℕ → Type 0 = λ n. AllByRecursion (λ d. n < d.number) ps in
@@ -276,8 +307,11 @@ legend_of before (c ∷ ps) k h =
 
 pub ascends_parties : (before ps : List Count) → EachAfter MayLegend before ps → Ascends (λ c. c.number) ps
 ascends_parties before [] h = tt
-ascends_parties before (c ∷ ps) h =
-    (weaker c ps (numbers_later c (before ++ c ∷ []) ps h.1 (λ n a. (above_front (numbers_of before) c.number n (rw (map-append (λ (x : Count). x.number) before (c ∷ [])) at a)).1)), ascends_parties (before ++ c ∷ []) ps h.1)
+ascends_parties before (c ∷ ps) h = (
+  weaker c ps (numbers_later c (before ++ c ∷ []) ps h.1
+      (λ n a. (above_front (numbers_of before) c.number n (rw (map-append (λ (x : Count). x.number) before (c ∷ [])) at a)).1)),
+  ascends_parties (before ++ c ∷ []) ps h.1,
+)
 
 party_range : (n : ℕ) → is_between 10 99 n ≡ true → (10 ≤ n) × (n < 100)
 party_range n h = let low : 10 ≤ n = grind (arith, nat_tests) in let high : n ≤ 99 = grind (arith, nat_tests) in (low, omega arith)
@@ -288,7 +322,8 @@ within_parties before (c ∷ ps) h = (party_range c.number h.0.0, within_parties
 
 same_sums : (f g : ℕ → ℕ) (ks : List ℕ) → ((k : ℕ) → f k ≡ g k) → sum_by f ks ≡ sum_by g ks
 same_sums f g [] h = refl
-same_sums f g (k ∷ ks) h = let rest = same_sums f g ks h in let a = sum_by-cons f k ks in let b = sum_by-cons g k ks in let here = h k in omega arith
+same_sums f g (k ∷ ks) h = let rest = same_sums f g ks h in let a = sum_by-cons f k ks in let b = sum_by-cons g k ks in let here = h k in
+    omega arith
 
 pub legend_groups : (ps : List Count) → EachAfter MayLegend [] ps → sum_by (λ k. party_votes k ps) (range_with_len 10 90) ≡ votes_of ps
 legend_groups ps h =
@@ -305,7 +340,8 @@ pub no_votes : (n m : ℕ) → nat_lt 0 (n + m) ≡ false → (n ≡ 0) × (m �
 no_votes n m h = let none : n + m ≡ 0 = grind (arith, nat_tests) in (omega arith, omega arith)
 
 pub kept_sums : (digits : ℕ) (o : OfficeCount) (ks : List ℕ)
-    → (sum_by (λ p. votes_of p.candidates) (filter some_votes (map (said_party digits o) ks)) ≡ sum_by (λ k. votes_of (candidates_of digits k o.nominal)) ks)
+    → (sum_by (λ p. votes_of p.candidates) (filter some_votes (map (said_party digits o) ks))
+    ≡ sum_by (λ k. votes_of (candidates_of digits k o.nominal)) ks)
     × (sum_by (λ p. p.legend) (filter some_votes (map (said_party digits o) ks)) ≡ sum_by (λ k. party_votes k o.parties) ks)
 kept_sums digits o [] = (refl, refl)
 kept_sums digits o (k ∷ ks) =

@@ -47,5 +47,8 @@ one_text bytes r is = (
 
 pub text_spells_report : TextSpellsReport
 text_spells_report r is =
-    let spells = (one_text (report_text r) r is).1 refl in
-    (spells, λ q h. one_report q r h.report is (says_one (report_text r) (said q) (said r) (spells_says (report_text r) q h) (spells_says (report_text r) r spells)))
+    let spells = (one_text (report_text r) r is).1 refl in (
+      spells,
+      λ q h. one_report q r h.report is
+          (says_one (report_text r) (said q) (said r) (spells_says (report_text r) q h) (spells_says (report_text r) r spells)),
+    )

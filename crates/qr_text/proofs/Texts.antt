@@ -45,7 +45,8 @@ others_all (b ∷ t) h =
 
 split_joined : (w : List ℕ) (ws : List (List ℕ)) → AllByRecursion Solid (w ∷ ws) → pieces (join_with_byte 32 (w ∷ ws)) ≡ w ∷ ws
 split_joined w [] h = slice_split_none (λ b. b == 32) w (others_all w h.0)
-split_joined w (v ∷ ws) h = slice_split_at (λ b. b == 32) w 32 (join_with_byte 32 (v ∷ ws)) (others_all w h.0) refl ∙ ap (λ (l : List (List ℕ)). w ∷ l) (split_joined v ws h.1)
+split_joined w (v ∷ ws) h = slice_split_at (λ b. b == 32) w 32 (join_with_byte 32 (v ∷ ws)) (others_all w h.0) refl
+    ∙ ap (λ (l : List (List ℕ)). w ∷ l) (split_joined v ws h.1)
 
 solid_append : (a b : List ℕ) → Solid a → Solid b → Solid (a ++ b)
 solid_append [] b h g = g
@@ -56,7 +57,8 @@ digit_other x h = grind (arith, nat_tests)
 
 solid_digits : (t : List ℕ) → list_all is_digit t ≡ true → Solid t
 solid_digits [] h = refl
-solid_digits (x ∷ t) h = let both = both_from_and (is_digit x) (list_all is_digit t) h in rw (digit_other x both.0, solid_digits t both.1) refl
+solid_digits (x ∷ t) h = let both = both_from_and (is_digit x) (list_all is_digit t) h in
+    rw (digit_other x both.0, solid_digits t both.1) refl
 
 solid_decimal : (v : ℕ) → v < 10 ^ 18 → Solid (decimal v)
 solid_decimal v s = solid_digits (decimal v) (decimal_value-some (decimal v) v (decimal_value-decimal v s)).0.all
@@ -80,54 +82,109 @@ solids_append [] b h g = g
 solids_append (f ∷ a) b h g = (h.0, solids_append a b h.1 g)
 
 solid_vote : (code : ℕ) (c : Count) → is_vote (digits_in code) c ≡ true → Solid (vote_field c).text
-solid_vote code c h = solid_field (vote_row c.number) c.votes (solid_decimal c.number (number_small code c h)) (lit< tt) (both_from_and (has_digits (digits_in code) c.number) (is_some_votes c.votes) h).1
+solid_vote code c h = solid_field (vote_row c.number) c.votes (solid_decimal c.number (number_small code c h)) (lit< tt)
+    (both_from_and (has_digits (digits_in code) c.number) (is_some_votes c.votes) h).1
 
 solid_votes : (code : ℕ) (before cs : List Count) → EachAfter (MayVote (digits_in code)) before cs → Solids (map vote_field cs)
 solid_votes code before [] h = tt
 solid_votes code before (c ∷ cs) h = (solid_vote code c h.0.0, solid_votes code (before ++ c ∷ []) cs h.1)
 
-solid_party_votes : (code party : ℕ) (before cs : List Count) → EachAfter (MayVoteIn (digits_in code) party) before cs → Solids (map vote_field cs)
+solid_party_votes : (code party : ℕ) (before cs : List Count) → EachAfter (MayVoteIn (digits_in code) party) before cs
+    → Solids (map vote_field cs)
 solid_party_votes code party before [] h = tt
 solid_party_votes code party before (c ∷ cs) h = (solid_vote code c h.0.1.0, solid_party_votes code party (before ++ c ∷ []) cs h.1)
 
-solid_parties : (code : ℕ) (before ps : List SaidParty) → EachAfter (MayParty (digits_in code)) before ps → Solids (flat_map party_fields ps)
+solid_parties : (code : ℕ) (before ps : List SaidParty) → EachAfter (MayParty (digits_in code)) before ps
+    → Solids (flat_map party_fields ps)
 solid_parties code before [] h = tt
 solid_parties code before (p ∷ ps) h =
     solids_append (party_fields p) (flat_map party_fields ps) (
       solid_field TABLE.party p.number refl (lit< tt) h.0.0.number,
-      solids_append (map vote_field p.candidates) _ (solid_party_votes code p.number [] p.candidates h.0.0.candidates)
-          (solid_field TABLE.party_legend p.legend refl (lit< tt) h.0.0.legend, (solid_field TABLE.party_total p.total refl (lit< tt) h.0.0.total, tt)),
+      solids_append (map vote_field p.candidates) _ (solid_party_votes code p.number [] p.candidates h.0.0.candidates) (
+        solid_field TABLE.party_legend p.legend refl (lit< tt) h.0.0.legend,
+        (solid_field TABLE.party_total p.total refl (lit< tt) h.0.0.total, tt),
+      ),
     )
     (solid_parties code (before ++ p ∷ []) ps h.1)
 
 solid_last : (s : Said) (o : SaidOffice) → IsSaidOffice o → Solids (last_fields s o)
-solid_last s o h = (solid_field TABLE.blank o.blank refl (lit< tt) h.blank, (solid_field TABLE.null_votes o.null_votes refl (lit< tt) h.null_votes, (solid_field TABLE.total o.total refl (lit< tt) h.total, tt)))
+solid_last s o h = (
+  solid_field TABLE.blank o.blank refl (lit< tt) h.blank,
+  (solid_field TABLE.null_votes o.null_votes refl (lit< tt) h.null_votes, (solid_field TABLE.total o.total refl (lit< tt) h.total, tt)),
+)
 
 solid_behind : (s : Said) (o : SaidOffice) (b : Bool) → IsSaidOffice o → Solids (votes_fields b o ++ sum_fields s b o)
 solid_behind s o true h =
-    solids_append (flat_map party_fields o.parties) (sum_fields s true o) (solid_parties o.code [] o.parties h.parties)
-    (solid_field TABLE.office_able o.able refl (lit< tt) h.able, (solid_field TABLE.nominal o.nominal refl (lit< tt) h.nominal, (solid_field TABLE.legend o.legend refl (lit< tt) h.legend, solid_last s o h)))
+    solids_append (flat_map party_fields o.parties) (sum_fields s true o) (solid_parties o.code [] o.parties h.parties) (
+      solid_field TABLE.office_able o.able refl (lit< tt) h.able,
+      (
+        solid_field TABLE.nominal o.nominal refl (lit< tt) h.nominal,
+        (solid_field TABLE.legend o.legend refl (lit< tt) h.legend, solid_last s o h),
+      ),
+    )
 solid_behind s o false h =
-    solids_append (map vote_field o.candidates) (sum_fields s false o) (solid_votes o.code [] o.candidates h.candidates)
-    (solid_field TABLE.office_able o.able refl (lit< tt) h.able, (solid_field TABLE.nominal o.nominal refl (lit< tt) h.nominal, solid_last s o h))
+    solids_append (map vote_field o.candidates) (sum_fields s false o) (solid_votes o.code [] o.candidates h.candidates) (
+      solid_field TABLE.office_able o.able refl (lit< tt) h.able,
+      (solid_field TABLE.nominal o.nominal refl (lit< tt) h.nominal, solid_last s o h),
+    )
 
 solid_offices : (s : Said) (before os : List SaidOffice) → EachAfter MayOffice before os → Solids (flat_map (office_fields s) os)
 solid_offices s before [] h = tt
 solid_offices s before (o ∷ os) h =
     solids_append (office_fields s o) (flat_map (office_fields s) os) (
       solid_field TABLE.office o.code refl (lit< tt) (code_fits (codes_in before) o.code h.0.0),
-      (solid_field TABLE.kind (kind_number (code_proportional o.code)) refl (lit< tt) (kind_fits (code_proportional o.code)), solid_behind s o (code_proportional o.code) h.0.1),
+      (
+        solid_field TABLE.kind (kind_number (code_proportional o.code)) refl (lit< tt) (kind_fits (code_proportional o.code)),
+        solid_behind s o (code_proportional o.code) h.0.1,
+      ),
     )
     (solid_offices s (before ++ o ∷ []) os h.1)
 
-solid_head : (s : Said) → AllByRecursion (λ x. fits x.0.form x.1 ≡ true) (zip head_rows (head_values s)) → Solids (map (head_field s) (zip head_rows (head_values s)))
+solid_head : (s : Said) → AllByRecursion (λ x. fits x.0.form x.1 ≡ true) (zip head_rows (head_values s))
+    → Solids (map (head_field s) (zip head_rows (head_values s)))
 unfolding head_rows
-solid_head s h =
-    (solid_field TABLE.orig 0 refl tt h.0, (solid_field TABLE.process s.process refl (lit< tt) h.1.0, (solid_field TABLE.date s.date refl tt h.1.1.0, (solid_field TABLE.turn s.turn refl (lit< tt) h.1.1.1.0, (solid_field TABLE.zone s.zone refl (lit< tt) h.1.1.1.1.0, (solid_field TABLE.section s.section refl (lit< tt) h.1.1.1.1.1.0, (solid_field TABLE.able s.able refl (lit< tt) h.1.1.1.1.1.1.0, (solid_field TABLE.came s.came refl (lit< tt) h.1.1.1.1.1.1.1.0, (solid_field TABLE.missed s.missed refl (lit< tt) h.1.1.1.1.1.1.1.1.0, (solid_field TABLE.open_date s.open_date refl tt h.1.1.1.1.1.1.1.1.1.0, (solid_field TABLE.open_time s.open_time refl tt h.1.1.1.1.1.1.1.1.1.1.0, (solid_field TABLE.close_date s.close_date refl tt h.1.1.1.1.1.1.1.1.1.1.1.0, (solid_field TABLE.close_time s.close_time refl tt h.1.1.1.1.1.1.1.1.1.1.1.1.0, tt)))))))))))))
+solid_head s h = (
+  solid_field TABLE.orig 0 refl tt h.0,
+  (
+    solid_field TABLE.process s.process refl (lit< tt) h.1.0,
+    (
+      solid_field TABLE.date s.date refl tt h.1.1.0,
+      (
+        solid_field TABLE.turn s.turn refl (lit< tt) h.1.1.1.0,
+        (
+          solid_field TABLE.zone s.zone refl (lit< tt) h.1.1.1.1.0,
+          (
+            solid_field TABLE.section s.section refl (lit< tt) h.1.1.1.1.1.0,
+            (
+              solid_field TABLE.able s.able refl (lit< tt) h.1.1.1.1.1.1.0,
+              (
+                solid_field TABLE.came s.came refl (lit< tt) h.1.1.1.1.1.1.1.0,
+                (
+                  solid_field TABLE.missed s.missed refl (lit< tt) h.1.1.1.1.1.1.1.1.0,
+                  (
+                    solid_field TABLE.open_date s.open_date refl tt h.1.1.1.1.1.1.1.1.1.0,
+                    (
+                      solid_field TABLE.open_time s.open_time refl tt h.1.1.1.1.1.1.1.1.1.1.0,
+                      (
+                        solid_field TABLE.close_date s.close_date refl tt h.1.1.1.1.1.1.1.1.1.1.1.0,
+                        (solid_field TABLE.close_time s.close_time refl tt h.1.1.1.1.1.1.1.1.1.1.1.1.0, tt),
+                      ),
+                    ),
+                  ),
+                ),
+              ),
+            ),
+          ),
+        ),
+      ),
+    ),
+  ),
+)
 
 solid_fields : (s : Said) → IsSaid s → Solids (fields s)
 unfolding fields
-solid_fields s h = solids_append (map (head_field s) (zip head_rows (head_values s))) (flat_map (office_fields s) s.offices) (solid_head s h.head) (solid_offices s [] s.offices h.offices)
+solid_fields s h = solids_append (map (head_field s) (zip head_rows (head_values s))) (flat_map (office_fields s) s.offices)
+    (solid_head s h.head) (solid_offices s [] s.offices h.offices)
 
 solid_texts : (fs : List Field) → Solids fs → AllByRecursion Solid (texts fs)
 solid_texts [] h = tt
@@ -145,4 +202,9 @@ pub report_is_said : ReportIsSaid
 unfolding report_text report_fields
 report_is_said r h =
     let is = is_said r h in
-    record { said = is; same = split_texts (texts (fields (said r))) (some_fields (said r)) (solid_texts (fields (said r)) (solid_fields (said r) is)); sums = passes r h }
+    record {
+      said = is;
+      same = split_texts (texts (fields (said r))) (some_fields (said r))
+          (solid_texts (fields (said r)) (solid_fields (said r) is));
+      sums = passes r h;
+    }

@@ -41,13 +41,15 @@ spaced_joins text [] = append-nil text
 spaced_joins text (f ∷ fs) = ap (λ (t : List ℕ). text ++ 32 ∷ t) (spaced_joins f fs)
 
 spaced_texts : (a b : List Field) → spaced (texts (a ++ b)) ≡ spaced (texts a) ++ spaced (texts b)
-spaced_texts a b = ap (λ (x : List (List ℕ)). spaced x) (map-append (λ (f : Field). f.text) a b) ∙ flat_map-append (λ (t : List ℕ). 32 ∷ t) (texts a) (texts b)
+spaced_texts a b = ap (λ (x : List (List ℕ)). spaced x) (map-append (λ (f : Field). f.text) a b)
+    ∙ flat_map-append (λ (t : List ℕ). 32 ∷ t) (texts a) (texts b)
 
 votes_spaced : (cs : List Count) → spaced_votes cs ≡ spaced (texts (map vote_field cs))
 votes_spaced [] = refl
 votes_spaced (c ∷ cs) = ap (λ (t : List ℕ). spaced_vote c ++ t) (votes_spaced cs)
 
-office_joined : (text : List ℕ) (a p s : List Field) (v : List ℕ) → v ≡ spaced (texts p) → with_fields (with_fields text (texts a) ++ v) (texts s) ≡ text ++ spaced (texts (a ++ (p ++ s)))
+office_joined : (text : List ℕ) (a p s : List Field) (v : List ℕ) → v ≡ spaced (texts p)
+    → with_fields (with_fields text (texts a) ++ v) (texts s) ≡ text ++ spaced (texts (a ++ (p ++ s)))
 office_joined text a p s v h =
     with_fields_spaced (with_fields text (texts a) ++ v) (texts s)
     ∙ (ap (λ (x : List ℕ). (x ++ v) ++ spaced (texts s)) (with_fields_spaced text (texts a))
@@ -56,9 +58,14 @@ office_joined text a p s v h =
     ∙ (ap (λ (x : List ℕ). text ++ (spaced (texts a) ++ (x ++ spaced (texts s)))) h
     ∙ sym (ap (λ (x : List ℕ). text ++ x) (spaced_texts a (p ++ s) ∙ ap (λ (x : List ℕ). spaced (texts a) ++ x) (spaced_texts p s)))))))
 
-party_spaced : (p : SaidParty) → (32 ∷ field_text TABLE.party p.number) ++ spaced_votes p.candidates ++ (32 ∷ field_text TABLE.party_legend p.legend) ++ (32 ∷ field_text TABLE.party_total p.total) ≡ spaced (texts (party_fields p))
+party_spaced : (p : SaidParty)
+    → (32 ∷ field_text TABLE.party p.number) ++ spaced_votes
+    p.candidates ++ (32 ∷ field_text TABLE.party_legend p.legend) ++ (32 ∷ field_text TABLE.party_total p.total)
+    ≡ spaced (texts (party_fields p))
 party_spaced p =
-    office_joined [] (party_field p TABLE.party p.number ∷ []) (map vote_field p.candidates) (party_field p TABLE.party_legend p.legend ∷ party_field p TABLE.party_total p.total ∷ []) (spaced_votes p.candidates) (votes_spaced p.candidates)
+    office_joined [] (party_field p TABLE.party p.number ∷ []) (map vote_field p.candidates)
+    (party_field p TABLE.party_legend p.legend ∷ party_field p TABLE.party_total p.total ∷ []) (spaced_votes p.candidates)
+    (votes_spaced p.candidates)
 
 parties_spaced : (o : OfficeCount) (ks : List ℕ)
     → flat_map (spaced_party o) ks ≡ spaced (texts (flat_map party_fields (filter some_votes (map (said_party (digits_in o.code) o) ks))))
@@ -69,16 +76,19 @@ parties_spaced o (k ∷ ks) =
     elim (cases_Bool (some_votes p)) [
       | inl e ↦
           let later : List Field = flat_map party_fields (filter some_votes (map (said_party (digits_in o.code) o) ks)) in
-          rw e (ap (λ (t : List ℕ). t ++ flat_map (spaced_party o) ks) (party_spaced p) ∙ (ap (λ (t : List ℕ). spaced (texts (party_fields p)) ++ t) rest ∙ sym (spaced_texts (party_fields p) later)))
+          rw e (ap (λ (t : List ℕ). t ++ flat_map (spaced_party o) ks) (party_spaced p)
+          ∙ (ap (λ (t : List ℕ). spaced (texts (party_fields p)) ++ t) rest ∙ sym (spaced_texts (party_fields p) later)))
       | inr e ↦ rw e rest
     ]
 
 parties_are_spaced : (o : OfficeCount) (n : ℕ)
-    → spaced_parties o n ≡ spaced (texts (flat_map party_fields (filter some_votes (map (said_party (digits_in o.code) o) (range_with_len 10 n)))))
+    → spaced_parties o n ≡ spaced (texts
+    (flat_map party_fields (filter some_votes (map (said_party (digits_in o.code) o) (range_with_len 10 n)))))
 unfolding spaced_parties
 parties_are_spaced o n = parties_spaced o (range_with_len 10 n)
 
-votes_are : (b : Bool) (r : Report) (o : OfficeCount) → (if b then spaced_parties o 90 else spaced_votes o.nominal) ≡ spaced (texts (votes_fields b (office_of b r o)))
+votes_are : (b : Bool) (r : Report) (o : OfficeCount)
+    → (if b then spaced_parties o 90 else spaced_votes o.nominal) ≡ spaced (texts (votes_fields b (office_of b r o)))
 votes_are true r o = parties_are_spaced o 90
 votes_are false r o = votes_spaced o.nominal
 
@@ -86,15 +96,19 @@ office_by : (b : Bool) (text : List ℕ) (s : Said) (q : SaidOffice) (v : List �
     → with_last q.blank q.null_votes q.total (with_sums q.able b q.nominal q.legend (with_code q.code b text ++ v))
     ≡ text ++ spaced (texts (office_field s q TABLE.office q.code ∷ office_field s q TABLE.kind (kind_number b) ∷ (p ++ sum_fields s b q)))
 unfolding with_last with_sums with_code
-office_by true text s q v p h = office_joined text (office_field s q TABLE.office q.code ∷ office_field s q TABLE.kind 1 ∷ []) p (sum_fields s true q) v h
-office_by false text s q v p h = office_joined text (office_field s q TABLE.office q.code ∷ office_field s q TABLE.kind 0 ∷ []) p (sum_fields s false q) v h
+office_by true text s q v p h =
+    office_joined text (office_field s q TABLE.office q.code ∷ office_field s q TABLE.kind 1 ∷ []) p (sum_fields s true q) v h
+office_by false text s q v p h =
+    office_joined text (office_field s q TABLE.office q.code ∷ office_field s q TABLE.kind 0 ∷ []) p (sum_fields s false q) v h
 
 pub office_is_spaced : (r : Report) (text : List ℕ) (o : OfficeCount) → with_office r text o ≡ text ++ spaced_office r o
 unfolding with_office spaced_office spaced_office_votes
 office_is_spaced r text o =
-    office_by (code_proportional o.code) text (said r) (said_office r o) (spaced_office_votes o) (votes_fields (code_proportional o.code) (said_office r o)) (votes_are (code_proportional o.code) r o)
+    office_by (code_proportional o.code) text (said r) (said_office r o) (spaced_office_votes o)
+    (votes_fields (code_proportional o.code) (said_office r o)) (votes_are (code_proportional o.code) r o)
 
-offices_spaced : (r : Report) (os : List OfficeCount) → flat_map (spaced_office r) os ≡ spaced (texts (flat_map (office_fields (said r)) (map (said_office r) os)))
+offices_spaced : (r : Report) (os : List OfficeCount)
+    → flat_map (spaced_office r) os ≡ spaced (texts (flat_map (office_fields (said r)) (map (said_office r) os)))
 unfolding spaced_office
 offices_spaced r [] = refl
 offices_spaced r (o ∷ os) =
@@ -121,7 +135,8 @@ parties_more o n k h =
     sym (flat_map-map f same (range_with_len 10 (n + 1)))
     ∙ (ap (λ (l : List ℕ). flat_map f l) (map-range_with_len_more same 10 n k h)
     ∙ (flat_map-append f (map same (range_with_len 10 n)) (k ∷ [])
-    ∙ (ap (λ (l : List ℕ). l ++ (f k ++ [])) (flat_map-map f same (range_with_len 10 n)) ∙ ap (λ (l : List ℕ). flat_map f (range_with_len 10 n) ++ l) (append-nil (f k)))))
+    ∙ (ap (λ (l : List ℕ). l ++ (f k ++ [])) (flat_map-map f same (range_with_len 10 n))
+    ∙ ap (λ (l : List ℕ). flat_map f (range_with_len 10 n) ++ l) (append-nil (f k)))))
 
 abbrev pub Few : OfficeCount → Type 0
 Few o = total_of o ≤ greatest_count
@@ -142,20 +157,26 @@ few_at (o ∷ os) (suc k) d h w = few_at os k d h.1 (omega arith)
 pub office_few : (r : Report) (k : ℕ) (d : OfficeCount) → IsReport r → k < length r.offices → Few (get_or r.offices k d)
 office_few r k d h w = let a = h.came in let b = h.able in few_at r.offices k d (few_votes r.came [] r.offices (omega arith) h.offices) w
 
-pub parties_step : (o : OfficeCount) (k : ℕ) (start out new : List ℕ) → 10 ≤ k → out ≡ start ++ spaced_parties o (k - 10) → new ≡ out ++ spaced_party o k → new ≡ start ++ spaced_parties o (k + 1 - 10)
+pub parties_step : (o : OfficeCount) (k : ℕ) (start out new : List ℕ) → 10 ≤ k → out ≡ start ++ spaced_parties o (k - 10)
+    → new ≡ out ++ spaced_party o k → new ≡ start ++ spaced_parties o (k + 1 - 10)
 parties_step o k start out new low e h =
     let step : k + 1 - 10 ≡ k - 10 + 1 = omega arith in
     let more = parties_more o (k - 10) k (omega arith) in
-    h ∙ (ap (λ (t : List ℕ). t ++ spaced_party o k) e ∙ (append_assoc start (spaced_parties o (k - 10)) (spaced_party o k) ∙ (ap (λ (t : List ℕ). start ++ t) (sym more) ∙ ap (λ (n : ℕ). start ++ spaced_parties o n) (sym step))))
+    h ∙ (ap (λ (t : List ℕ). t ++ spaced_party o k) e
+    ∙ (append_assoc start (spaced_parties o (k - 10)) (spaced_party o k)
+    ∙ (ap (λ (t : List ℕ). start ++ t) (sym more) ∙ ap (λ (n : ℕ). start ++ spaced_parties o n) (sym step))))
 
-pub few_item : (r : Report) (items : List OfficeCount) (k : ℕ) (x : OfficeCount) → IsReport r → items ≡ r.offices → k < length items → x ≡ get_or items k x → Few x
+pub few_item : (r : Report) (items : List OfficeCount) (k : ℕ) (x : OfficeCount) → IsReport r → items ≡ r.offices → k < length items
+    → x ≡ get_or items k x → Few x
 few_item r items k x is e w h =
     let P : List OfficeCount → Type 0 = λ l. k < length l in
     let Q : OfficeCount → Type 0 = λ y. Few y in
     subst Q (sym (h ∙ ap (λ (l : List OfficeCount). get_or l k x) e)) (office_few r k x is (subst P e w))
 
-pub offices_step : (r : Report) (items os : List OfficeCount) (k : ℕ) (x : OfficeCount) (start out new : List ℕ) → items ≡ os → k < length items → x ≡ get_or items k x
-    → out ≡ start ++ flat_map (spaced_office r) (take k os) → new ≡ with_office r out x → new ≡ start ++ flat_map (spaced_office r) (take (k + 1) os)
+pub offices_step : (r : Report) (items os : List OfficeCount) (k : ℕ) (x : OfficeCount) (start out new : List ℕ) → items ≡ os
+    → k < length items → x ≡ get_or items k x
+    → out ≡ start ++ flat_map (spaced_office r) (take k os) → new ≡ with_office r out x
+    → new ≡ start ++ flat_map (spaced_office r) (take (k + 1) os)
 offices_step r items os k x start out new e w h far put =
     let P : List OfficeCount → Type 0 = λ l. k < length l in
     let f : OfficeCount → List ℕ = spaced_office r in
@@ -165,4 +186,6 @@ offices_step r items os k x start out new e w h far put =
     ap (λ (l : List OfficeCount). flat_map f l) (take_more os k x lt)
     ∙ (flat_map-append f (take k os) (get_or os k x ∷ [])
     ∙ ap (λ (l : List ℕ). flat_map f (take k os) ++ l) (append-nil (f (get_or os k x)) ∙ ap f (sym same))) in
-    put ∙ (office_is_spaced r out x ∙ (ap (λ (t : List ℕ). t ++ f x) far ∙ (append_assoc start (flat_map f (take k os)) (f x) ∙ ap (λ (t : List ℕ). start ++ t) (sym more))))
+    put ∙ (office_is_spaced r out x
+    ∙ (ap (λ (t : List ℕ). t ++ f x) far
+    ∙ (append_assoc start (flat_map f (take k os)) (f x) ∙ ap (λ (t : List ℕ). start ++ t) (sym more))))

@@ -9,6 +9,8 @@ put_office-requires c =
 
 pub loop-office-preserved : goal.loop-office-preserved
 loop-office-preserved c =
-    offices_step c.args.report.now c.as_slice-office-items.result.now c.args.report.now.offices c.loop-office.office-index c.office-item.result
+    offices_step c.args.report.now c.as_slice-office-items.result.now c.args.report.now.offices c.loop-office.office-index
+    c.office-item.result
     c.args.out.now.items c.loop-office.out.items c.put_office.new.out.items
-    c.as_slice-office-items.ensures (omega (arith, c.loop-office-test.true)) c.office-item.is c.loop-office.invariant c.in_ok-put_office.ensures
+    c.as_slice-office-items.ensures (omega (arith, c.loop-office-test.true)) c.office-item.is c.loop-office.invariant
+    c.in_ok-put_office.ensures

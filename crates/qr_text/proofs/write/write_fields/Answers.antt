@@ -9,5 +9,6 @@ use Rattle.qr_text.proofs.write.write_fields.Goals as goal
 pub returns : goal.returns
 returns c =
     let r = c.args.report.now in
-    let parts : c.put_offices.new.out.items ≡ with_fields (field_text TABLE.orig 0) (head_texts r) ++ flat_map (spaced_office r) r.offices = search rules in
+    let parts : c.put_offices.new.out.items
+    ≡ with_fields (field_text TABLE.orig 0) (head_texts r) ++ flat_map (spaced_office r) r.offices = search rules in
     parts ∙ written r
