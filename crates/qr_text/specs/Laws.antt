@@ -43,7 +43,8 @@ OneReport = (r q : Report) → IsReport r → IsReport q → said r ≡ said q �
 
 -- each text has a fault, or spells one report
 abbrev pub OneAnswer : Type 0
-OneAnswer = (bytes : List ℕ) → ((f : FieldFault) × IsFault bytes f) ⊎ ((r : Report) × Spells bytes r × ((q : Report) → Spells bytes q → q ≡ r))
+OneAnswer = (bytes : List ℕ)
+    → ((f : FieldFault) × IsFault bytes f) ⊎ ((r : Report) × Spells bytes r × ((q : Report) → Spells bytes q → q ≡ r))
 
 -- and never both
 abbrev pub NeverBoth : Type 0

@@ -95,10 +95,15 @@ abbrev pub no_party : SaidParty
 no_party = record { number = 0; candidates = []; legend = 0; total = 0 }
 
 abbrev pub new_office : ℕ → SaidOffice
-new_office code = record { code = code; candidates = []; parties = []; able = 0; nominal = 0; legend = 0; blank = 0; null_votes = 0; total = 0 }
+new_office code = record {
+  code = code; candidates = []; parties = []; able = 0; nominal = 0; legend = 0; blank = 0; null_votes = 0; total = 0;
+}
 
 abbrev pub nothing_said : Said
-nothing_said = record { process = 0; date = 0; turn = 0; zone = 0; section = 0; able = 0; came = 0; missed = 0; open_date = 0; open_time = 0; close_date = 0; close_time = 0; offices = [] }
+nothing_said = record {
+  process = 0; date = 0; turn = 0; zone = 0; section = 0; able = 0; came = 0; missed = 0;
+  open_date = 0; open_time = 0; close_date = 0; close_time = 0; offices = [];
+}
 
 abbrev pub start : State
 start = record { mode = Head 0; said = nothing_said; office = new_office 0; party = no_party }
@@ -120,33 +125,39 @@ with_head n v s =
     else (if n == 11 then record s { close_date = v }
     else record s { close_time = v })))))))))))
 
--- a step: the state after it, and what is tested at the field
+-- ---- steps
+
+-- the state after a field, and what is tested at the field
 abbrev pub Step : Type 0
 Step = Option (State × List Test)
+
+-- the state in which this is wanted, with this office and this party so far
+abbrev pub wanting : Mode → State → SaidOffice → SaidParty → State
+wanting mode st office party = record { mode = mode; said = st.said; office = office; party = party }
 
 abbrev pub head_step : ℕ → State → List ℕ → Step
 head_step n st p =
     option_and_then (λ r. option_map (λ v.
-    let s = with_head n v st.said in
-    (record { mode = if n == 12 then Code else Head (n + 1); said = s; office = st.office; party = st.party }, head_tests r.tested s))
-    (number_at r p)) (slice_get head_rows n)
+        let s = with_head n v st.said in
+        (record { mode = if n == 12 then Code else Head (n + 1); said = s; office = st.office; party = st.party }, head_tests r.tested s))
+      (number_at r p)) (slice_get head_rows n)
 
 abbrev pub code_step : State → List ℕ → Step
 code_step st p =
     option_and_then (λ code. if may_have_code (codes_in st.said.offices) code
-    then Some (record { mode = Kind; said = st.said; office = new_office code; party = no_party }, [])
-    else None) (number_at TABLE.office p)
+      then Some (wanting Kind st (new_office code) no_party, [])
+      else None) (number_at TABLE.office p)
 
 abbrev pub kind_step : State → List ℕ → Step
 kind_step st p =
     option_and_then (λ v. if v == kind_number (code_proportional st.office.code)
-    then Some (record { mode = if code_proportional st.office.code then Party else Vote; said = st.said; office = st.office; party = no_party }, [])
-    else None) (number_at TABLE.kind p)
+      then Some (wanting (if code_proportional st.office.code then Party else Vote) st st.office no_party, [])
+      else None) (number_at TABLE.kind p)
 
 -- a field of the office, behind which another is wanted
 abbrev pub office_step : Row → Mode → (ℕ → SaidOffice) → State → List ℕ → Step
 office_step r next with st p =
-    option_map (λ v. (record { mode = next; said = st.said; office = with v; party = no_party }, office_tests r.tested st.said (with v))) (number_at r p)
+    option_map (λ v. (wanting next st (with v) no_party, office_tests r.tested st.said (with v))) (number_at r p)
 
 abbrev pub able_step : State → List ℕ → Step
 able_step st p = office_step TABLE.office_able Nominal (λ v. record (st.office) { able = v }) st p
@@ -154,39 +165,46 @@ able_step st p = office_step TABLE.office_able Nominal (λ v. record (st.office)
 abbrev pub vote_step : State → List ℕ → Step
 vote_step st p =
     option_or (option_and_then (λ c. if is_above (numbers_of st.office.candidates) c.number
-    then Some (record { mode = Vote; said = st.said; office = record (st.office) { candidates = st.office.candidates ++ c ∷ [] }; party = no_party }, [])
-    else None) (vote_at (digits_in st.office.code) p))
-    (able_step st p)
+        then Some (wanting Vote st (record (st.office) { candidates = st.office.candidates ++ c ∷ [] }) no_party, [])
+        else None) (vote_at (digits_in st.office.code) p))
+      (able_step st p)
 
 abbrev pub party_step : State → List ℕ → Step
 party_step st p =
     option_or (option_and_then (λ n. if is_above (map (λ q. q.number) st.office.parties) n
-    then Some (record { mode = OfParty; said = st.said; office = st.office; party = record no_party { number = n } }, [])
-    else None) (number_at TABLE.party p))
-    (able_step st p)
+        then Some (wanting OfParty st st.office (record no_party { number = n }), [])
+        else None) (number_at TABLE.party p))
+      (able_step st p)
 
 abbrev pub legend_step : State → List ℕ → Step
 legend_step st p =
-    option_map (λ v. (record { mode = PartyTotal; said = st.said; office = st.office; party = record (st.party) { legend = v } }, [])) (number_at TABLE.party_legend p)
+    option_map (λ v. (wanting PartyTotal st st.office (record (st.party) { legend = v }), [])) (number_at TABLE.party_legend p)
+
+-- the candidate may stand in the party behind those before
+abbrev pub may_be_of_party : State → Count → Bool
+may_be_of_party st c =
+    (first_two (digits_in st.office.code) c.number == st.party.number) && is_above (numbers_of st.party.candidates) c.number
 
 abbrev pub of_party_step : State → List ℕ → Step
 of_party_step st p =
-    option_or (option_and_then (λ c. if (first_two (digits_in st.office.code) c.number == st.party.number) && is_above (numbers_of st.party.candidates) c.number
-    then Some (record { mode = OfParty; said = st.said; office = st.office; party = record (st.party) { candidates = st.party.candidates ++ c ∷ [] } }, [])
-    else None) (vote_at (digits_in st.office.code) p))
-    (legend_step st p)
+    option_or (option_and_then (λ c. if may_be_of_party st c
+        then Some (wanting OfParty st st.office (record (st.party) { candidates = st.party.candidates ++ c ∷ [] }), [])
+        else None) (vote_at (digits_in st.office.code) p))
+      (legend_step st p)
 
 abbrev pub party_total_step : State → List ℕ → Step
 party_total_step st p =
     option_map (λ v. let q = record (st.party) { total = v } in
-    (record { mode = Party; said = st.said; office = record (st.office) { parties = st.office.parties ++ q ∷ [] }; party = no_party }, party_tests TABLE.party_total.tested q))
-    (number_at TABLE.party_total p)
+      (wanting Party st (record (st.office) { parties = st.office.parties ++ q ∷ [] }) no_party, party_tests TABLE.party_total.tested q))
+      (number_at TABLE.party_total p)
 
+-- the office is said as a whole
 abbrev pub total_step : State → List ℕ → Step
 total_step st p =
     option_map (λ v. let o = record (st.office) { total = v } in
-    (record { mode = Done; said = record (st.said) { offices = st.said.offices ++ o ∷ [] }; office = o; party = no_party }, office_tests TABLE.total.tested st.said o))
-    (number_at TABLE.total p)
+      (record { mode = Done; said = record (st.said) { offices = st.said.offices ++ o ∷ [] }; office = o; party = no_party },
+        office_tests TABLE.total.tested st.said o))
+      (number_at TABLE.total p)
 
 abbrev pub step_in : Mode → State → List ℕ → Step
 step_in (Head n) st p = head_step n st p
@@ -196,7 +214,8 @@ step_in Vote st p = vote_step st p
 step_in Party st p = party_step st p
 step_in OfParty st p = of_party_step st p
 step_in PartyTotal st p = party_total_step st p
-step_in Nominal st p = office_step TABLE.nominal (if code_proportional st.office.code then Legend else Blank) (λ v. record (st.office) { nominal = v }) st p
+step_in Nominal st p =
+    office_step TABLE.nominal (if code_proportional st.office.code then Legend else Blank) (λ v. record (st.office) { nominal = v }) st p
 step_in Legend st p = office_step TABLE.legend Blank (λ v. record (st.office) { legend = v }) st p
 step_in Blank st p = office_step TABLE.blank Null (λ v. record (st.office) { blank = v }) st p
 step_in Null st p = office_step TABLE.null_votes Total (λ v. record (st.office) { null_votes = v }) st p

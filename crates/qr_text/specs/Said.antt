@@ -100,7 +100,8 @@ abbrev pub votes_fields : Bool → SaidOffice → List Field
 votes_fields proportional o = if proportional then flat_map party_fields o.parties else map vote_field o.candidates
 
 abbrev pub last_fields : Said → SaidOffice → List Field
-last_fields s o = office_field s o TABLE.blank o.blank ∷ office_field s o TABLE.null_votes o.null_votes ∷ office_field s o TABLE.total o.total ∷ []
+last_fields s o =
+    office_field s o TABLE.blank o.blank ∷ office_field s o TABLE.null_votes o.null_votes ∷ office_field s o TABLE.total o.total ∷ []
 
 -- the sums of an office, the party votes only where it is proportional
 abbrev pub sum_fields : Said → Bool → SaidOffice → List Field

@@ -80,7 +80,8 @@ legend_texts proportional legend = if proportional then field_text TABLE.legend 
 
 unfoldable pub with_sums : ℕ → Bool → ℕ → ℕ → List ℕ → List ℕ
 with_sums able proportional nominal legend text =
-    with_fields (with_fields text (field_text TABLE.office_able able ∷ field_text TABLE.nominal nominal ∷ [])) (legend_texts proportional legend)
+    with_fields (with_fields text (field_text TABLE.office_able able ∷ field_text TABLE.nominal nominal ∷ []))
+      (legend_texts proportional legend)
 
 unfoldable pub with_last : ℕ → ℕ → ℕ → List ℕ → List ℕ
 with_last blank null_votes total text =
