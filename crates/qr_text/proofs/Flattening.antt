@@ -19,40 +19,10 @@ use Rattle.qr_text.proofs.Grouping.{regroup, none_has}
 use Rattle.qr_text.proofs.Reporting.{office_of, whole_moment}
 use Rattle.qr_text.proofs.Saying.{zero_of, grouped, some_votes, within_by, ascends_by, within_parties, ascends_parties, numbers_later, above_front, no_votes}
 use Rattle.qr_text.specs.Laws.{OneReport}
+use Rattle.qr_text.specs.Reported.{count_of, legends, report_of}
 use Rattle.qr_text.specs.Said.{moment}
 use Rattle.qr_text.specs.Spelling.{said, said_office, said_party, candidates_of, party_votes}
 use Rattle.qr_text.specs.declared.said.Said.{Said}
-use Rattle.qr_text.specs.declared.said.SaidOffice.{SaidOffice}
-use Rattle.qr_text.specs.declared.said.SaidParty.{SaidParty}
-
--- the party votes that parties say
-abbrev pub legends : List SaidParty → List Count
-legends ps = map (λ p. record { number = p.number; votes = p.legend }) (filter (λ p. nat_lt 0 p.legend) ps)
-
-abbrev pub count_of : SaidOffice → OfficeCount
-count_of o = record {
-  code = o.code;
-  places = 1;
-  nominal = o.candidates ++ flat_map (λ p. p.candidates) o.parties;
-  parties = legends o.parties;
-  blank = o.blank;
-  null_votes = o.null_votes;
-}
-
--- the report that was said
-abbrev pub report_of : Said → Report
-report_of s = record {
-  process = s.process;
-  date = s.date;
-  turn = s.turn;
-  zone = s.zone;
-  section = s.section;
-  able = s.able;
-  came = s.came;
-  opened = moment s.open_date s.open_time;
-  closed = moment s.close_date s.close_time;
-  offices = map count_of s.offices;
-}
 
 -- ---- candidates
 

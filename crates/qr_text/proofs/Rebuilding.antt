@@ -15,7 +15,7 @@ use Rattle.poll_report.specs.declared.report.OfficeCount.{OfficeCount}
 use Rattle.urna_base.proofs.DigitLaws.{both_from_and}
 use Rattle.urna_base.specs.Moment.{is_between, is_date, is_moment}
 use Rattle.poll_report.proofs.Totals.{votes_cons}
-use Rattle.qr_text.proofs.Flattening.{legends, count_of, report_of}
+use Rattle.qr_text.specs.Reported.{legends, count_of, report_of}
 use Rattle.qr_text.proofs.Regrouping.{Tells, Parties, Rising, InRange, Right, AllAbove, all_candidates, again}
 use Rattle.qr_text.proofs.Reporting.{Pass}
 use Rattle.qr_text.proofs.RowLaws.{time_small}

@@ -11,7 +11,7 @@ use Rattle.poll_report.specs.Report.{votes_of, EachAfter}
 use Rattle.poll_report.specs.declared.report.Count.{Count}
 use Rattle.urna_base.specs.Moment.{is_between}
 use Rattle.qr_text.proofs.Grouping.{strictly}
-use Rattle.qr_text.proofs.Flattening.{legends}
+use Rattle.qr_text.specs.Reported.{legends}
 use Rattle.qr_text.proofs.Saying.{zero_of, some_votes}
 use Rattle.qr_text.specs.Said.{IsSaidParty, MayVoteIn}
 use Rattle.qr_text.specs.Spelling.{candidates_of, party_votes}

@@ -1,0 +1,40 @@
+-- The report that was said.
+use Rattle.std.specs.Prelude.{nat_lt, List, ◌++◌, map}
+use Rattle.std.specs.List.{filter, flat_map}
+use Rattle.poll_report.specs.declared.report.Count.{Count}
+use Rattle.poll_report.specs.declared.report.OfficeCount.{OfficeCount}
+use Rattle.poll_report.specs.declared.report.Report.{Report}
+use Rattle.qr_text.specs.Said.{moment}
+use Rattle.qr_text.specs.declared.said.Said.{Said}
+use Rattle.qr_text.specs.declared.said.SaidOffice.{SaidOffice}
+use Rattle.qr_text.specs.declared.said.SaidParty.{SaidParty}
+
+-- the party votes of those parties that have some
+abbrev pub legends : List SaidParty → List Count
+legends ps = map (λ p. record { number = p.number; votes = p.legend }) (filter (λ p. nat_lt 0 p.legend) ps)
+
+-- an office without its sums: the candidates of its parties stand behind one another
+abbrev pub count_of : SaidOffice → OfficeCount
+count_of o = record {
+  code = o.code;
+  places = 1;
+  nominal = o.candidates ++ flat_map (λ p. p.candidates) o.parties;
+  parties = legends o.parties;
+  blank = o.blank;
+  null_votes = o.null_votes;
+}
+
+-- the moments are those of their dates and times of the day
+abbrev pub report_of : Said → Report
+report_of s = record {
+  process = s.process;
+  date = s.date;
+  turn = s.turn;
+  zone = s.zone;
+  section = s.section;
+  able = s.able;
+  came = s.came;
+  opened = moment s.open_date s.open_time;
+  closed = moment s.close_date s.close_time;
+  offices = map count_of s.offices;
+}
