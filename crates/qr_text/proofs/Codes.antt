@@ -4,14 +4,14 @@ use Rattle.std.specs.Prelude.{if◌then◌else◌, nat_lt, ◌&&◌, ◌||◌, �
 use Rattle.std.specs.List.{find, list_all, list_any}
 use Rattle.std.specs.Option.{option_map_or}
 use Rattle.std.proofs.lemmas.Bool.Decides.{nat_tests}
-use Rattle.election_tables.proofs.Kept.{code_digits-range, code_in_range}
+use Rattle.urna_base.specs.Moment.{is_between}
+use Rattle.urna_base.proofs.DigitLaws.{both_from_and}
 use Rattle.election_tables.specs.Fields.{is_within}
 use Rattle.election_tables.specs.Limits.{most_offices}
 use Rattle.election_tables.specs.Offices.{code_digits, code_proportional, greatest_code, kinds_allow, office_rows, row_of}
 use Rattle.election_tables.specs.declared.office.Kind.TheVariants as kind
+use Rattle.election_tables.proofs.Kept.{code_digits-range, code_in_range}
 use Rattle.poll_report.specs.Report.{digits_in, may_have_code}
-use Rattle.urna_base.proofs.DigitLaws.{both_from_and}
-use Rattle.urna_base.specs.Moment.{is_between}
 use Rattle.qr_text.specs.Table.{fits}
 use Rattle.qr_text.specs.declared.table.TheConstants.{TABLE}
 

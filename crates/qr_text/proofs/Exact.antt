@@ -1,12 +1,12 @@
 -- A text is read with a fault exactly where it has that fault, and else as what it says; given that the steps follow every
 -- well-formed text (`Complete`) and that what was read so far can always go on to one (`Completes`).
-use Rattle.std.proofs.lemmas.Bool.{cases_Bool}
 use Rattle.std.proofs.Common.{◌≡◌, ℕ, zero, suc, ◌+◌, true, false, List, [], ◌∷◌, ◌++◌, length, take, drop, Option, Some, None, refl, sym, ap, ◌∙◌, subst, ◌⊎◌, inl, inr, arith, add-one, append_assoc}
-use Rattle.std.specs.Bool.{⊤}
-use Rattle.std.proofs.lemmas.List.{append-nil}
 use Rattle.std.specs.Prelude.{Ok, Err, slice_get}
+use Rattle.std.specs.Bool.{⊤}
 use Rattle.std.specs.List.{AllByRecursion}
 use Rattle.std.specs.Option.{option_map_or}
+use Rattle.std.proofs.lemmas.Bool.{cases_Bool}
+use Rattle.std.proofs.lemmas.List.{append-nil}
 use Rattle.qr_text.specs.Fault.{failing, fault_at, ended, Begins, IsFault, strange, failed}
 use Rattle.qr_text.specs.Reading.{State, step, start, may_end, reading, said_by}
 use Rattle.qr_text.specs.Said.{Field, Test, IsSaid, fields, texts}

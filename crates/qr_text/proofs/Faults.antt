@@ -1,13 +1,13 @@
 -- The laws, by what a reading gives.
 use Rattle.std.proofs.Common.{◌≡◌, ℕ, List, ◌⊎◌, inl, inr, sym, ◌∙◌, refl}
 use Rattle.std.specs.Prelude.{Result, Ok, Err}
-use Rattle.qr_text.proofs.Exact.{fault_read, read_fault, read_said, said_read}
-use Rattle.qr_text.proofs.Following.{complete}
-use Rattle.qr_text.proofs.Going.{completes}
 use Rattle.qr_text.specs.Fault.{Says}
 use Rattle.qr_text.specs.Laws.{OneOfBoth, NotBoth, OneFault, SaysOne}
 use Rattle.qr_text.specs.Reading.{said_by}
 use Rattle.qr_text.specs.declared.said.Said.{Said}
+use Rattle.qr_text.proofs.Exact.{fault_read, read_fault, read_said, said_read}
+use Rattle.qr_text.proofs.Following.{complete}
+use Rattle.qr_text.proofs.Going.{completes}
 
 -- a text is read as what it says, and with its fault
 pub says_read : (bytes : List ℕ) (s : Said) → Says bytes s → said_by bytes ≡ Ok s

@@ -1,28 +1,27 @@
 -- A report comes back from what it says.
-use Rattle.std.proofs.lemmas.List.{map-append}
-use Rattle.std.proofs.lemmas.Bool.{cases_Bool, eqb-true}
 use Rattle.std.proofs.Common.{◌≡◌, ℕ, ◌+◌, ◌/◌, ◌%◌, ◌<◌, ◌≤◌, Bool, true, false, List, [], ◌∷◌, ◌++◌, map, refl, sym, ap, ◌∙◌, subst, inl, inr, arith}
 use Rattle.std.specs.Prelude.{nat_lt, ◌==◌}
 use Rattle.std.specs.List.{AllByRecursion, flat_map, filter, range_with_len}
-use Rattle.std.proofs.lemmas.List.{append-nil}
 use Rattle.std.proofs.lemmas.Bool.Decides.{nat_tests}
+use Rattle.std.proofs.lemmas.Bool.{cases_Bool, eqb-true}
+use Rattle.std.proofs.lemmas.List.{map-append, append-nil}
+use Rattle.urna_base.specs.Moment.{is_between}
+use Rattle.urna_base.proofs.DigitLaws.{both_from_and}
 use Rattle.election_tables.specs.Fields.{has_digits, first_two}
 use Rattle.election_tables.specs.Offices.{code_proportional}
 use Rattle.poll_report.specs.Report.{IsReport, IsOfficeCount, MayCount, MayLegend, MayVote, votes_of, EachAfter, digits_in, numbers_of, is_some_votes}
 use Rattle.poll_report.specs.declared.report.Count.{Count}
 use Rattle.poll_report.specs.declared.report.OfficeCount.{OfficeCount}
 use Rattle.poll_report.specs.declared.report.Report.{Report}
-use Rattle.urna_base.proofs.DigitLaws.{both_from_and}
-use Rattle.urna_base.specs.Moment.{is_between}
 use Rattle.poll_report.proofs.Totals.{votes_cons}
-use Rattle.qr_text.proofs.Grouping.{regroup, none_has}
-use Rattle.qr_text.proofs.Reporting.{office_of, whole_moment}
-use Rattle.qr_text.proofs.Saying.{zero_of, grouped, some_votes, within_by, ascends_by, within_parties, ascends_parties, numbers_later, above_front, no_votes}
 use Rattle.qr_text.specs.Laws.{OneReport}
 use Rattle.qr_text.specs.Reported.{count_of, legends, report_of}
 use Rattle.qr_text.specs.Said.{moment}
 use Rattle.qr_text.specs.Spelling.{said, said_office, said_party, candidates_of, party_votes}
 use Rattle.qr_text.specs.declared.said.Said.{Said}
+use Rattle.qr_text.proofs.Grouping.{regroup, none_has}
+use Rattle.qr_text.proofs.Reporting.{office_of, whole_moment}
+use Rattle.qr_text.proofs.Saying.{zero_of, grouped, some_votes, within_by, ascends_by, within_parties, ascends_parties, numbers_later, above_front, no_votes}
 
 -- ---- candidates
 

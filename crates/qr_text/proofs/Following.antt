@@ -1,23 +1,24 @@
 -- The steps follow every well-formed text.
-use Rattle.std.proofs.lemmas.Bool.{eq-eqb}
 use Rattle.std.proofs.Common.{◌≡◌, ℕ, ◌<◌, Bool, true, false, List, [], ◌∷◌, ◌++◌, length, map, Some, None, refl, sym, ap, ◌∙◌, subst, ◌⊎◌, inl, inr, arith, lit<, append_assoc}
-use Rattle.std.specs.Prelude.{codes, nat_lt, if◌then◌else◌, ◌==◌}
-use Rattle.std.specs.List.{AllByRecursion, zip, flat_map}
+use Rattle.std.specs.Prelude.{codes, if◌then◌else◌}
+use Rattle.std.specs.List.{zip, flat_map}
+use Rattle.std.proofs.lemmas.Bool.{eq-eqb}
 use Rattle.std.proofs.lemmas.List.{append-nil}
+use Rattle.urna_base.specs.Digits.{decimal_value}
 use Rattle.election_tables.specs.Offices.{code_proportional}
 use Rattle.poll_report.specs.Report.{EachAfter, MayVote, may_have_code, digits_in}
 use Rattle.poll_report.specs.declared.report.Count.{Count}
-use Rattle.urna_base.specs.Digits.{decimal_value}
-use Rattle.qr_text.proofs.Codes.{code_fits}
-use Rattle.qr_text.proofs.Exact.{Traces, Complete}
-use Rattle.qr_text.proofs.RowLaws.{number_again, vote_again, vote_none, number_small}
-use Rattle.qr_text.specs.Reading.{State, Mode, Head, Code, Kind, Vote, Party, OfParty, PartyTotal, Nominal, Legend, Blank, Null, Total, Done, step, start, number_at, no_party, new_office}
+use Rattle.qr_text.specs.Reading.{State, Mode, Code, Kind, Vote, Party, OfParty, PartyTotal, Nominal, Legend, Blank, Null, Total, Done, step, start, number_at, no_party, new_office}
 use Rattle.qr_text.specs.Said.{Field, IsSaidOffice, MayVoteIn, MayParty, MayOffice, kind_number, fields, head_values, head_field, vote_field, party_field, party_fields, office_field, votes_fields, last_fields, sum_fields, office_fields, codes_in}
 use Rattle.qr_text.specs.Table.{fits, head_rows, field_text}
 use Rattle.qr_text.specs.declared.said.Said.{Said}
 use Rattle.qr_text.specs.declared.said.SaidOffice.{SaidOffice}
 use Rattle.qr_text.specs.declared.said.SaidParty.{SaidParty}
 use Rattle.qr_text.specs.declared.table.TheConstants.{TABLE}
+use Rattle.qr_text.proofs.Codes.{code_fits}
+use Rattle.qr_text.proofs.Exact.{Traces, Complete}
+use Rattle.qr_text.proofs.Head.{at_head, head_traced}
+use Rattle.qr_text.proofs.RowLaws.{number_again, vote_again, vote_none, number_small}
 
 traces_append : (st : State) (fs gs : List Field) (m e : State) → Traces st fs m → Traces m gs e → Traces st (fs ++ gs) e
 traces_append st [] gs m e t u = let P : State → Type 0 = λ x. Traces x gs e in subst P (sym t) u
@@ -25,86 +26,6 @@ traces_append st (f ∷ fs) gs m e t u = (t.0, t.1, traces_append t.0 fs gs m e 
 
 traces_to : (st : State) (fs : List Field) (d e : State) → d ≡ e → Traces st fs d → Traces st fs e
 traces_to st fs d e same t = let P : State → Type 0 = λ x. Traces st fs x in subst P same t
-
--- ---- the head
-
--- the first n rows are read
-abbrev head_upto : ℕ → Said → Said
-head_upto n s = record {
-  process = if nat_lt 1 n then s.process else 0;
-  date = if nat_lt 2 n then s.date else 0;
-  turn = if nat_lt 3 n then s.turn else 0;
-  zone = if nat_lt 4 n then s.zone else 0;
-  section = if nat_lt 5 n then s.section else 0;
-  able = if nat_lt 6 n then s.able else 0;
-  came = if nat_lt 7 n then s.came else 0;
-  missed = if nat_lt 8 n then s.missed else 0;
-  open_date = if nat_lt 9 n then s.open_date else 0;
-  open_time = if nat_lt 10 n then s.open_time else 0;
-  close_date = if nat_lt 11 n then s.close_date else 0;
-  close_time = if nat_lt 12 n then s.close_time else 0;
-  offices = [];
-}
-
-abbrev at_head : ℕ → Said → State
-at_head n s = record { mode = if n == 13 then Code else Head n; said = head_upto n s; office = new_office 0; party = no_party }
-
-pub head_traced : (s : Said) → AllByRecursion (λ x. fits x.0.form x.1 ≡ true) (zip head_rows (head_values s))
-    → Traces start (map (head_field s) (zip head_rows (head_values s))) (at_head 13 s)
-unfolding head_rows step
-head_traced s h = (
-  at_head 1 s,
-  rw (number_again TABLE.orig 0 tt h.0) refl,
-  (
-    at_head 2 s,
-    rw (number_again TABLE.process s.process (lit< tt) h.1.0) refl,
-    (
-      at_head 3 s,
-      rw (number_again TABLE.date s.date tt h.1.1.0) refl,
-      (
-        at_head 4 s,
-        rw (number_again TABLE.turn s.turn (lit< tt) h.1.1.1.0) refl,
-        (
-          at_head 5 s,
-          rw (number_again TABLE.zone s.zone (lit< tt) h.1.1.1.1.0) refl,
-          (
-            at_head 6 s,
-            rw (number_again TABLE.section s.section (lit< tt) h.1.1.1.1.1.0) refl,
-            (
-              at_head 7 s,
-              rw (number_again TABLE.able s.able (lit< tt) h.1.1.1.1.1.1.0) refl,
-              (
-                at_head 8 s,
-                rw (number_again TABLE.came s.came (lit< tt) h.1.1.1.1.1.1.1.0) refl,
-                (
-                  at_head 9 s,
-                  rw (number_again TABLE.missed s.missed (lit< tt) h.1.1.1.1.1.1.1.1.0) refl,
-                  (
-                    at_head 10 s,
-                    rw (number_again TABLE.open_date s.open_date tt h.1.1.1.1.1.1.1.1.1.0) refl,
-                    (
-                      at_head 11 s,
-                      rw (number_again TABLE.open_time s.open_time tt h.1.1.1.1.1.1.1.1.1.1.0) refl,
-                      (
-                        at_head 12 s,
-                        rw (number_again TABLE.close_date s.close_date tt h.1.1.1.1.1.1.1.1.1.1.1.0) refl,
-                        (
-                          at_head 13 s,
-                          rw (number_again TABLE.close_time s.close_time tt h.1.1.1.1.1.1.1.1.1.1.1.1.0) refl,
-                          refl,
-                        ),
-                      ),
-                    ),
-                  ),
-                ),
-              ),
-            ),
-          ),
-        ),
-      ),
-    ),
-  ),
-)
 
 -- ---- lists
 

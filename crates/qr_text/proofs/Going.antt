@@ -1,19 +1,16 @@
 -- What was read so far can always go on to a well-formed text.
-use Rattle.std.proofs.lemmas.Bool.{cases_Bool, eqb-true}
 use Rattle.std.proofs.Common.{◌≡◌, ℕ, ◌+◌, ◌<◌, ◌≤◌, Bool, true, false, List, [], ◌∷◌, ◌++◌, length, map, take, drop, Option, Some, None, refl, sym, ap, ◌∙◌, subst, ◌⊎◌, inl, inr, arith, lit<, lit≤, append_assoc}
 use Rattle.std.specs.Prelude.{if◌then◌else◌, ◌==◌, ◌&&◌, option_map}
 use Rattle.std.specs.List.{AllByRecursion, zip, flat_map}
 use Rattle.std.specs.Option.{option_and_then, option_or}
-use Rattle.std.proofs.lemmas.List.{append-nil, take-append-drop}
 use Rattle.std.proofs.lemmas.Bool.Decides.{nat_tests}
+use Rattle.std.proofs.lemmas.Bool.{cases_Bool, eqb-true}
+use Rattle.std.proofs.lemmas.List.{append-nil, take-append-drop}
+use Rattle.urna_base.proofs.DigitLaws.{both_from_and}
 use Rattle.election_tables.specs.Fields.{first_two}
 use Rattle.election_tables.specs.Offices.{code_proportional, row_of}
 use Rattle.poll_report.specs.Report.{EachAfter, MayVote, may_have_code, digits_in, numbers_of, is_above}
 use Rattle.poll_report.specs.declared.report.Count.{Count}
-use Rattle.urna_base.proofs.DigitLaws.{both_from_and}
-use Rattle.qr_text.proofs.Exact.{Traces, Completes}
-use Rattle.qr_text.proofs.Head.{Fits, after_head, at_row, fields_more, fits_going_on, fits_more, front_stays, going_on, head_list, head_steps, offices_stay, row_at}
-use Rattle.qr_text.proofs.RowLaws.{and_then_some, number_back, vote_back}
 use Rattle.qr_text.specs.Reading.{State, Mode, Head, Code, Kind, Vote, Party, OfParty, PartyTotal, Nominal, Legend, Blank, Null, Total, Done, step, start, may_end, number_at, vote_at, no_party, new_office, with_head}
 use Rattle.qr_text.specs.Said.{Field, Test, IsSaid, IsSaidOffice, MayVoteIn, MayParty, MayOffice, kind_number, fields, head_values, head_tests, vote_field, party_field, party_fields, office_field, votes_fields, last_fields, sum_fields, office_fields, codes_in}
 use Rattle.qr_text.specs.Table.{fits, head_rows, field_text, vote_row}
@@ -21,6 +18,9 @@ use Rattle.qr_text.specs.declared.said.Said.{Said}
 use Rattle.qr_text.specs.declared.said.SaidOffice.{SaidOffice}
 use Rattle.qr_text.specs.declared.said.SaidParty.{SaidParty}
 use Rattle.qr_text.specs.declared.table.TheConstants.{TABLE}
+use Rattle.qr_text.proofs.Exact.{Traces, Completes}
+use Rattle.qr_text.proofs.Head.{Fits, after_head, at_row, fields_more, fits_going_on, fits_more, front_stays, going_on, head_list, head_steps, offices_stay, row_at}
+use Rattle.qr_text.proofs.RowLaws.{and_then_some, number_back, vote_back}
 
 -- ---- the fields of the present office that were read
 

@@ -1,8 +1,8 @@
 pub mod Codes
 pub mod RowLaws
 pub mod Exact
-pub mod Following
 pub mod Head
+pub mod Following
 pub mod Going
 pub mod Faults
 pub mod Grouping

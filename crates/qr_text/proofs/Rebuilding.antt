@@ -1,38 +1,34 @@
 -- What is said rightly is what one report says: the offices and the head.
-use Rattle.std.proofs.lemmas.List.{map-append}
-use Rattle.std.proofs.lemmas.Bool.{cases_Bool, eqb-true, lt-ltb, ltb-true}
 use Rattle.std.proofs.Common.{◌≡◌, ℕ, ◌+◌, ◌-◌, ◌/◌, ◌%◌, ◌<◌, ◌≤◌, Bool, true, false, List, [], ◌∷◌, ◌++◌, length, map, None, refl, sym, ap, ◌∙◌, subst, inl, inr, arith, append_assoc}
 use Rattle.std.specs.Prelude.{nat_lt, nat_le, if◌then◌else◌, ◌==◌, ◌&&◌}
 use Rattle.std.specs.List.{AllByRecursion, flat_map, sum_by, zip}
-use Rattle.std.proofs.lemmas.List.{append-nil}
-use Rattle.std.proofs.lemmas.List.Sums.{sum_by-cons}
 use Rattle.std.proofs.lemmas.Bool.Decides.{nat_tests}
+use Rattle.std.proofs.lemmas.Bool.{leb-true, cases_Bool, eqb-true, lt-ltb, ltb-true}
+use Rattle.std.proofs.lemmas.List.Sums.{sum_by-cons}
+use Rattle.std.proofs.lemmas.List.{map-append, append-nil}
+use Rattle.urna_base.specs.Moment.{is_between, is_date, is_moment}
+use Rattle.urna_base.proofs.DigitLaws.{both_from_and}
 use Rattle.election_tables.specs.Fields.{first_two}
 use Rattle.election_tables.specs.Offices.{code_proportional}
 use Rattle.poll_report.specs.Report.{IsReport, IsOfficeCount, MayCount, MayLegend, MayVote, votes_of, EachAfter, digits_in, numbers_of, is_above, may_have_code}
 use Rattle.poll_report.specs.declared.report.Count.{Count}
 use Rattle.poll_report.specs.declared.report.OfficeCount.{OfficeCount}
-use Rattle.urna_base.proofs.DigitLaws.{both_from_and}
-use Rattle.urna_base.specs.Moment.{is_between, is_date, is_moment}
 use Rattle.poll_report.proofs.Totals.{votes_cons}
-use Rattle.qr_text.specs.Reported.{legends, count_of, report_of}
-use Rattle.qr_text.proofs.Regrouping.{Tells, Parties, Rising, InRange, Right, AllAbove, all_candidates, again}
-use Rattle.qr_text.proofs.Reporting.{Pass}
-use Rattle.qr_text.proofs.RowLaws.{time_small}
-use Rattle.qr_text.proofs.Saying.{zero_of, Grouped, grouped, votes_append, above_snoc, above_front, party_numbers}
 use Rattle.qr_text.specs.Fault.{failing}
 use Rattle.qr_text.specs.Laws.{SaidIsReport}
+use Rattle.qr_text.specs.Reported.{legends, count_of, report_of}
 use Rattle.qr_text.specs.Said.{Field, Equals, Holds, IsSaid, IsSaidOffice, MayOffice, MayParty, MayVoteIn, moment, all_nominal, all_legend, codes_in, fields, head_values, head_field, vote_field, party_fields, votes_fields, sum_fields, office_fields}
 use Rattle.qr_text.specs.Spelling.{said, said_office, said_parties, candidates_of, party_votes}
 use Rattle.qr_text.specs.Table.{is_time, head_rows}
 use Rattle.qr_text.specs.declared.said.Said.{Said}
 use Rattle.qr_text.specs.declared.said.SaidOffice.{SaidOffice}
 use Rattle.qr_text.specs.declared.said.SaidParty.{SaidParty}
+use Rattle.qr_text.proofs.Regrouping.{Tells, Parties, Rising, InRange, Right, AllAbove, all_candidates, again}
+use Rattle.qr_text.proofs.Reporting.{Pass}
+use Rattle.qr_text.proofs.RowLaws.{time_small}
+use Rattle.qr_text.proofs.Saying.{zero_of, Grouped, grouped, votes_append, above_snoc, above_front, party_numbers}
 
 -- ---- what passed tests say
-
-at_most : (a b : ℕ) → nat_le a b ≡ true → a ≤ b
-at_most a b h = grind (arith, nat_tests)
 
 equal_from : (a b : ℕ) → failing (Equals a b ∷ []) ≡ None → a ≡ b
 equal_from a b h = elim (cases_Bool (a == b)) [
@@ -48,7 +44,7 @@ both_from a b c h = elim (cases_Bool (a == c)) [
 
 order_from : (a b : ℕ) → failing (Holds (nat_le a b) ∷ []) ≡ None → a ≤ b
 order_from a b h = elim (cases_Bool (nat_le a b)) [
-  | inl e ↦ at_most a b e
+  | inl e ↦ leb-true a b e
   | inr e ↦ let wrong = rw e at h in absurd (cc)
 ]
 
@@ -366,10 +362,6 @@ codes_same : (os : List SaidOffice) → map (λ c. c.code) (map count_of os) ≡
 codes_same [] = refl
 codes_same (o ∷ os) = ap (λ (l : List ℕ). o.code ∷ l) (codes_same os)
 
-counts_snoc : (os : List SaidOffice) (o : SaidOffice) → map count_of (os ++ o ∷ []) ≡ map count_of os ++ count_of o ∷ []
-counts_snoc [] o = refl
-counts_snoc (p ∷ os) o = ap (λ (l : List OfficeCount). count_of p ∷ l) (counts_snoc os o)
-
 record OfficePass (s : Said) (o : SaidOffice) : Type 0 where
   votes : Pass (votes_fields (code_proportional o.code) o)
   sums : SumsRight s (code_proportional o.code) o
@@ -388,7 +380,7 @@ offices_are s before (o ∷ os) h p =
     let P : List ℕ → Type 0 = λ l. may_have_code l o.code ≡ true in
     let Q : List OfficeCount → Type 0 = λ l. EachAfter (MayCount s.came) l (map count_of os) in (
       (subst P (sym (codes_same before)) h.0.0, count_is s o (code_proportional o.code) h.0.1 refl here.sums),
-      subst Q (counts_snoc before o) (offices_are s (before ++ o ∷ []) os h.1 both.1),
+      subst Q (map-append count_of before (o ∷ [])) (offices_are s (before ++ o ∷ []) os h.1 both.1),
     )
 
 offices_again : (s : Said) (before os : List SaidOffice) → EachAfter MayOffice before os → Pass (flat_map (office_fields s) os)

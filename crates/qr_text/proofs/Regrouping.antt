@@ -1,21 +1,21 @@
 -- What is said rightly is what one report says.
-use Rattle.std.proofs.lemmas.List.Elements.{filter-append}
-use Rattle.std.proofs.lemmas.Bool.{cases_Bool, eq-eqb, eqb-true}
 use Rattle.std.proofs.Common.{◌≡◌, ℕ, zero, suc, ◌+◌, ◌<◌, ◌≤◌, true, false, List, [], ◌∷◌, ◌++◌, map, refl, sym, ap, ◌∙◌, subst, inl, inr, arith}
 use Rattle.std.specs.Prelude.{nat_lt, ◌==◌}
 use Rattle.std.specs.List.{AllByRecursion, flat_map, filter, range_with_len}
-use Rattle.std.proofs.lemmas.List.{append-nil}
 use Rattle.std.proofs.lemmas.Bool.Decides.{nat_tests}
+use Rattle.std.proofs.lemmas.Bool.{cases_Bool, eq-eqb, eqb-true}
+use Rattle.std.proofs.lemmas.List.Elements.{filter-append}
+use Rattle.std.proofs.lemmas.List.{append-nil}
+use Rattle.urna_base.specs.Moment.{is_between}
 use Rattle.election_tables.specs.Fields.{first_two}
 use Rattle.poll_report.specs.Report.{votes_of, EachAfter}
 use Rattle.poll_report.specs.declared.report.Count.{Count}
-use Rattle.urna_base.specs.Moment.{is_between}
-use Rattle.qr_text.proofs.Grouping.{strictly}
 use Rattle.qr_text.specs.Reported.{legends}
-use Rattle.qr_text.proofs.Saying.{zero_of, some_votes}
 use Rattle.qr_text.specs.Said.{IsSaidParty, MayVoteIn}
 use Rattle.qr_text.specs.Spelling.{candidates_of, party_votes}
 use Rattle.qr_text.specs.declared.said.SaidParty.{SaidParty}
+use Rattle.qr_text.proofs.Grouping.{strictly}
+use Rattle.qr_text.proofs.Saying.{zero_of, some_votes}
 
 -- ---- a party's candidates among those of all parties
 

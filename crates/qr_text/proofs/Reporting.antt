@@ -1,15 +1,14 @@
 -- The text of a report says what the report says.
-use Rattle.std.proofs.lemmas.Bool.{cases_Bool}
 use Rattle.std.proofs.Common.{◌≡◌, ℕ, ◌+◌, ◌-◌, ◌*◌, ◌/◌, ◌%◌, ◌<◌, ◌≤◌, Bool, true, false, List, [], ◌∷◌, ◌++◌, length, map, None, refl, sym, ap, ◌∙◌, subst, inl, inr, arith, lit≤}
-use Rattle.std.specs.Prelude.{nat_le, if◌then◌else◌, ◌==◌}
+use Rattle.std.specs.Prelude.{nat_le, if◌then◌else◌}
 use Rattle.std.specs.List.{AllByRecursion, flat_map, filter, range_with_len, zip}
-use Rattle.std.proofs.lemmas.Bool.Decides.{nat_tests}
+use Rattle.std.proofs.lemmas.Bool.{cases_Bool, eq-eqb, le-leb}
+use Rattle.std.proofs.lemmas.List.{map-append}
 use Rattle.election_tables.specs.Offices.{code_proportional}
 use Rattle.poll_report.specs.Report.{IsReport, IsOfficeCount, MayCount, votes_of, EachAfter, digits_in, may_have_code}
 use Rattle.poll_report.specs.declared.report.Count.{Count}
 use Rattle.poll_report.specs.declared.report.OfficeCount.{OfficeCount}
 use Rattle.poll_report.specs.declared.report.Report.{Report}
-use Rattle.qr_text.proofs.Saying.{head_fits, few, parties_may, grouped, nominal_groups, legend_groups, kept_sums, some_votes}
 use Rattle.qr_text.specs.Fault.{failing}
 use Rattle.qr_text.specs.Said.{Field, Equals, Holds, IsSaid, IsSaidOffice, MayOffice, codes_in, fields, head_values, head_field, vote_field, party_fields, votes_fields, sum_fields, office_fields, all_nominal, all_legend, moment}
 use Rattle.qr_text.specs.Spelling.{said, said_office, said_party, said_parties}
@@ -17,6 +16,7 @@ use Rattle.qr_text.specs.Table.{head_rows}
 use Rattle.qr_text.specs.declared.said.Said.{Said}
 use Rattle.qr_text.specs.declared.said.SaidOffice.{SaidOffice}
 use Rattle.qr_text.specs.declared.said.SaidParty.{SaidParty}
+use Rattle.qr_text.proofs.Saying.{head_fits, few, parties_may, grouped, nominal_groups, legend_groups, kept_sums, some_votes}
 
 abbrev pub Pass : List Field → Type 0
 Pass fs = AllByRecursion (λ f. failing f.tests ≡ None) fs
@@ -74,11 +74,6 @@ codes_same : (r : Report) (os : List OfficeCount) → codes_in (map (said_office
 codes_same r [] = refl
 codes_same r (o ∷ os) = ap (λ (l : List ℕ). o.code ∷ l) (codes_same r os)
 
-offices_snoc : (r : Report) (os : List OfficeCount) (o : OfficeCount)
-    → map (said_office r) (os ++ o ∷ []) ≡ map (said_office r) os ++ said_office r o ∷ []
-offices_snoc r [] o = refl
-offices_snoc r (p ∷ os) o = ap (λ (l : List SaidOffice). said_office r p ∷ l) (offices_snoc r os o)
-
 offices_may : (r : Report) (before os : List OfficeCount) → r.able ≤ 9999 → r.came ≤ r.able → EachAfter (MayCount r.came) before os
     → EachAfter MayOffice (map (said_office r) before) (map (said_office r) os)
 offices_may r before [] able came h = tt
@@ -86,7 +81,7 @@ offices_may r before (o ∷ os) able came h =
     let P : List ℕ → Type 0 = λ l. may_have_code l o.code ≡ true in
     let Q : List SaidOffice → Type 0 = λ l. EachAfter MayOffice l (map (said_office r) os) in (
       (subst P (sym (codes_same r before)) h.0.0, is_office r o (code_proportional o.code) able came h.0.1 refl),
-      subst Q (offices_snoc r before o) (offices_may r (before ++ o ∷ []) os able came h.1),
+      subst Q (map-append (said_office r) before (o ∷ [])) (offices_may r (before ++ o ∷ []) os able came h.1),
     )
 
 some_map : (r : Report) (os : List OfficeCount) → 0 < length os → 0 < length (map (said_office r) os)
@@ -104,7 +99,7 @@ is_said r h = record {
 -- ---- its tests pass
 
 equal_passes : (a b : ℕ) → a ≡ b → failing (Equals a b ∷ []) ≡ None
-equal_passes a b e = let test : (a == b) ≡ true = grind (arith, nat_tests) in rw test refl
+equal_passes a b e = rw (eq-eqb a b e) refl
 
 pass_append : (a b : List Field) → Pass a → Pass b → Pass (a ++ b)
 pass_append [] b h g = g
@@ -131,8 +126,7 @@ pass_parties digits o (k ∷ ks) = elim (cases_Bool (some_votes (said_party digi
 ]
 
 total_passes : (a b c : ℕ) → a ≡ c → b ≡ c → failing (Equals a c ∷ Equals b c ∷ []) ≡ None
-total_passes a b c e d = let first : (a == c) ≡ true = grind (arith, nat_tests) in let second : (b == c) ≡ true =
-    grind (arith, nat_tests) in rw (first, second) refl
+total_passes a b c e d = rw (eq-eqb a c e, eq-eqb b c d) refl
 
 -- an office whose sums are right
 pass_sums : (s : Said) (b : Bool) (o : SaidOffice) → s.able ≡ o.able → all_nominal o ≡ o.nominal → all_legend o ≡ o.legend
@@ -155,8 +149,8 @@ pass_office : (s : Said) (r : Report) (o : OfficeCount) (b : Bool) → s.able �
 pass_office s r o true able came h e =
     let n : SaidOffice = office_of true r o in
     let kept = kept_sums (digits_in o.code) o (range_with_len 10 90) in
-    let nominal : all_nominal n ≡ votes_of o.nominal = let a = kept.0
-    ∙ nominal_groups (digits_in o.code) (grouped o.code e) o.nominal h.nominal in omega arith in
+    let candidates = kept.0 ∙ nominal_groups (digits_in o.code) (grouped o.code e) o.nominal h.nominal in
+    let nominal : all_nominal n ≡ votes_of o.nominal = omega arith in
     let legend : all_legend n ≡ votes_of o.parties = kept.1 ∙ legend_groups o.parties h.parties in
     pass_append (flat_map party_fields (said_parties o)) (sum_fields s true n) (pass_parties (digits_in o.code) o (range_with_len 10 90))
     (pass_sums s true n able nominal legend refl (came ∙ sym (total_is r.came o h)))
@@ -178,55 +172,19 @@ pub whole_moment : (n : ℕ) → moment (n / 1000000) (n % 1000000) ≡ n
 whole_moment n = omega arith
 
 order_passes : (a b : ℕ) → a ≤ b → failing (Holds (nat_le a b) ∷ []) ≡ None
-order_passes a b h = let test : nat_le a b ≡ true = grind (arith, nat_tests) in rw test refl
+order_passes a b h = rw (le-leb a b h) refl
 
 pass_head : (r : Report) → IsReport r → Pass (map (head_field (said r)) (zip head_rows (head_values (said r))))
 unfolding said head_rows
 pass_head r h =
     let opened = whole_moment r.opened in
     let closed = whole_moment r.closed in
-    let order = h.order in
-    let came = h.came in (
-      refl,
-      (
-        refl,
-        (
-          refl,
-          (
-            refl,
-            (
-              refl,
-              (
-                refl,
-                (
-                  refl,
-                  (
-                    refl,
-                    (
-                      equal_passes (r.came + (r.able - r.came)) r.able (omega arith),
-                      (
-                        refl,
-                        (
-                          refl,
-                          (
-                            refl,
-                            (
-                              order_passes (moment (r.opened / 1000000) (r.opened % 1000000))
-                                  (moment (r.closed / 1000000) (r.closed % 1000000)) (omega arith),
-                              tt,
-                            ),
-                          ),
-                        ),
-                      ),
-                    ),
-                  ),
-                ),
-              ),
-            ),
-          ),
-        ),
-      ),
-    )
+    let before = h.order in
+    let within = h.came in
+    let voters = equal_passes (r.came + (r.able - r.came)) r.able (omega arith) in
+    let order = order_passes (moment (r.opened / 1000000) (r.opened % 1000000)) (moment (r.closed / 1000000) (r.closed % 1000000))
+    (omega arith) in
+    (refl, (refl, (refl, (refl, (refl, (refl, (refl, (refl, (voters, (refl, (refl, (refl, (order, tt)))))))))))))
 
 pub passes : (r : Report) → IsReport r → Pass (fields (said r))
 unfolding fields said

@@ -1,30 +1,30 @@
 -- Writing and reading of one field, and of a candidate's.
-use Rattle.std.proofs.lemmas.Bool.{eq-eqb}
 use Rattle.std.proofs.Common.{◌≡◌, Bool, true, false, List, [], ◌∷◌, ◌++◌, ℕ, ◌<◌, ◌^◌, Option, Some, None, refl, sym, ap, ◌∙◌, subst, arith, lit<}
 use Rattle.std.specs.Prelude.{codes, not, ◌==◌, if◌then◌else◌, All}
+use Rattle.std.specs.Fmt.{decimal}
 use Rattle.std.specs.List.{list_all, slice_split, join_with_byte}
-use Rattle.std.proofs.lemmas.List.Splits.{slice_split_at, slice_split_none, join_with_byte-slice_split}
-use Rattle.std.proofs.lemmas.Slice.Eq.{bytes_eq-Decides}
-use Rattle.std.proofs.lemmas.List.Elements.{All-nil, All-cons}
 use Rattle.std.specs.Option.{option_and_then}
 use Rattle.std.specs.Str.{bytes_eq}
-use Rattle.std.specs.Fmt.{decimal}
 use Rattle.std.proofs.lemmas.Bool.Decides.{nat_tests}
-use Rattle.election_tables.proofs.Kept.{has_digits-below}
-use Rattle.election_tables.specs.Fields.{has_digits}
-use Rattle.poll_report.specs.Report.{digits_in, is_some_votes, is_vote}
-use Rattle.poll_report.specs.declared.report.Count.{Count}
-use Rattle.urna_base.proofs.DecimalLaws.{decimal_value-decimal, decimal-decimal_value, decimal_value-some}
-use Rattle.urna_base.proofs.DigitLaws.{digits_value-padded, padded-digits_value, both_from_and}
+use Rattle.std.proofs.lemmas.Bool.{eq-eqb}
+use Rattle.std.proofs.lemmas.List.Elements.{All-nil, All-cons}
+use Rattle.std.proofs.lemmas.List.Splits.{slice_split_at, slice_split_none, join_with_byte-slice_split}
+use Rattle.std.proofs.lemmas.Slice.Eq.{bytes_eq-Decides}
 use Rattle.urna_base.specs.Digits.{is_digit, decimal_value}
 use Rattle.urna_base.specs.Moment.{is_between}
+use Rattle.urna_base.proofs.DecimalLaws.{decimal_value-decimal, decimal-decimal_value, decimal_value-some}
+use Rattle.urna_base.proofs.DigitLaws.{digits_value-padded, padded-digits_value, both_from_and}
 use Rattle.urna_base.proofs.MomentLaws.{is_date-below}
-use Rattle.qr_text.proofs.Codes.{digits_few}
+use Rattle.election_tables.specs.Fields.{has_digits}
+use Rattle.election_tables.proofs.Kept.{has_digits-below}
+use Rattle.poll_report.specs.Report.{digits_in, is_some_votes, is_vote}
+use Rattle.poll_report.specs.declared.report.Count.{Count}
 use Rattle.qr_text.specs.Reading.{after_word, only_fitting, written_value, value_at, number_at, vote_with, vote_of, vote_at}
 use Rattle.qr_text.specs.Table.{fits, is_time, value_text, field_text, vote_row}
 use Rattle.qr_text.specs.declared.table.Form.TheVariants.{Vota, Between, Date, Time}
 use Rattle.qr_text.specs.declared.table.Form.{Form}
 use Rattle.qr_text.specs.declared.table.Row.{Row}
+use Rattle.qr_text.proofs.Codes.{digits_few}
 
 -- the numbers of a form are those that decimals can write
 abbrev pub IsSmall : Form → Type 0

@@ -2,21 +2,21 @@
 use Rattle.std.proofs.Common.{◌≡◌, ℕ, true, false, List, [], ◌++◌, refl, lit<, lit≤}
 use Rattle.std.specs.Prelude.{codes, Ok, Err}
 use Rattle.std.specs.Fmt.{digits}
-use Rattle.election_tables.specs.Offices.{row_of}
-use Rattle.poll_report.specs.Report.{IsReport}
 use Rattle.urna_base.specs.Digits.{decimal_value, digits_value, padded}
 use Rattle.urna_base.specs.Moment.{is_date, is_moment}
-use Rattle.qr_text.proofs.Exact.{read_fault}
-use Rattle.qr_text.proofs.Following.{complete}
-use Rattle.qr_text.proofs.Going.{completes}
-use Rattle.qr_text.proofs.Samples.{mayor, moments, one_voter, poll, two_offices, with_end}
+use Rattle.election_tables.specs.Offices.{row_of}
+use Rattle.poll_report.specs.Report.{IsReport}
 use Rattle.qr_text.specs.Fault.{IsFault}
 use Rattle.qr_text.specs.Reading.{number_at, reading, said_by, step, value_at, vote_at}
 use Rattle.qr_text.specs.Said.{fields}
 use Rattle.qr_text.specs.Spelling.{report_fields, report_text, said}
 use Rattle.qr_text.specs.Table.{head_rows}
-use Rattle.qr_text.specs.declared.fault.FieldFault.{FieldFault}
 use Rattle.qr_text.specs.declared.fault.FieldFault.TheVariants as fault
+use Rattle.qr_text.specs.declared.fault.FieldFault.{FieldFault}
+use Rattle.qr_text.proofs.Exact.{read_fault}
+use Rattle.qr_text.proofs.Following.{complete}
+use Rattle.qr_text.proofs.Going.{completes}
+use Rattle.qr_text.proofs.Samples.{mayor, moments, one_voter, poll, two_offices, with_end}
 
 -- ---- texts
 

@@ -1,26 +1,26 @@
 -- What a report says is well formed and right.
-use Rattle.std.proofs.lemmas.List.{map-append}
-use Rattle.std.proofs.lemmas.Bool.{cases_Bool, eqb-true, lt-ltb, ltb-true}
 use Rattle.std.proofs.Common.{◌≡◌, ℕ, zero, suc, ◌+◌, ◌-◌, ◌/◌, ◌%◌, ◌<◌, ◌≤◌, Bool, true, false, List, [], ◌∷◌, ◌++◌, map, refl, sym, ap, ◌∙◌, subst, ◌⊎◌, inl, inr, arith, lit≤}
 use Rattle.std.specs.Prelude.{nat_lt, ◌==◌, ◌&&◌}
 use Rattle.std.specs.List.{AllByRecursion, flat_map, filter, range_with_len, sum_by, zip}
-use Rattle.std.proofs.lemmas.List.Sums.{sum_by-cons}
 use Rattle.std.proofs.lemmas.Bool.Decides.{nat_tests}
+use Rattle.std.proofs.lemmas.Bool.{cases_Bool, eqb-true, lt-ltb, ltb-true}
+use Rattle.std.proofs.lemmas.List.Sums.{sum_by-cons}
+use Rattle.std.proofs.lemmas.List.{map-append}
+use Rattle.urna_base.specs.Moment.{is_between, is_date, is_moment}
+use Rattle.urna_base.proofs.DigitLaws.{both_from_and}
 use Rattle.election_tables.specs.Fields.{has_digits, first_two}
 use Rattle.election_tables.specs.Offices.{code_proportional}
 use Rattle.poll_report.specs.Report.{IsReport, MayLegend, votes_of, EachAfter, is_above, numbers_of, MayVote, digits_in, is_some_votes}
 use Rattle.poll_report.specs.declared.report.Count.{Count}
 use Rattle.poll_report.specs.declared.report.OfficeCount.{OfficeCount}
 use Rattle.poll_report.specs.declared.report.Report.{Report}
-use Rattle.urna_base.proofs.DigitLaws.{both_from_and}
-use Rattle.urna_base.specs.Moment.{is_between, is_date, is_moment}
 use Rattle.poll_report.proofs.Totals.{votes_cons}
-use Rattle.qr_text.proofs.Codes.{proportional_digits}
-use Rattle.qr_text.proofs.Grouping.{Within, Ascends, regroup, none_has}
 use Rattle.qr_text.specs.Said.{IsSaidParty, MayParty, MayVoteIn, head_values}
 use Rattle.qr_text.specs.Spelling.{said, said_party, candidates_of, party_votes}
 use Rattle.qr_text.specs.Table.{fits, is_time, head_rows}
 use Rattle.qr_text.specs.declared.said.SaidParty.{SaidParty}
+use Rattle.qr_text.proofs.Codes.{proportional_digits}
+use Rattle.qr_text.proofs.Grouping.{Within, Ascends, regroup, none_has}
 
 -- ---- the head
 
@@ -55,41 +55,14 @@ few n h = grind (arith, nat_tests)
 pub head_fits : (r : Report) → IsReport r → AllByRecursion (λ x. fits x.0.form x.1 ≡ true) (zip head_rows (head_values (said r)))
 unfolding said head_rows
 head_fits r h =
-    let missed : r.able - r.came ≤ 9999 = let able = h.able in omega arith in
-    let came : r.came ≤ 9999 = let able = h.able in let within = h.came in omega arith in (
-      refl,
-      (
-        h.process,
-        (
-          h.date,
-          (
-            h.turn,
-            (
-              h.zone,
-              (
-                h.section,
-                (
-                  few r.able h.able,
-                  (
-                    few r.came came,
-                    (
-                      few (r.able - r.came) missed,
-                      (
-                        date_of r.opened h.opened,
-                        (
-                          time_of r.opened h.opened,
-                          (date_of r.closed h.closed, (time_of r.closed h.closed, tt)),
-                        ),
-                      ),
-                    ),
-                  ),
-                ),
-              ),
-            ),
-          ),
-        ),
-      ),
-    )
+    let able = few r.able h.able in
+    let came = let all = h.able in let within = h.came in few r.came (omega arith) in
+    let missed = let all = h.able in few (r.able - r.came) (omega arith) in
+    let d = date_of r.opened h.opened in
+    let t = time_of r.opened h.opened in
+    let e = date_of r.closed h.closed in
+    let u = time_of r.closed h.closed in
+    (refl, (h.process, (h.date, (h.turn, (h.zone, (h.section, (able, (came, (missed, (d, (t, (e, (u, tt)))))))))))))
 
 -- ---- the candidates of a party
 

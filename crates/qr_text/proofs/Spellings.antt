@@ -4,16 +4,16 @@ use Rattle.std.specs.List.{join_with_byte}
 use Rattle.std.proofs.lemmas.List.Splits.{join_with_byte-slice_split}
 use Rattle.poll_report.specs.Report.{IsReport}
 use Rattle.poll_report.specs.declared.report.Report.{Report}
-use Rattle.qr_text.proofs.Faults.{one_of_both, not_both, says_one}
-use Rattle.qr_text.proofs.Flattening.{one_report}
-use Rattle.qr_text.proofs.Rebuilding.{said_is_report}
-use Rattle.qr_text.proofs.Reporting.{is_said, passes}
-use Rattle.qr_text.proofs.Texts.{report_is_said}
 use Rattle.qr_text.specs.Fault.{Says}
 use Rattle.qr_text.specs.Laws.{NeverBoth, OneAnswer, OneText, TextSpellsReport}
 use Rattle.qr_text.specs.Said.{fields, texts}
 use Rattle.qr_text.specs.Spelling.{Spells, pieces, said, report_fields, report_text}
 use Rattle.qr_text.specs.declared.said.Said.{Said}
+use Rattle.qr_text.proofs.Faults.{one_of_both, not_both, says_one}
+use Rattle.qr_text.proofs.Flattening.{one_report}
+use Rattle.qr_text.proofs.Rebuilding.{said_is_report}
+use Rattle.qr_text.proofs.Reporting.{is_said, passes}
+use Rattle.qr_text.proofs.Texts.{report_is_said}
 
 spells_says : (bytes : List ℕ) (r : Report) → Spells bytes r → Says bytes (said r)
 unfolding report_fields

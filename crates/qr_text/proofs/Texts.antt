@@ -1,22 +1,19 @@
 -- The fields of a text are its pieces again.
 use Rattle.std.proofs.Common.{◌≡◌, ℕ, ◌<◌, ◌^◌, Bool, true, false, List, [], ◌∷◌, ◌++◌, length, map, refl, ap, ◌∙◌, arith, lit<}
-use Rattle.std.specs.Prelude.{not, ◌==◌, All}
-use Rattle.std.specs.List.{AllByRecursion, flat_map, list_all, join_with_byte, zip}
+use Rattle.std.specs.Prelude.{nat_lt, ◌&&◌, not, ◌==◌, All}
 use Rattle.std.specs.Fmt.{decimal}
-use Rattle.std.proofs.lemmas.List.Splits.{slice_split_at, slice_split_none}
-use Rattle.std.proofs.lemmas.List.Elements.{All-nil, All-cons}
+use Rattle.std.specs.List.{AllByRecursion, flat_map, list_all, join_with_byte, zip}
 use Rattle.std.proofs.lemmas.Bool.Decides.{nat_tests}
+use Rattle.std.proofs.lemmas.Bool.{ltb-true}
+use Rattle.std.proofs.lemmas.List.Elements.{All-nil, All-cons}
+use Rattle.std.proofs.lemmas.List.Splits.{slice_split_at, slice_split_none}
+use Rattle.urna_base.specs.Digits.{is_digit, padded}
+use Rattle.urna_base.proofs.DecimalLaws.{decimal_value-decimal, decimal_value-some}
+use Rattle.urna_base.proofs.DigitLaws.{both_from_and, all_digits-padded}
 use Rattle.election_tables.specs.Fields.{has_digits}
 use Rattle.election_tables.specs.Offices.{code_proportional}
 use Rattle.poll_report.specs.Report.{is_some_votes, EachAfter, MayVote, is_vote, digits_in}
 use Rattle.poll_report.specs.declared.report.Count.{Count}
-use Rattle.urna_base.proofs.DecimalLaws.{decimal_value-decimal, decimal_value-some}
-use Rattle.urna_base.proofs.DigitLaws.{both_from_and, all_digits-padded}
-use Rattle.urna_base.specs.Digits.{is_digit, padded}
-use Rattle.qr_text.proofs.Codes.{code_fits}
-use Rattle.qr_text.proofs.Following.{kind_fits}
-use Rattle.qr_text.proofs.Reporting.{is_said, passes}
-use Rattle.qr_text.proofs.RowLaws.{IsSmall, between_small, number_small}
 use Rattle.qr_text.specs.Laws.{ReportIsSaid}
 use Rattle.qr_text.specs.Said.{Field, IsSaid, IsSaidOffice, MayOffice, MayParty, MayVoteIn, fields, head_values, head_field, vote_field, party_fields, votes_fields, sum_fields, last_fields, office_fields, codes_in, kind_number, texts}
 use Rattle.qr_text.specs.Spelling.{pieces, said, report_fields, report_text}
@@ -28,6 +25,10 @@ use Rattle.qr_text.specs.declared.table.Form.TheVariants.{Vota, Between, Date, T
 use Rattle.qr_text.specs.declared.table.Form.{Form}
 use Rattle.qr_text.specs.declared.table.Row.{Row}
 use Rattle.qr_text.specs.declared.table.TheConstants.{TABLE}
+use Rattle.qr_text.proofs.Codes.{code_fits}
+use Rattle.qr_text.proofs.Following.{kind_fits}
+use Rattle.qr_text.proofs.Reporting.{is_said, passes}
+use Rattle.qr_text.proofs.RowLaws.{IsSmall, between_small, number_small}
 
 abbrev other : ℕ → Bool
 other b = not (b == 32)
@@ -140,46 +141,34 @@ solid_offices s before (o ∷ os) h =
     )
     (solid_offices s (before ++ o ∷ []) os h.1)
 
+abbrev is_small : Form → Bool
+is_small Vota = true
+is_small (Between low high) = nat_lt high (10 ^ 18)
+is_small Date = true
+is_small Time = true
+
+small_of : (form : Form) → is_small form ≡ true → IsSmall form
+small_of Vota e = tt
+small_of (Between low high) e = ltb-true high (10 ^ 18) e
+small_of Date e = tt
+small_of Time e = tt
+
+abbrev is_plain : Row → Bool
+is_plain r = list_all other r.key && is_small r.form
+
+solid_rows : (s : Said) (rows : List Row) (vs : List ℕ) → list_all is_plain rows ≡ true
+    → AllByRecursion (λ x. fits x.0.form x.1 ≡ true) (zip rows vs) → Solids (map (head_field s) (zip rows vs))
+solid_rows s [] vs p h = tt
+solid_rows s (r ∷ rows) [] p h = tt
+solid_rows s (r ∷ rows) (v ∷ vs) p h =
+    let both = both_from_and (is_plain r) (list_all is_plain rows) p in
+    let row = both_from_and (list_all other r.key) (is_small r.form) both.0 in
+    (solid_field r v row.0 (small_of r.form row.1) h.0, solid_rows s rows vs both.1 h.1)
+
 solid_head : (s : Said) → AllByRecursion (λ x. fits x.0.form x.1 ≡ true) (zip head_rows (head_values s))
     → Solids (map (head_field s) (zip head_rows (head_values s)))
 unfolding head_rows
-solid_head s h = (
-  solid_field TABLE.orig 0 refl tt h.0,
-  (
-    solid_field TABLE.process s.process refl (lit< tt) h.1.0,
-    (
-      solid_field TABLE.date s.date refl tt h.1.1.0,
-      (
-        solid_field TABLE.turn s.turn refl (lit< tt) h.1.1.1.0,
-        (
-          solid_field TABLE.zone s.zone refl (lit< tt) h.1.1.1.1.0,
-          (
-            solid_field TABLE.section s.section refl (lit< tt) h.1.1.1.1.1.0,
-            (
-              solid_field TABLE.able s.able refl (lit< tt) h.1.1.1.1.1.1.0,
-              (
-                solid_field TABLE.came s.came refl (lit< tt) h.1.1.1.1.1.1.1.0,
-                (
-                  solid_field TABLE.missed s.missed refl (lit< tt) h.1.1.1.1.1.1.1.1.0,
-                  (
-                    solid_field TABLE.open_date s.open_date refl tt h.1.1.1.1.1.1.1.1.1.0,
-                    (
-                      solid_field TABLE.open_time s.open_time refl tt h.1.1.1.1.1.1.1.1.1.1.0,
-                      (
-                        solid_field TABLE.close_date s.close_date refl tt h.1.1.1.1.1.1.1.1.1.1.1.0,
-                        (solid_field TABLE.close_time s.close_time refl tt h.1.1.1.1.1.1.1.1.1.1.1.1.0, tt),
-                      ),
-                    ),
-                  ),
-                ),
-              ),
-            ),
-          ),
-        ),
-      ),
-    ),
-  ),
-)
+solid_head s h = solid_rows s head_rows (head_values s) refl h
 
 solid_fields : (s : Said) → IsSaid s → Solids (fields s)
 unfolding fields

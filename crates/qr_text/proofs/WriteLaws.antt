@@ -1,20 +1,18 @@
 -- The pieces of a report's text, joined.
-use Rattle.std.proofs.lemmas.Bool.{cases_Bool}
 use Rattle.std.proofs.Common.{◌≡◌, ℕ, ◌+◌, ◌-◌, ◌≤◌, ◌<◌, Bool, true, false, List, [], ◌∷◌, ◌++◌, length, map, take, get_or, zero, suc, ◌*◌, append_assoc, refl, sym, ap, subst, ◌∙◌, arith, inl, inr}
 use Rattle.std.specs.Prelude.{if◌then◌else◌, ◌/◌, ◌^◌}
 use Rattle.std.specs.List.{AllByRecursion, flat_map, filter, range_with_len, join_with_byte}
-use Rattle.std.proofs.lemmas.List.{append-nil, map-append, take_more}
+use Rattle.std.proofs.lemmas.Bool.{cases_Bool}
 use Rattle.std.proofs.lemmas.Grind.{flat_map-append}
 use Rattle.std.proofs.lemmas.List.Folds.{flat_map-map}
 use Rattle.std.proofs.lemmas.List.FromFn.{map-range_with_len_more}
+use Rattle.std.proofs.lemmas.List.{append-nil, map-append, take_more}
+use Rattle.urna_base.proofs.MomentLaws.{is_date-below}
 use Rattle.election_tables.specs.Offices.{code_proportional}
 use Rattle.poll_report.specs.Report.{greatest_count, total_of, IsReport, MayCount, EachAfter, digits_in}
 use Rattle.poll_report.specs.declared.report.Count.{Count}
 use Rattle.poll_report.specs.declared.report.OfficeCount.{OfficeCount}
 use Rattle.poll_report.specs.declared.report.Report.{Report}
-use Rattle.urna_base.proofs.MomentLaws.{is_date-below}
-use Rattle.qr_text.proofs.Reporting.{office_of}
-use Rattle.qr_text.proofs.Saying.{date_of, some_votes}
 use Rattle.qr_text.specs.Said.{Field, fields, vote_field, party_field, office_field, kind_number, party_fields, votes_fields, sum_fields, office_fields, texts}
 use Rattle.qr_text.specs.Spelling.{said, said_office, said_party, report_fields, report_text}
 use Rattle.qr_text.specs.Table.{head_rows, field_text}
@@ -23,6 +21,8 @@ use Rattle.qr_text.specs.declared.said.Said.{Said}
 use Rattle.qr_text.specs.declared.said.SaidOffice.{SaidOffice}
 use Rattle.qr_text.specs.declared.said.SaidParty.{SaidParty}
 use Rattle.qr_text.specs.declared.table.TheConstants.{TABLE}
+use Rattle.qr_text.proofs.Reporting.{office_of}
+use Rattle.qr_text.proofs.Saying.{date_of, some_votes}
 
 -- the dates of a report have eight digits
 pub date_small_of : (r : Report) → IsReport r → r.date < 10 ^ 8

@@ -4,8 +4,8 @@ use Rattle.std.specs.List.{AllByRecursion, find}
 use Rattle.std.specs.Option.{option_map_or}
 use Rattle.qr_text.specs.Said.{Equals, Field, Holds, IsSaid, Test, fields, texts}
 use Rattle.qr_text.specs.Spelling.{pieces}
-use Rattle.qr_text.specs.declared.fault.FieldFault.{FieldFault}
 use Rattle.qr_text.specs.declared.fault.FieldFault.TheVariants as fault
+use Rattle.qr_text.specs.declared.fault.FieldFault.{FieldFault}
 use Rattle.qr_text.specs.declared.said.Said.{Said}
 
 -- a test fails: what must hold doesn't, or the sum isn't what is said

@@ -5,11 +5,11 @@ use Rattle.std.specs.Prelude.{◌&&◌, ◌==◌, if◌then◌else◌, codes, sl
 use Rattle.std.specs.List.{slice_split}
 use Rattle.std.specs.Option.{option_and_then, option_or}
 use Rattle.std.specs.Str.{bytes_eq}
+use Rattle.urna_base.specs.Digits.{digits_value, decimal_value}
 use Rattle.election_tables.specs.Fields.{first_two}
 use Rattle.election_tables.specs.Offices.{code_proportional}
 use Rattle.poll_report.specs.Report.{is_vote, is_above, numbers_of, digits_in, may_have_code}
 use Rattle.poll_report.specs.declared.report.Count.{Count}
-use Rattle.urna_base.specs.Digits.{digits_value, decimal_value}
 use Rattle.qr_text.specs.Fault.{failing, fault_at}
 use Rattle.qr_text.specs.Said.{Test, head_tests, party_tests, office_tests, kind_number, codes_in}
 use Rattle.qr_text.specs.Spelling.{pieces}
@@ -96,13 +96,32 @@ no_party = record { number = 0; candidates = []; legend = 0; total = 0 }
 
 abbrev pub new_office : ℕ → SaidOffice
 new_office code = record {
-  code = code; candidates = []; parties = []; able = 0; nominal = 0; legend = 0; blank = 0; null_votes = 0; total = 0;
+  code = code;
+  candidates = [];
+  parties = [];
+  able = 0;
+  nominal = 0;
+  legend = 0;
+  blank = 0;
+  null_votes = 0;
+  total = 0;
 }
 
 abbrev pub nothing_said : Said
 nothing_said = record {
-  process = 0; date = 0; turn = 0; zone = 0; section = 0; able = 0; came = 0; missed = 0;
-  open_date = 0; open_time = 0; close_date = 0; close_time = 0; offices = [];
+  process = 0;
+  date = 0;
+  turn = 0;
+  zone = 0;
+  section = 0;
+  able = 0;
+  came = 0;
+  missed = 0;
+  open_date = 0;
+  open_time = 0;
+  close_date = 0;
+  close_time = 0;
+  offices = [];
 }
 
 abbrev pub start : State
@@ -138,21 +157,21 @@ wanting mode st office party = record { mode = mode; said = st.said; office = of
 abbrev pub head_step : ℕ → State → List ℕ → Step
 head_step n st p =
     option_and_then (λ r. option_map (λ v.
-        let s = with_head n v st.said in
-        (record { mode = if n == 12 then Code else Head (n + 1); said = s; office = st.office; party = st.party }, head_tests r.tested s))
-      (number_at r p)) (slice_get head_rows n)
+    let s = with_head n v st.said in
+    (record { mode = if n == 12 then Code else Head (n + 1); said = s; office = st.office; party = st.party }, head_tests r.tested s))
+    (number_at r p)) (slice_get head_rows n)
 
 abbrev pub code_step : State → List ℕ → Step
 code_step st p =
     option_and_then (λ code. if may_have_code (codes_in st.said.offices) code
-      then Some (wanting Kind st (new_office code) no_party, [])
-      else None) (number_at TABLE.office p)
+    then Some (wanting Kind st (new_office code) no_party, [])
+    else None) (number_at TABLE.office p)
 
 abbrev pub kind_step : State → List ℕ → Step
 kind_step st p =
     option_and_then (λ v. if v == kind_number (code_proportional st.office.code)
-      then Some (wanting (if code_proportional st.office.code then Party else Vote) st st.office no_party, [])
-      else None) (number_at TABLE.kind p)
+    then Some (wanting (if code_proportional st.office.code then Party else Vote) st st.office no_party, [])
+    else None) (number_at TABLE.kind p)
 
 -- a field of the office, behind which another is wanted
 abbrev pub office_step : Row → Mode → (ℕ → SaidOffice) → State → List ℕ → Step
@@ -165,16 +184,16 @@ able_step st p = office_step TABLE.office_able Nominal (λ v. record (st.office)
 abbrev pub vote_step : State → List ℕ → Step
 vote_step st p =
     option_or (option_and_then (λ c. if is_above (numbers_of st.office.candidates) c.number
-        then Some (wanting Vote st (record (st.office) { candidates = st.office.candidates ++ c ∷ [] }) no_party, [])
-        else None) (vote_at (digits_in st.office.code) p))
-      (able_step st p)
+    then Some (wanting Vote st (record (st.office) { candidates = st.office.candidates ++ c ∷ [] }) no_party, [])
+    else None) (vote_at (digits_in st.office.code) p))
+    (able_step st p)
 
 abbrev pub party_step : State → List ℕ → Step
 party_step st p =
     option_or (option_and_then (λ n. if is_above (map (λ q. q.number) st.office.parties) n
-        then Some (wanting OfParty st st.office (record no_party { number = n }), [])
-        else None) (number_at TABLE.party p))
-      (able_step st p)
+    then Some (wanting OfParty st st.office (record no_party { number = n }), [])
+    else None) (number_at TABLE.party p))
+    (able_step st p)
 
 abbrev pub legend_step : State → List ℕ → Step
 legend_step st p =
@@ -188,23 +207,24 @@ may_be_of_party st c =
 abbrev pub of_party_step : State → List ℕ → Step
 of_party_step st p =
     option_or (option_and_then (λ c. if may_be_of_party st c
-        then Some (wanting OfParty st st.office (record (st.party) { candidates = st.party.candidates ++ c ∷ [] }), [])
-        else None) (vote_at (digits_in st.office.code) p))
-      (legend_step st p)
+    then Some (wanting OfParty st st.office (record (st.party) { candidates = st.party.candidates ++ c ∷ [] }), [])
+    else None) (vote_at (digits_in st.office.code) p))
+    (legend_step st p)
 
 abbrev pub party_total_step : State → List ℕ → Step
 party_total_step st p =
     option_map (λ v. let q = record (st.party) { total = v } in
-      (wanting Party st (record (st.office) { parties = st.office.parties ++ q ∷ [] }) no_party, party_tests TABLE.party_total.tested q))
-      (number_at TABLE.party_total p)
+    (wanting Party st (record (st.office) { parties = st.office.parties ++ q ∷ [] }) no_party, party_tests TABLE.party_total.tested q))
+    (number_at TABLE.party_total p)
 
 -- the office is said as a whole
 abbrev pub total_step : State → List ℕ → Step
 total_step st p =
-    option_map (λ v. let o = record (st.office) { total = v } in
-      (record { mode = Done; said = record (st.said) { offices = st.said.offices ++ o ∷ [] }; office = o; party = no_party },
-        office_tests TABLE.total.tested st.said o))
-      (number_at TABLE.total p)
+    option_map (λ v. let o = record (st.office) { total = v } in (
+      record { mode = Done; said = record (st.said) { offices = st.said.offices ++ o ∷ [] }; office = o; party = no_party },
+      office_tests TABLE.total.tested st.said o,
+    ))
+    (number_at TABLE.total p)
 
 abbrev pub step_in : Mode → State → List ℕ → Step
 step_in (Head n) st p = head_step n st p

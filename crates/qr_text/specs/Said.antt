@@ -11,8 +11,8 @@ use Rattle.qr_text.specs.declared.said.Said.{Said}
 use Rattle.qr_text.specs.declared.said.SaidOffice.{SaidOffice}
 use Rattle.qr_text.specs.declared.said.SaidParty.{SaidParty}
 use Rattle.qr_text.specs.declared.table.Row.{Row}
-use Rattle.qr_text.specs.declared.table.Tested.{Tested}
 use Rattle.qr_text.specs.declared.table.Tested.TheVariants.{Order, Voters, Party, Able, Nominal, Legend, Total}
+use Rattle.qr_text.specs.declared.table.Tested.{Tested}
 use Rattle.qr_text.specs.declared.table.TheConstants.{TABLE}
 
 -- ---- what is tested at a field

@@ -3,8 +3,8 @@ use Rattle.std.specs.Prelude.{ℕ, ◌/◌, ◌%◌, Bool, ◌&&◌, ◌==◌, L
 use Rattle.std.specs.Fmt.{decimal}
 use Rattle.urna_base.specs.Digits.{padded}
 use Rattle.urna_base.specs.Moment.{is_between, is_date}
-use Rattle.qr_text.specs.declared.table.Form.{Form}
 use Rattle.qr_text.specs.declared.table.Form.TheVariants.{Vota, Between, Date, Time}
+use Rattle.qr_text.specs.declared.table.Form.{Form}
 use Rattle.qr_text.specs.declared.table.Row.{Row}
 use Rattle.qr_text.specs.declared.table.Tested.TheVariants.{Nothing}
 use Rattle.qr_text.specs.declared.table.TheConstants.{TABLE}

@@ -9,8 +9,8 @@ use Rattle.poll_report.specs.declared.report.Report.{Report}
 use Rattle.qr_text.specs.Said.{kind_number, office_fields, texts}
 use Rattle.qr_text.specs.Spelling.{said, said_office, said_party}
 use Rattle.qr_text.specs.Table.{field_text, vote_row}
-use Rattle.qr_text.specs.declared.table.Form.{Form}
 use Rattle.qr_text.specs.declared.table.Form.TheVariants.{Vota, Between, Date, Time}
+use Rattle.qr_text.specs.declared.table.Form.{Form}
 use Rattle.qr_text.specs.declared.table.TheConstants.{TABLE}
 
 -- the form has digits enough for the number
@@ -81,7 +81,7 @@ legend_texts proportional legend = if proportional then field_text TABLE.legend 
 unfoldable pub with_sums : ℕ → Bool → ℕ → ℕ → List ℕ → List ℕ
 with_sums able proportional nominal legend text =
     with_fields (with_fields text (field_text TABLE.office_able able ∷ field_text TABLE.nominal nominal ∷ []))
-      (legend_texts proportional legend)
+    (legend_texts proportional legend)
 
 unfoldable pub with_last : ℕ → ℕ → ℕ → List ℕ → List ℕ
 with_last blank null_votes total text =

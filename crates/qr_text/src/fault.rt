@@ -1,7 +1,7 @@
 //! Why a text spells no report.
 use thiserror::Error;
 
-/// The fault of a field text (docs/FORMATS.md, "Faults of a report text"): the first field that fails, counted from 1. The end of
+/// The fault of a field text (docs/FORMATS.md, "Report text"): the first field that fails, counted from 1. The end of
 /// the text stands in the place of one field more.
 #[derive(Clone, Copy, Debug, PartialEq, Eq)]
 pub enum FieldFault {

@@ -1,7 +1,7 @@
 use Rattle.std.proofs.Common.{sym, arith}
 use Rattle.std.proofs.lemmas.List.{append-nil}
-use Rattle.qr_text.proofs.WriteLaws.{parties_step}
 use Rattle.qr_text.specs.Writing.{spaced_parties}
+use Rattle.qr_text.proofs.WriteLaws.{parties_step}
 use Rattle.qr_text.proofs.write.put_parties.Goals as goal
 
 pub loop-party-init : goal.loop-party-init

@@ -1,9 +1,9 @@
 use Rattle.std.proofs.Common.{rules, ◌≡◌, ◌++◌, ◌∙◌}
 use Rattle.std.specs.List.{flat_map}
-use Rattle.qr_text.proofs.WriteLaws.{written}
 use Rattle.qr_text.specs.Table.{field_text}
 use Rattle.qr_text.specs.Writing.{head_texts, spaced_office, with_fields}
 use Rattle.qr_text.specs.declared.table.TheConstants.{TABLE}
+use Rattle.qr_text.proofs.WriteLaws.{written}
 use Rattle.qr_text.proofs.write.write_fields.Goals as goal
 
 pub returns : goal.returns
