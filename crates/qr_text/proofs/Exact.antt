@@ -17,6 +17,7 @@ use Rattle.qr_text.specs.declared.said.Said.{Said}
 
 -- ---- traces
 
+-- these fields lead from a state to another, each with its tests
 abbrev pub Traces : State → List Field → State → Type 0
 Traces st [] e = st ≡ e
 Traces st (f ∷ fs) e = (n : State) × (step st f.text ≡ Some (n, f.tests)) × Traces n fs e
@@ -30,6 +31,7 @@ abbrev pub Completes : Type 0
 Completes = (fs : List Field) (e : State) → Traces start fs e
     → (s : Said) × IsSaid s × (rest : List Field) × (fields s ≡ fs ++ rest) × (may_end e.mode ≡ true → (rest ≡ []) × (e.said ≡ s))
 
+-- and one field more
 traces_snoc : (st : State) (fs : List Field) (e : State) (f : Field) (n : State) → Traces st fs e → step e f.text ≡ Some (n, f.tests)
     → Traces st (fs ++ f ∷ []) n
 traces_snoc st [] e f n t h = (n, ap (λ (x : State). step x f.text) t ∙ h, refl)
@@ -63,6 +65,7 @@ end_bad k st h = rw h refl
 
 -- ---- the first k fields are the same
 
+-- the first k pieces are the texts of these fields, the end of both counted as one
 abbrev pub Same : ℕ → List (List ℕ) → List Field → Type 0
 Same zero ps fs = ⊤
 Same (suc k) [] [] = ⊤
@@ -112,6 +115,7 @@ same_more (suc k) (q ∷ ps) (x ∷ fs) p qs f more e h g = (e.0, same_more k ps
 
 -- ---- the reading follows a well-formed text as far as it is the same
 
+-- where the reading stands behind k fields
 record Reached (j k : ℕ) (st : State) (ps : List (List ℕ)) (fs : List Field) (e : State) : Type 0 where
   at : State
   front : Traces st (take k fs) at
@@ -212,13 +216,16 @@ fault_read h1 h2 _ _ (failed bytes k s is b a t h) =
 
 -- ---- a text is read to its end, or the reading is stuck, or a test fails
 
+-- nothing may follow, and the text may not end
 abbrev pub Stuck : State → List (List ℕ) → Type 0
 Stuck e [] = may_end e.mode ≡ false
 Stuck e (p ∷ ps) = step e p ≡ None
 
+-- no test fails
 abbrev pub Pass : List Field → Type 0
 Pass fs = AllByRecursion (λ f. failing f.tests ≡ None) fs
 
+-- how a reading from a state ends, of which the first piece is field k: with all pieces, at one that may not stand there, or at a test
 pub data Outcome : ℕ → State → List (List ℕ) → Type 0 where
   whole : (k : ℕ) (st : State) (ps : List (List ℕ)) (fs : List Field) (e : State) → ps ≡ texts fs → Traces st fs e → Pass fs
       → may_end e.mode ≡ true → reading k st ps ≡ Ok e.said → Outcome k st ps

@@ -28,6 +28,7 @@ use Rattle.qr_text.proofs.Saying.{zero_of, grouped, some_votes, within_by, ascen
 some_of : (n : ℕ) → is_between 1 9999 n ≡ true → 1 ≤ n
 some_of n h = grind (arith, nat_tests)
 
+-- where the candidates that pass have no votes there are none
 no_candidates : (digits : ℕ) (p : Count → Bool) (before ns : List Count) → EachAfter (MayVote digits) before ns
     → votes_of (filter p ns) ≡ 0 → filter p ns ≡ []
 no_candidates digits p before [] h z = refl
@@ -42,6 +43,7 @@ no_candidates digits p before (c ∷ ns) h z =
       | inr e ↦ let rest : votes_of (filter p ns) ≡ 0 = rw e at z in rw e (no_candidates digits p (before ++ c ∷ []) ns h.1 rest)
     ]
 
+-- parties that are left out have no candidates
 kept_candidates : (digits : ℕ) (o : OfficeCount) (ks : List ℕ) → EachAfter (MayVote digits) [] o.nominal
     → flat_map (λ p. p.candidates) (filter some_votes (map (said_party digits o) ks)) ≡ flat_map (λ k. candidates_of digits k o.nominal) ks
 kept_candidates digits o [] h = refl
@@ -57,6 +59,7 @@ kept_candidates digits o (k ∷ ks) h =
 
 -- ---- party votes
 
+-- the party votes of a party are one entry or none
 single : (before ps : List Count) (k : ℕ) → EachAfter MayLegend before ps → (party_votes k ps ≡ 0 → filter (λ c. c.number == k) ps ≡ [])
     × (0 < party_votes k ps → filter (λ c. c.number == k) ps ≡ record { number = k; votes = party_votes k ps } ∷ [])
 single before [] k h = (λ z. refl, λ s. absurd (omega arith))
@@ -81,6 +84,7 @@ positive n h = grind (arith, nat_tests)
 more_votes : (m n : ℕ) → nat_lt 0 n ≡ true → nat_lt 0 (m + n) ≡ true
 more_votes m n h = grind (arith, nat_tests)
 
+-- and no party votes
 kept_legends : (digits : ℕ) (o : OfficeCount) (ks : List ℕ) → EachAfter MayLegend [] o.parties
     → legends (filter some_votes (map (said_party digits o) ks)) ≡ flat_map (λ k. filter (λ c. c.number == k) o.parties) ks
 kept_legends digits o [] h = refl
@@ -130,6 +134,7 @@ rebuilt o nominal parties a b p =
       null_votes = o.null_votes;
     }) (sym p))
 
+-- an office comes back from what it says
 office_back : (r : Report) (o : OfficeCount) (b : Bool) → IsOfficeCount r.came o → code_proportional o.code ≡ b
     → count_of (office_of b r o) ≡ o
 office_back r o true h e =
@@ -152,6 +157,7 @@ offices_back r before (o ∷ os) h =
     ap (λ (l : List OfficeCount). count_of (said_office r o) ∷ l) (offices_back r (before ++ o ∷ []) os h.1)
     ∙ ap (λ (n : OfficeCount). n ∷ os) (office_back r o (code_proportional o.code) h.0.1 refl)
 
+-- and so does a report
 pub report_back : (r : Report) → IsReport r → report_of (said r) ≡ r
 unfolding said
 report_back r h =

@@ -20,6 +20,7 @@ use Rattle.qr_text.proofs.Exact.{Traces, Complete}
 use Rattle.qr_text.proofs.Head.{at_head, head_traced}
 use Rattle.qr_text.proofs.RowLaws.{number_again, vote_again, vote_none, number_small}
 
+-- fields, and others behind them
 traces_append : (st : State) (fs gs : List Field) (m e : State) → Traces st fs m → Traces m gs e → Traces st (fs ++ gs) e
 traces_append st [] gs m e t u = let P : State → Type 0 = λ x. Traces x gs e in subst P (sym t) u
 traces_append st (f ∷ fs) gs m e t u = (t.0, t.1, traces_append t.0 fs gs m e t.2 u)
@@ -29,6 +30,7 @@ traces_to st fs d e same t = let P : State → Type 0 = λ x. Traces st fs x in 
 
 -- ---- lists
 
+-- elements that are a field each
 each_mapped : {A : Type 0} (May : List A → A → Type 0) (f : A → Field) (st : List A → State)
     → ((before : List A) (x : A) → May before x → step (st before) (f x).text ≡ Some (st (before ++ x ∷ []), (f x).tests))
     → (before xs : List A) → EachAfter May before xs → Traces (st before) (map f xs) (st (before ++ xs))
@@ -40,6 +42,7 @@ each_mapped May f st one before (x ∷ xs) h = (
       (each_mapped May f st one (before ++ x ∷ []) xs h.1),
 )
 
+-- elements that are several fields each
 each_traced : {A : Type 0} (May : List A → A → Type 0) (f : A → List Field) (st : List A → State)
     → ((before : List A) (x : A) → May before x → Traces (st before) (f x) (st (before ++ x ∷ [])))
     → (before xs : List A) → EachAfter May before xs → Traces (st before) (flat_map f xs) (st (before ++ xs))
@@ -51,6 +54,7 @@ each_traced May f st one before (x ∷ xs) h =
 
 -- ---- an office
 
+-- an office is read behind those that are done
 abbrev at_office : Mode → Said → List SaidOffice → SaidOffice → SaidParty → State
 at_office m s done o p = record { mode = m; said = record s { offices = done }; office = o; party = p }
 
@@ -75,6 +79,7 @@ party_vote_goes s done o number before c h =
 
 -- ---- a party
 
+-- parties were read
 abbrev in_parties : Said → List SaidOffice → SaidOffice → List SaidParty → State
 in_parties s done o before = at_office Party s done (record o { parties = before }) no_party
 
@@ -120,6 +125,7 @@ party_traced s done o before p h =
 
 -- ---- the fields behind the votes
 
+-- the office with its votes alone
 abbrev voted : SaidOffice → SaidOffice
 voted o = record (new_office o.code) { candidates = o.candidates; parties = o.parties }
 
@@ -139,6 +145,7 @@ able_goes_behind_parties : (s : Said) (done : List SaidOffice) (o : SaidOffice) 
 unfolding step
 able_goes_behind_parties s done o h = rw (no_part o.able, number_again TABLE.office_able o.able (lit< tt) h) refl
 
+-- and with the first two of its sums
 abbrev with_nominal : SaidOffice → SaidOffice
 with_nominal o = record (voted o) { able = o.able; nominal = o.nominal }
 
@@ -215,6 +222,7 @@ kind_goes s done code = rw (
   eq-eqb (kind_number (code_proportional code)) (kind_number (code_proportional code)) refl,
 ) refl
 
+-- what stands behind TIPO
 abbrev behind_kind : Said → SaidOffice → Bool → List Field
 behind_kind s o proportional = votes_fields proportional o ++ sum_fields s proportional o
 

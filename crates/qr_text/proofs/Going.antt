@@ -5,7 +5,7 @@ use Rattle.std.specs.List.{AllByRecursion, zip, flat_map}
 use Rattle.std.specs.Option.{option_and_then, option_or}
 use Rattle.std.proofs.lemmas.Bool.Decides.{nat_tests}
 use Rattle.std.proofs.lemmas.Bool.{cases_Bool, eqb-true}
-use Rattle.std.proofs.lemmas.List.{append-nil, take-append-drop}
+use Rattle.std.proofs.lemmas.List.{append-nil, map-append, take-append-drop}
 use Rattle.urna_base.proofs.DigitLaws.{both_from_and}
 use Rattle.election_tables.specs.Fields.{first_two}
 use Rattle.election_tables.specs.Offices.{code_proportional, row_of}
@@ -24,6 +24,7 @@ use Rattle.qr_text.proofs.RowLaws.{and_then_some, number_back, vote_back}
 
 -- ---- the fields of the present office that were read
 
+-- the code, TIPO and more
 abbrev in_office : Said → SaidOffice → List Field → List Field
 in_office s o more = office_field s o TABLE.office o.code ∷ office_field s o TABLE.kind (kind_number (code_proportional o.code)) ∷ more
 
@@ -33,6 +34,7 @@ votes_read s o = votes_fields (code_proportional o.code) o
 abbrev legend_read : Said → SaidOffice → List Field
 legend_read s o = if code_proportional o.code then office_field s o TABLE.legend o.legend ∷ [] else []
 
+-- the fields of the present office, by what is wanted next
 abbrev pub part : Mode → Said → SaidOffice → SaidParty → List Field
 part (Head n) s o p = []
 part Code s o p = []
@@ -58,6 +60,7 @@ part Done s o p = []
 
 -- ---- what is so between two fields
 
+-- the office so far may stand behind the others
 pub record Votes (s : Said) (o : SaidOffice) : Type 0 where
   pub may : may_have_code (codes_in s.offices) o.code ≡ true
   pub candidates : EachAfter (MayVote (digits_in o.code)) [] o.candidates
@@ -65,12 +68,14 @@ pub record Votes (s : Said) (o : SaidOffice) : Type 0 where
   pub proportional : code_proportional o.code ≡ true → o.candidates ≡ []
   pub majority : code_proportional o.code ≡ false → (o.parties ≡ []) × (o.legend ≡ 0)
 
+-- so may its party so far
 pub record PartyRead (o : SaidOffice) (p : SaidParty) : Type 0 where
   pub kind : code_proportional o.code ≡ true
   pub number : fits TABLE.party.form p.number ≡ true
   pub above : is_above (map (λ q. q.number) o.parties) p.number ≡ true
   pub candidates : EachAfter (MayVoteIn (digits_in o.code) p.number) [] p.candidates
 
+-- what is so of the office and of the party, by what is wanted next
 abbrev pub Fine : Mode → Said → SaidOffice → SaidParty → Type 0
 Fine (Head n) s o p = ⊥
 Fine Code s o p = s.offices ≡ []
@@ -94,12 +99,14 @@ Fine Done s o p = 0 < length s.offices
 abbrev pub before_part : Said → List Field
 before_part s = head_list s ++ flat_map (office_fields s) s.offices
 
+-- behind the fields before the offices
 pub record InOffices (m : Mode) (s : Said) (o : SaidOffice) (p : SaidParty) (fs : List Field) : Type 0 where
   pub head : Fits 13 s
   pub offices : EachAfter MayOffice [] s.offices
   pub read : fs ≡ before_part s ++ part m s o p
   pub fine : Fine m s o p
 
+-- n of the fields before the offices were read
 pub record InHead (n : ℕ) (s : Said) (fs : List Field) : Type 0 where
   pub few : n ≤ 12
   pub none : s.offices ≡ []
@@ -121,6 +128,7 @@ GoodIn Null s o p fs = InOffices Null s o p fs
 GoodIn Total s o p fs = InOffices Total s o p fs
 GoodIn Done s o p fs = InOffices Done s o p fs
 
+-- what is so where these fields were read
 abbrev pub Good : State → List Field → Type 0
 Good st fs = GoodIn st.mode st.said st.office st.party fs
 
@@ -130,6 +138,7 @@ map_some : {A B : Type 0} (f : A → B) (o : Option A) (y : B) → option_map f 
 map_some f None y e = absurd (cc)
 map_some f (Some x) y e = (x, refl, cc)
 
+-- it is so behind one field more
 abbrev Snoc : List Field → List ℕ → State × List Test → Type 0
 Snoc fs p x = Good x.0 (fs ++ record { text = p; tests = x.1 } ∷ [])
 
@@ -180,6 +189,7 @@ head_keeps n s o q fs p x g e =
 
 -- ---- the head can go on
 
+-- the smallest office: nobody came
 minimal_office : IsSaidOffice (new_office 1)
 minimal_office = record {
   candidates = tt;
@@ -194,6 +204,7 @@ minimal_office = record {
   total = refl;
 }
 
+-- these fields go on to something that may be said, and where the text may end they are it
 abbrev pub Completed : List Field → State → Type 0
 Completed fs e = (s : Said) × IsSaid s × (rest : List Field) × (fields s ≡ fs ++ rest)
     × (may_end e.mode ≡ true → (rest ≡ []) × (e.said ≡ s))
@@ -215,10 +226,6 @@ head_completes n s fs o q g =
 
 -- ---- lists with one element more
 
-map_snoc : {A B : Type 0} (f : A → B) (xs : List A) (x : A) → map f (xs ++ x ∷ []) ≡ map f xs ++ f x ∷ []
-map_snoc f [] x = refl
-map_snoc f (y ∷ xs) x = ap (λ (l : List _). f y ∷ l) (map_snoc f xs x)
-
 flat_map_snoc : {A B : Type 0} (f : A → List B) (xs : List A) (x : A) → flat_map f (xs ++ x ∷ []) ≡ flat_map f xs ++ f x
 flat_map_snoc f [] x = append-nil (f x)
 flat_map_snoc f (y ∷ xs) x = ap (λ (l : List _). f y ++ l) (flat_map_snoc f xs x) ∙ sym (append_assoc (f y) (flat_map f xs) (f x))
@@ -230,6 +237,7 @@ each_snoc May before (y ∷ xs) x h m =
     let P : List _ → Type 0 = λ l. May l x in
     (h.0, each_snoc May (before ++ y ∷ []) xs x h.1 (subst P (sym (append_assoc before (y ∷ []) xs)) m))
 
+-- one field more of the present office
 extend : (s : Said) (fs pt more : List Field) (f : Field) → fs ≡ before_part s ++ pt → more ≡ pt ++ f ∷ []
     → fs ++ f ∷ [] ≡ before_part s ++ more
 extend s fs pt more f e d = ap (λ (l : List Field). l ++ f ∷ []) e
@@ -243,11 +251,13 @@ or_some : {A : Type 0} (a b : Option A) (x : A) → option_or a b ≡ Some x →
 or_some None b x e = inr e
 or_some (Some y) b x e = inl e
 
+-- a state with its parts in order
 abbrev at : Mode → Said → SaidOffice → SaidParty → State
 at m s o p = record { mode = m; said = s; office = o; party = p }
 
 -- ---- an office begins
 
+-- an office begins
 code_keeps : (m : Mode) (s : Said) (o : SaidOffice) (q : SaidParty) (fs : List Field) (p : List ℕ) (x : State × List Test)
     → part m s o q ≡ [] → InOffices m s o q fs
     → option_and_then (λ code. if may_have_code (codes_in s.offices) code then Some (at Kind s (new_office code) no_party, []) else None)
@@ -298,6 +308,7 @@ kind_known s code v fs head offices read may same false e =
       fine = (record { may = may; candidates = tt; parties = tt; proportional = λ h. refl; majority = λ h. (refl, refl) }, e);
     }
 
+-- TIPO is read
 kind_keeps : (s : Said) (o : SaidOffice) (q : SaidParty) (fs : List Field) (p : List ℕ) (x : State × List Test) → InOffices Kind s o q fs
     → option_and_then (λ v. if v == kind_number (code_proportional o.code) then Some
     (at (if code_proportional o.code then Party else Vote) s o no_party, []) else None) (number_at TABLE.kind p) ≡ Some x
@@ -320,6 +331,7 @@ kind_keeps s o q fs p x g e =
 abbrev able_step_of : Said → SaidOffice → ℕ → State × List Test
 able_step_of s o v = (at Nominal s (record o { able = v }) no_party, (office_field s (record o { able = v }) TABLE.office_able v).tests)
 
+-- the sums of an office begin
 able_keeps : (m : Mode) (s : Said) (o : SaidOffice) (q : SaidParty) (fs : List Field) (p : List ℕ) (x : State × List Test)
     → Fits 13 s → EachAfter MayOffice [] s.offices → fs ≡ before_part s ++ in_office s o (votes_read s o) → Votes s o
     → option_map (able_step_of s o) (number_at TABLE.office_able p) ≡ Some x → Snoc fs p x
@@ -347,8 +359,9 @@ able_keeps m s o q fs p x head offices read votes e =
 vote_more : (b : Bool) (o : SaidOffice) (c : Count) → b ≡ false
     → votes_fields b (record o { candidates = o.candidates ++ c ∷ [] }) ≡ votes_fields b o ++ vote_field c ∷ []
 vote_more true o c e = absurd (cc)
-vote_more false o c e = map_snoc vote_field o.candidates c
+vote_more false o c e = map-append vote_field o.candidates (c ∷ [])
 
+-- a candidate of a majority office, or the sums
 vote_keeps : (s : Said) (o : SaidOffice) (q : SaidParty) (fs : List Field) (p : List ℕ) (x : State × List Test) → InOffices Vote s o q fs
     → step (at Vote s o q) p ≡ Some x → Snoc fs p x
 unfolding step
@@ -383,6 +396,7 @@ vote_keeps s o q fs p x g e =
       | inr able ↦ able_keeps Vote s o q fs p x g.head g.offices g.read g.fine.0 able
     ]
 
+-- a party of a proportional office, or the sums
 party_keeps : (s : Said) (o : SaidOffice) (q : SaidParty) (fs : List Field) (p : List ℕ) (x : State × List Test) → InOffices Party s o q fs
     → step (at Party s o q) p ≡ Some x → Snoc fs p x
 unfolding step
@@ -411,6 +425,7 @@ party_keeps s o q fs p x g e =
 abbrev party_so_far : Said → SaidOffice → SaidParty → List Field
 party_so_far s o q = party_field q TABLE.party q.number ∷ map vote_field q.candidates
 
+-- a candidate of a party, or its party votes
 of_party_keeps : (s : Said) (o : SaidOffice) (q : SaidParty) (fs : List Field) (p : List ℕ) (x : State × List Test)
     → InOffices OfParty s o q fs → step (at OfParty s o q) p ≡ Some x → Snoc fs p x
 unfolding step
@@ -430,7 +445,7 @@ of_party_keeps s o q fs p x g e =
           let r : SaidParty = record q { candidates = q.candidates ++ c ∷ [] } in
           let read = g.fine.1 in
           let more : votes_read s o ++ party_so_far s o r ≡ (votes_read s o ++ party_so_far s o q) ++ vote_field c ∷ [] =
-          ap (λ (l : List Field). votes_read s o ++ (party_field q TABLE.party q.number ∷ l)) (map_snoc vote_field q.candidates c)
+          ap (λ (l : List Field). votes_read s o ++ (party_field q TABLE.party q.number ∷ l)) (map-append vote_field q.candidates (c ∷ []))
           ∙ sym (append_assoc (votes_read s o) (party_so_far s o q) (vote_field c ∷ [])) in
           snoc_to fs p (field_text (vote_row c.number) c.votes) x (with_vote c) (sym back.0) both.1 (record {
             head = g.head;
@@ -470,6 +485,7 @@ party_more : (b : Bool) (o : SaidOffice) (q : SaidParty) → b ≡ true
 party_more true o q e = flat_map_snoc party_fields o.parties q
 party_more false o q e = absurd (cc)
 
+-- the total of a party
 party_total_keeps : (s : Said) (o : SaidOffice) (q : SaidParty) (fs : List Field) (p : List ℕ) (x : State × List Test)
     → InOffices PartyTotal s o q fs → step (at PartyTotal s o q) p ≡ Some x → Snoc fs p x
 unfolding step
@@ -532,6 +548,7 @@ nominal_known s o fs head offices votes able nominal read false e =
       fine = (votes, able, nominal, no_legend);
     }
 
+-- NOMI is read
 nominal_keeps : (s : Said) (o : SaidOffice) (q : SaidParty) (fs : List Field) (p : List ℕ) (x : State × List Test)
     → InOffices Nominal s o q fs → step (at Nominal s o q) p ≡ Some x → Snoc fs p x
 unfolding step
@@ -559,6 +576,7 @@ nominal_keeps s o q fs p x g e =
     (nominal_known s o1 (fs ++ f ∷ []) g.head g.offices votes1 g.fine.1 back.1 (extend s fs (part Nominal s o q) _ f g.read more)
     (code_proportional o.code) refl)
 
+-- LEGC is read
 legend_keeps : (s : Said) (o : SaidOffice) (q : SaidParty) (fs : List Field) (p : List ℕ) (x : State × List Test)
     → InOffices Legend s o q fs → step (at Legend s o q) p ≡ Some x → Snoc fs p x
 unfolding step
@@ -594,6 +612,7 @@ legend_keeps s o q fs p x g e =
       );
     })
 
+-- BRAN is read
 blank_keeps : (s : Said) (o : SaidOffice) (q : SaidParty) (fs : List Field) (p : List ℕ) (x : State × List Test) → InOffices Blank s o q fs
     → step (at Blank s o q) p ≡ Some x → Snoc fs p x
 unfolding step
@@ -627,6 +646,7 @@ blank_keeps s o q fs p x g e =
       );
     })
 
+-- NULO is read
 null_keeps : (s : Said) (o : SaidOffice) (q : SaidParty) (fs : List Field) (p : List ℕ) (x : State × List Test) → InOffices Null s o q fs
     → step (at Null s o q) p ≡ Some x → Snoc fs p x
 unfolding step
@@ -692,6 +712,7 @@ unfolding head_rows
 with_office s o = ap (λ (l : List Field). head_list s ++ l) (flat_map_snoc (office_fields s) s.offices o)
     ∙ sym (append_assoc (head_list s) (flat_map (office_fields s) s.offices) (office_fields s o))
 
+-- TOTC is read, and the office is whole
 total_keeps : (s : Said) (o : SaidOffice) (q : SaidParty) (fs : List Field) (p : List ℕ) (x : State × List Test) → InOffices Total s o q fs
     → step (at Total s o q) p ≡ Some x → Snoc fs p x
 unfolding step
@@ -731,6 +752,7 @@ total_keeps s o q fs p x g e =
 
 -- ---- one field more, in every mode
 
+-- each step keeps what is so
 keeps_in : (m : Mode) (s : Said) (o : SaidOffice) (q : SaidParty) (fs : List Field) (p : List ℕ) (x : State × List Test)
     → GoodIn m s o q fs → step (at m s o q) p ≡ Some x → Snoc fs p x
 unfolding step
@@ -758,6 +780,7 @@ keeps st fs (f ∷ gs) e g t =
 
 -- ---- an office can go on
 
+-- a part of an office and its rest are an office
 complete_with : (m : Mode) (s : Said) (x : SaidOffice) (q : SaidParty) (fs pt rest : List Field) (o : SaidOffice) → may_end m ≡ false
     → Fits 13 s → EachAfter MayOffice [] s.offices
     → MayOffice s.offices o → fs ≡ before_part s ++ pt → office_fields s o ≡ pt ++ rest → Completed fs (at m s x q)
@@ -828,6 +851,7 @@ fits_all : (s : Said) → Fits 13 s → AllByRecursion (λ x. fits x.0.form x.1 
 unfolding head_rows
 fits_all s h = h
 
+-- the text may end here
 whole_completes : (s : Said) (o : SaidOffice) (q : SaidParty) (fs : List Field) → InOffices Done s o q fs → Completed fs (at Done s o q)
 unfolding fields
 whole_completes s o q fs g = (

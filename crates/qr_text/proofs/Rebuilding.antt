@@ -52,6 +52,7 @@ pass_left : (a b : List Field) → Pass (a ++ b) → Pass a × Pass b
 pass_left [] b h = (tt, h)
 pass_left (f ∷ a) b h = let rest = pass_left a b h.1 in ((h.0, rest.0), rest.1)
 
+-- the sums of an office that passed its tests
 record SumsRight (s : Said) (b : Bool) (o : SaidOffice) : Type 0 where
   able : s.able ≡ o.able
   nominal : all_nominal o ≡ o.nominal
@@ -138,6 +139,7 @@ legends_sum (p ∷ ps) =
 
 -- ---- an office again
 
+-- an office with the same parts
 same_office : (o : SaidOffice) (candidates : List Count) (parties : List SaidParty) (able nominal legend total : ℕ)
     → candidates ≡ o.candidates → parties ≡ o.parties → able ≡ o.able → nominal ≡ o.nominal → legend ≡ o.legend → total ≡ o.total
     → record {
@@ -160,6 +162,7 @@ same_office o candidates parties able nominal legend total c p a n l t =
     ∙ (ap (λ (x : ℕ). record o { legend = x; total = total }) l
     ∙ ap (λ (x : ℕ). record o { total = x }) t))))
 
+-- what the flattened office says, of this kind and with so many voters
 abbrev again_of : Bool → ℕ → SaidOffice → SaidOffice
 again_of b able o =
     let c : OfficeCount = count_of o in
@@ -178,6 +181,7 @@ again_of b able o =
 nominal_of : (o : SaidOffice) → votes_of (count_of o).nominal ≡ all_nominal o
 nominal_of o = let both = votes_append o.candidates (all_candidates o.parties) in let flat = votes_flat o.parties in omega arith
 
+-- and that is the office
 office_again : (s : Said) (o : SaidOffice) (b : Bool) → IsSaidOffice o → code_proportional o.code ≡ b → Pass (votes_fields b o)
     → SumsRight s b o → again_of b s.able o ≡ o
 office_again s o true h e votes sums =
@@ -319,6 +323,7 @@ from_ten : (digits : ℕ) (ps : List SaidParty) → Parties digits ps → From 0
 from_ten digits [] h = tt
 from_ten digits (p ∷ ps) h = (omega arith, from_ten digits ps h.1)
 
+-- the flattened office is one that a report can have
 count_is : (s : Said) (o : SaidOffice) (b : Bool) → IsSaidOffice o → code_proportional o.code ≡ b → SumsRight s b o
     → IsOfficeCount s.came (count_of o)
 count_is s o true h e sums =
@@ -362,6 +367,7 @@ codes_same : (os : List SaidOffice) → map (λ c. c.code) (map count_of os) ≡
 codes_same [] = refl
 codes_same (o ∷ os) = ap (λ (l : List ℕ). o.code ∷ l) (codes_same os)
 
+-- the tests of an office pass
 record OfficePass (s : Said) (o : SaidOffice) : Type 0 where
   votes : Pass (votes_fields (code_proportional o.code) o)
   sums : SumsRight s (code_proportional o.code) o
@@ -427,6 +433,7 @@ moment_is d t hd ht =
     (ap (λ (n : ℕ). is_date n) day ∙ hd) (ap (λ (n : ℕ). is_between 0 23 n) hours ∙ parts.0)
     (ap (λ (n : ℕ). is_between 0 59 n) minutes ∙ parts.1) (ap (λ (n : ℕ). is_between 0 59 n) seconds ∙ parts.2)
 
+-- the tests before the offices pass
 record HeadRight (s : Said) : Type 0 where
   voters : s.came + s.missed ≡ s.able
   order : moment s.open_date s.open_time ≤ moment s.close_date s.close_time
@@ -445,6 +452,7 @@ some_counts : (os : List SaidOffice) → 0 < length os → 0 < length (map count
 some_counts [] h = h
 some_counts (o ∷ os) h = omega arith
 
+-- the report that was said can be spelled
 report_is : (s : Said) → IsSaid s → HeadRight s → Pass (flat_map (office_fields s) s.offices) → IsReport (report_of s)
 unfolding head_rows
 report_is s h right pass =
@@ -465,6 +473,7 @@ report_is s h right pass =
       offices = offices_are s [] s.offices h.offices pass;
     }
 
+-- and says the same
 said_again : (s : Said) → IsSaid s → HeadRight s → Pass (flat_map (office_fields s) s.offices) → said (report_of s) ≡ s
 unfolding said head_rows
 said_again s h right pass =

@@ -75,16 +75,20 @@ own_legend p ps a = elim (cases_Bool (nat_lt 0 p.legend)) [
 abbrev pub Right : List SaidParty → Type 0
 Right ps = AllByRecursion (λ p. votes_of p.candidates + p.legend ≡ p.total) ps
 
+-- the numbers of the parties rise
 abbrev pub Rising : List SaidParty → Type 0
 Rising [] = Unit {0}
 Rising (p ∷ ps) = AllAbove p.number ps × Rising ps
 
+-- and are of the n from a on
 abbrev pub InRange : ℕ → ℕ → List SaidParty → Type 0
 InRange a n ps = AllByRecursion (λ p. (a ≤ p.number) × (p.number < a + n)) ps
 
+-- party k, where these give its candidates and its party votes
 abbrev pub made : (ℕ → List Count) → (ℕ → ℕ) → ℕ → SaidParty
 made C V k = record { number = k; candidates = C k; legend = V k; total = votes_of (C k) + V k }
 
+-- from a on they give what is flattened of these parties
 abbrev pub Tells : ℕ → (ℕ → List Count) → (ℕ → ℕ) → ℕ → List SaidParty → Type 0
 Tells digits C V a ps = (k : ℕ) → a ≤ k → (C k ≡ candidates_of digits k (all_candidates ps)) × (V k ≡ party_votes k (legends ps))
 
@@ -100,6 +104,7 @@ skip_legend k p ps less =
     let other : (p.number == k) ≡ false = other_number p.number k (λ e. omega arith) in
     elim (cases_Bool (nat_lt 0 p.legend)) [ inl e ↦ rw (e, other) refl | inr e ↦ rw e refl ]
 
+-- a party without votes is left out
 dropped : (C : ℕ → List Count) (V : ℕ → ℕ) (a : ℕ) → C a ≡ [] → V a ≡ 0 → some_votes (made C V a) ≡ false
 dropped C V a c v = rw (c, v) refl
 
@@ -114,6 +119,7 @@ range_up a n (p ∷ ps) l r = (let x = l.0 in let y = r.0.1 in (omega arith, ome
 kept_total : (n : ℕ) → is_between 1 9999 n ≡ true → nat_lt 0 n ≡ true
 kept_total n h = grind (arith, nat_tests)
 
+-- a party whose sum is right is made again
 made_is : (C : ℕ → List Count) (V : ℕ → ℕ) (p : SaidParty) → C p.number ≡ p.candidates → V p.number ≡ p.legend
     → votes_of p.candidates + p.legend ≡ p.total → made C V p.number ≡ p
 made_is C V p c v t =
@@ -128,6 +134,7 @@ again_none digits C V (suc n) a h =
     let here = h a (omega arith) in
     rw (dropped C V a here.0 here.1) (again_none digits C V n (a + 1) (λ k l. h k (omega arith)))
 
+-- the parties with votes that are made are these parties
 pub again : (digits : ℕ) (C : ℕ → List Count) (V : ℕ → ℕ) (n a : ℕ) (ps : List SaidParty) → Tells digits C V a ps → Parties digits ps
     → Right ps → Rising ps → InRange a n ps
     → filter some_votes (map (made C V) (range_with_len a n)) ≡ ps

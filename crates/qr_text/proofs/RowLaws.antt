@@ -45,6 +45,7 @@ pub after_word-front : (word text : List ℕ) → after_word word (word ++ text)
 after_word-front [] text = refl
 after_word-front (w ∷ word) text = rw (eq-eqb w w refl) (after_word-front word text)
 
+-- where a guarded value is there the guard holds
 guard_some : {A : Type 0} (b : Bool) (o : Option A) (x : A) → (if b then o else None) ≡ Some x → (b ≡ true) × (o ≡ Some x)
 guard_some true o x e = (refl, e)
 guard_some false o x e = absurd (cc)

@@ -78,6 +78,7 @@ above_front (y ∷ before) x n h =
     let rest = above_front before x n both.1 in
     (rw (both.0, rest.0) refl, rest.1)
 
+-- what is above the ones is above the others
 abbrev Keeps : List Count → List Count → Type 0
 Keeps before kept = (n : ℕ) → is_above (numbers_of before) n ≡ true → is_above (numbers_of kept) n ≡ true
 
@@ -90,6 +91,7 @@ keeps_one : (before kept : List Count) (c : Count) → Keeps before kept → Kee
 keeps_one before kept c k n h =
     k n (above_front (numbers_of before) c.number n (rw (map-append (λ (x : Count). x.number) before (c ∷ [])) at h)).0
 
+-- the candidates of a party may stand in it
 candidates_may : (digits party : ℕ) (before kept cs : List Count) → Keeps before kept → EachAfter (MayVote digits) before cs
     → EachAfter (MayVoteIn digits party) kept (candidates_of digits party cs)
 candidates_may digits party before kept [] k h = tt
@@ -104,6 +106,7 @@ candidates_may digits party before kept (c ∷ cs) k h =
 
 -- ---- sums of parts
 
+-- some of them have no more votes than all
 pub part_votes : (p : Count → Bool) (cs : List Count) → votes_of (filter p cs) ≤ votes_of cs
 part_votes p [] = lit≤ tt
 part_votes p (c ∷ cs) =
@@ -126,6 +129,7 @@ legend_part k (c ∷ ps) =
 
 -- ---- the parties
 
+-- the votes of an office that belong to parties or candidates
 abbrev pub total_votes : OfficeCount → ℕ
 total_votes o = votes_of o.nominal + votes_of o.parties
 
@@ -135,6 +139,7 @@ small_total n h g = grind (arith, nat_tests)
 party_number : (n : ℕ) → 10 ≤ n → n < 100 → is_between 10 99 n ≡ true
 party_number n h g = grind (arith, nat_tests)
 
+-- a party with votes may be said
 is_party : (digits : ℕ) (o : OfficeCount) (k : ℕ) → EachAfter (MayVote digits) [] o.nominal → total_votes o ≤ 9999 → 10 ≤ k → k < 100
     → nat_lt 0 (said_party digits o k).total ≡ true
     → IsSaidParty digits (said_party digits o k)
@@ -154,6 +159,7 @@ party_numbers ps = map (λ p. p.number) ps
 abbrev pub some_votes : SaidParty → Bool
 some_votes p = nat_lt 0 p.total
 
+-- so many parties from the a-th on may stand behind these
 pub parties_may : (digits : ℕ) (o : OfficeCount) (n a : ℕ) (before : List SaidParty) → EachAfter (MayVote digits) [] o.nominal
     → total_votes o ≤ 9999 → 10 ≤ a → a + n ≤ 100
     → ((k : ℕ) → a ≤ k → is_above (party_numbers before) k ≡ true)
@@ -172,6 +178,7 @@ parties_may digits o (suc n) a before votes bound low high above =
 
 -- ---- the groups of candidates are all candidates
 
+-- numbers of so many digits rise with their first two, which are a party
 pub record Grouped (digits : ℕ) : Type 0 where
   pub ascends : (m n : ℕ) → m < n → first_two digits m ≤ first_two digits n
   pub within : (n : ℕ) → has_digits digits n ≡ true → (10 ≤ first_two digits n) × (first_two digits n < 100)
@@ -194,6 +201,7 @@ by_digits : (digits : ℕ) → (digits ≡ 4) ⊎ (digits ≡ 5) → Grouped dig
 by_digits digits (inl e) = let P : ℕ → Type 0 = λ n. Grouped n in subst P (sym e) grouped_4
 by_digits digits (inr e) = let P : ℕ → Type 0 = λ n. Grouped n in subst P (sym e) grouped_5
 
+-- the numbers of a proportional office do
 pub grouped : (code : ℕ) → code_proportional code ≡ true → Grouped (digits_in code)
 grouped code h = by_digits (digits_in code) (proportional_digits code h)
 

@@ -30,9 +30,11 @@ use Rattle.qr_text.proofs.Following.{kind_fits}
 use Rattle.qr_text.proofs.Reporting.{is_said, passes}
 use Rattle.qr_text.proofs.RowLaws.{IsSmall, between_small, number_small}
 
+-- no space
 abbrev other : ℕ → Bool
 other b = not (b == 32)
 
+-- a text without spaces
 abbrev Solid : List ℕ → Type 0
 Solid t = list_all other t ≡ true
 
@@ -75,6 +77,7 @@ solid_field r v k w h = solid_append r.key (58 ∷ value_text r.form v) k (solid
 
 -- ---- of each field
 
+-- fields without spaces
 abbrev Solids : List Field → Type 0
 Solids fs = AllByRecursion (λ f. Solid f.text) fs
 
@@ -141,6 +144,7 @@ solid_offices s before (o ∷ os) h =
     )
     (solid_offices s (before ++ o ∷ []) os h.1)
 
+-- the numbers of the form are small
 abbrev is_small : Form → Bool
 is_small Vota = true
 is_small (Between low high) = nat_lt high (10 ^ 18)
@@ -153,6 +157,7 @@ small_of (Between low high) e = ltb-true high (10 ^ 18) e
 small_of Date e = tt
 small_of Time e = tt
 
+-- the key has no space, and the numbers are small
 abbrev is_plain : Row → Bool
 is_plain r = list_all other r.key && is_small r.form
 
