@@ -53,17 +53,17 @@ four_or_five : (digits : ℕ) (b : Bool) → (not b || (digits == 4 || digits ==
 four_or_five digits false h e = absurd (cc)
 four_or_five digits true h e = either digits (digits == 4) (digits == 5) h (λ x. grind (arith, nat_tests)) (λ x. grind (arith, nat_tests))
 
--- a row has a kind and digits; a code without one has this other kind
-of_row : {R K : Type 0} (kinds : R → K) (digits : R → ℕ) (allow : K → Bool) (other : K) → allow other ≡ false → (o : Option R)
-    → option_map_or (λ r. not (allow (kinds r)) || (digits r == 4 || digits r == 5)) o true ≡ true
-    → allow (option_map_or kinds o other) ≡ true
+-- a row allows the kind, and so has these digits; a code without a row allows none
+of_row : {R : Type 0} (digits : R → ℕ) (allows_it : R → Bool) (o : Option R)
+    → option_map_or (λ r. not (allows_it r) || (digits r == 4 || digits r == 5)) o true ≡ true
+    → option_map_or allows_it o false ≡ true
     → (unwrap_or (option_map digits o) 0 ≡ 4) ⊎ (unwrap_or (option_map digits o) 0 ≡ 5)
-of_row kinds digits allow other no_other None all h = let not_so : true ≡ false = sym h ∙ no_other in absurd (cc)
-of_row kinds digits allow other no_other (Some r) all h = four_or_five (digits r) (allow (kinds r)) all h
+of_row digits allows_it None all h = absurd (cc)
+of_row digits allows_it (Some r) all h = four_or_five (digits r) (allows_it r) all h
 
 pub proportional_digits : (code : ℕ) → code_proportional code ≡ true → (digits_in code ≡ 4) ⊎ (digits_in code ≡ 5)
 unfolding row_of
 proportional_digits code h =
-    of_row (λ r. r.kinds) (λ r. r.digits) (λ k. kinds_allow k kind.Proportional) _ refl (row_of code)
+    of_row (λ r. r.digits) (λ r. kinds_allow r.kinds kind.Proportional) (row_of code)
     (found_has (λ r. not (kinds_allow r.kinds kind.Proportional) || (r.digits == 4 || r.digits == 5)) (λ r. code == r.code)
     office_rows refl) h

@@ -59,7 +59,7 @@ end_ok : (k : ℕ) (st : State) → may_end st.mode ≡ true → reading k st []
 unfolding reading
 end_ok k st h = rw h refl
 
-end_bad : (k : ℕ) (st : State) → may_end st.mode ≡ false → reading k st [] ≡ Err (fault.Field k)
+pub end_bad : (k : ℕ) (st : State) → may_end st.mode ≡ false → reading k st [] ≡ Err (fault.Field k)
 unfolding reading
 end_bad k st h = rw h refl
 

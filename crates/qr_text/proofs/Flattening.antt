@@ -25,7 +25,7 @@ use Rattle.qr_text.proofs.Saying.{zero_of, grouped, some_votes, within_by, ascen
 
 -- ---- candidates
 
-some_of : (n : ℕ) → is_between 1 9999 n ≡ true → 1 ≤ n
+pub some_of : (n : ℕ) → is_between 1 9999 n ≡ true → 1 ≤ n
 some_of n h = grind (arith, nat_tests)
 
 -- where the candidates that pass have no votes there are none

@@ -17,7 +17,7 @@ use Rattle.qr_text.specs.declared.said.SaidParty.{SaidParty}
 use Rattle.qr_text.specs.declared.table.TheConstants.{TABLE}
 use Rattle.qr_text.proofs.Codes.{code_fits}
 use Rattle.qr_text.proofs.Exact.{Traces, Complete}
-use Rattle.qr_text.proofs.Head.{at_head, head_traced}
+use Rattle.qr_text.proofs.HeadRows.{at_head, head_traced}
 use Rattle.qr_text.proofs.RowLaws.{number_again, vote_again, vote_none, number_small}
 
 -- fields, and others behind them

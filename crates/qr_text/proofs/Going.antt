@@ -19,7 +19,7 @@ use Rattle.qr_text.specs.declared.said.SaidOffice.{SaidOffice}
 use Rattle.qr_text.specs.declared.said.SaidParty.{SaidParty}
 use Rattle.qr_text.specs.declared.table.TheConstants.{TABLE}
 use Rattle.qr_text.proofs.Exact.{Traces, Completes}
-use Rattle.qr_text.proofs.Head.{Fits, after_head, at_row, fields_more, fits_going_on, fits_more, front_stays, going_on, head_list, head_steps, offices_stay, row_at}
+use Rattle.qr_text.proofs.HeadRows.{Fits, after_head, at_row, fields_more, fits_going_on, fits_more, front_stays, going_on, head_list, head_steps, offices_stay, row_at}
 use Rattle.qr_text.proofs.RowLaws.{and_then_some, number_back, vote_back}
 
 -- ---- the fields of the present office that were read

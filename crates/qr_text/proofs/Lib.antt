@@ -1,7 +1,7 @@
 pub mod Codes
 pub mod RowLaws
 pub mod Exact
-pub mod Head
+pub mod HeadRows
 pub mod Following
 pub mod Going
 pub mod Faults
@@ -16,3 +16,12 @@ pub mod Spellings
 pub mod Samples
 pub mod Rows
 pub mod WriteLaws
+pub mod PieceLaws
+pub mod FieldLaws
+pub mod VoteLaws
+pub mod Joining
+pub mod HeadJoin
+pub mod OfficeJoin
+pub mod VotesJoin
+pub mod OfficesJoin
+pub mod Telling

@@ -19,7 +19,7 @@ spells_says : (bytes : List ℕ) (r : Report) → Spells bytes r → Says bytes 
 unfolding report_fields
 spells_says bytes r h = record { said = is_said r h.report; same = h.fields; sums = passes r h.report }
 
-says_spells : (bytes : List ℕ) (s : Said) (r : Report) → Says bytes s → IsReport r → said r ≡ s → Spells bytes r
+pub says_spells : (bytes : List ℕ) (s : Said) (r : Report) → Says bytes s → IsReport r → said r ≡ s → Spells bytes r
 unfolding report_fields
 says_spells bytes s r h is e = record { report = is; fields = h.same ∙ ap (λ (x : Said). texts (fields x)) (sym e) }
 

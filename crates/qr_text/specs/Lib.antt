@@ -6,3 +6,6 @@ pub mod Reported
 pub mod Laws
 pub mod Reading
 pub mod Writing
+pub mod Sections
+pub mod Votes
+pub mod Fronts

@@ -1,5 +1,5 @@
 -- The report that was said.
-use Rattle.std.specs.Prelude.{nat_lt, List, ◌++◌, map}
+use Rattle.std.specs.Prelude.{nat_lt, if◌then◌else◌, List, [], ◌∷◌, ◌++◌, map}
 use Rattle.std.specs.List.{filter, flat_map}
 use Rattle.poll_report.specs.declared.report.Count.{Count}
 use Rattle.poll_report.specs.declared.report.OfficeCount.{OfficeCount}
@@ -13,12 +13,20 @@ use Rattle.qr_text.specs.declared.said.SaidParty.{SaidParty}
 abbrev pub legends : List SaidParty → List Count
 legends ps = map (λ p. record { number = p.number; votes = p.legend }) (filter (λ p. nat_lt 0 p.legend) ps)
 
--- an office without its sums: the candidates of its parties stand behind one another
+-- those of one party
+abbrev pub legend_of : SaidParty → List Count
+legend_of p = if nat_lt 0 p.legend then record { number = p.number; votes = p.legend } ∷ [] else []
+
+-- the candidates of an office; those of its parties stand behind one another
+abbrev pub all_candidates : SaidOffice → List Count
+all_candidates o = o.candidates ++ flat_map (λ p. p.candidates) o.parties
+
+-- an office without its sums
 abbrev pub count_of : SaidOffice → OfficeCount
 count_of o = record {
   code = o.code;
   places = 1;
-  nominal = o.candidates ++ flat_map (λ p. p.candidates) o.parties;
+  nominal = all_candidates o;
   parties = legends o.parties;
   blank = o.blank;
   null_votes = o.null_votes;

@@ -8,10 +8,18 @@
 
 mod fault;
 mod field;
+mod head;
 pub mod laws;
+mod office;
+mod read;
+mod reader;
 pub mod said;
 pub mod table;
+mod told;
+mod value;
+mod votes;
 mod write;
 
 pub use fault::{FieldError, FieldFault};
+pub use read::read_fields;
 pub use write::write_fields;

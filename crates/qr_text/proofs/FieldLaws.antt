@@ -1,0 +1,48 @@
+-- The number of one field.
+use Rattle.std.proofs.Common.{◌≡◌, ◌≢◌, ℕ, ◌<◌, ◌^◌, true, List, ◌++◌, Option, Some, None, refl, sym, arith}
+use Rattle.std.specs.Borrow.{Bor}
+use Rattle.std.specs.Option.{option_copied}
+use Rattle.std.specs.Prelude.{MatchOption, nat_lt}
+use Rattle.std.proofs.lemmas.Bool.Decides.{nat_tests}
+use Rattle.urna_base.specs.Moment.{is_between}
+use Rattle.urna_base.proofs.MomentLaws.{is_date-below}
+use Rattle.qr_text.proofs.RowLaws.{after_word-front, after_word-back, number_back, time_small}
+use Rattle.qr_text.specs.Reading.{after_word, number_at}
+use Rattle.qr_text.specs.Sections.{is_narrow}
+use Rattle.qr_text.specs.Table.{fits}
+use Rattle.qr_text.specs.declared.table.Form.TheVariants.{Vota, Between, Date, Time}
+use Rattle.qr_text.specs.declared.table.Form.{Form}
+use Rattle.qr_text.specs.declared.table.Row.{Row}
+use Rattle.qr_text.specs.declared.table.TheConstants.{TABLE}
+
+after_word-none : (word text : List ℕ) → ((rest : List ℕ) → text ≢ word ++ rest) → after_word word text ≡ None
+after_word-none word text never = go (after_word word text) refl
+  where
+    go : (o : Option (List ℕ)) → after_word word text ≡ o → o ≡ None
+    go None e = refl
+    go (Some rest) e = absurd (never rest (after_word-back word text rest e))
+
+-- what `strip_prefix` gives
+pub after_word-stripped : (word text : List ℕ) (r : Option (Bor (List ℕ))) → MatchOption r ((rest : List ℕ) → text ≢ word ++ rest) (λ x. text ≡ word ++ x.now)
+    → option_copied r ≡ after_word word text
+after_word-stripped word text None never = sym (after_word-none word text never)
+after_word-stripped word text (Some x) e = rw e (sym (after_word-front word x.now))
+
+pub number_fits : (r : Row) (p : List ℕ) (v : ℕ) → number_at r p ≡ Some v → fits r.form v ≡ true
+number_fits r p v h = (number_back r p v h).1
+
+between_narrow : (low high v : ℕ) → is_between low high v ≡ true → nat_lt high 4294967296 ≡ true → v < 2 ^ 32
+between_narrow low high v e h = grind (arith, nat_tests)
+
+zero_narrow : (v : ℕ) → fits Vota v ≡ true → v < 2 ^ 32
+zero_narrow v e = grind (arith, nat_tests)
+
+-- a number that a narrow field may have has 32 bits
+pub narrow : (form : Form) (v : ℕ) → fits form v ≡ true → is_narrow form ≡ true → v < 2 ^ 32
+narrow Vota v e h = zero_narrow v e
+narrow (Between low high) v e h = between_narrow low high v e h
+narrow Date v e h = let small = is_date-below v e in omega arith
+narrow Time v e h = let small = time_small v e in omega arith
+
+pub party_narrow : (p : List ℕ) (n : ℕ) → number_at TABLE.party p ≡ Some n → n < 2 ^ 32
+party_narrow p n h = narrow TABLE.party.form n (number_fits TABLE.party p n h) refl

@@ -1,0 +1,153 @@
+//! What one field of a text writes: the number of a row of the table, or a candidate and its votes.
+ghost use Rattle.std.specs.Prelude.{◌≡◌, ◌-◌, ◌^◌, ◌<◌, ◌≤◌, ◌==◌, position};
+ghost use Rattle.std.specs.Option.{option_copied};
+ghost use Rattle.election_tables.specs.Fields.{first_two, has_digits};
+ghost use Rattle.poll_report.specs.Report.{is_vote};
+ghost use Rattle.qr_text.specs.Reading.{after_word, number_at, value_at, written_value};
+ghost use Rattle.qr_text.specs.Table.{fits};
+ghost use Rattle.qr_text.specs.Votes.{belongs, party_after, vote_after, vote_by_colon};
+ghost use Rattle.qr_text.specs.declared.table.TheConstants.{TABLE};
+
+use crate::table::{Form, Row, TABLE};
+use poll_report::Count;
+use urna_base::{date_ok, decimal, digits};
+
+/// The number that a field writes, if it is a field of the row.
+#[tactic(auto, unfolding(crate::specs::Reading::number_at))]
+pub(crate) fn number_of(row: &Row, field: &[u8]) -> Option<u64>
+    ensures { result ≡ number_at row.now field.now }
+{
+    let value = after(b":", after(&row.key, field)?)?;
+    value_of(row.form, value)
+}
+
+/// The number of the form that a text writes.
+#[tactic(auto, unfolding(crate::specs::Reading::value_at))]
+fn value_of(form: Form, text: &[u8]) -> Option<u64>
+    ensures { result ≡ value_at form text.now }
+{
+    let value = written(form, text)?;
+    if fits(form, value) { Some(value) } else { None }
+}
+
+/// The number that a text of the form writes, whether or not a field may have it.
+fn written(form: Form, text: &[u8]) -> Option<u64>
+    ensures { result ≡ written_value form text.now }
+{
+    match form {
+        Form::Vota => {
+            if text == b"VOTA".as_slice() {
+                Some(0)
+            } else {
+                None
+            }
+        }
+        Form::Between { .. } => decimal(text),
+        Form::Date => digits(text, 8),
+        Form::Time => digits(text, 6),
+    }
+}
+
+/// Whether a field of this form may have the number.
+fn fits(form: Form, value: u64) -> bool
+    ensures { result ≡ fits form value }
+{
+    match form {
+        Form::Vota => value == 0,
+        Form::Between { low, high } => low <= value && value <= high,
+        Form::Date => date_ok(value),
+        Form::Time => value / 10_000 <= 23 && value / 100 % 100 <= 59 && value % 100 <= 59,
+    }
+}
+
+/// What follows a word, where the text begins with it.
+fn after<'a>(word: &[u8], text: &'a [u8]) -> Option<&'a [u8]>
+    ensures { option_copied result ≡ after_word word.now text.now }
+{
+    text.strip_prefix(word)
+}
+
+/// The candidate of a field, if it may stand behind the last: its number is greater, and begins with the party's, if one is named.
+#[tactic(auto, using(crate::proofs::VoteLaws::colon_same), unfolding(crate::specs::Votes::vote_after))]
+pub(crate) fn vote_after(digits: u8, party: Option<u32>, last: u32, field: &[u8]) -> Option<Count>
+    requires { digits ≤ 5 }
+    ensures { result ≡ vote_after digits party last field.now }
+{
+    let count = vote_of(digits, field)?;
+    if belongs(digits, party, count.number) && last < count.number {
+        Some(count)
+    } else {
+        None
+    }
+}
+
+/// The candidate and the votes that a field writes.
+#[tactic(auto, using(crate::proofs::VoteLaws::number_narrow, crate::proofs::VoteLaws::votes_narrow), unfolding(crate::specs::Votes::vote_by_colon))]
+fn vote_of(digits: u8, field: &[u8]) -> Option<Count>
+    requires { digits ≤ 5 }
+    ensures { result ≡ vote_by_colon digits field.now }
+{
+    let end = first_colon(field)?;
+    let number = decimal(&field[..end])?;
+    let votes = decimal(&field[end + 1..])?;
+    if is_vote(digits, number, votes) {
+        Some(Count {
+            number: number as u32,
+            votes: votes as u32,
+        })
+    } else {
+        None
+    }
+}
+
+/// Where the first colon stands.
+fn first_colon(text: &[u8]) -> Option<usize>
+    ensures { result ≡ position (λ b. b == 58) text.now }
+{
+    text.iter().position(|byte| *byte == b':')
+}
+
+/// Whether a candidate's number has the digits of the office, the first not zero, and there is a vote.
+fn is_vote(digits: u8, number: u64, votes: u64) -> bool
+    requires { digits ≤ 5 }
+    ensures { result ≡ is_vote digits (record { number = number; votes = votes }) }
+{
+    let low = power_of_ten(digits.saturating_sub(1));
+    let high = power_of_ten(digits);
+    (u64::from(low) <= number && number < u64::from(high)) && (1 <= votes && votes <= 9_999)
+}
+
+/// Whether a candidate is one of the party, if one is named.
+fn belongs(digits: u8, party: Option<u32>, number: u32) -> bool
+    requires { digits ≤ 5 }
+    ensures { result ≡ belongs digits party number }
+{
+    match party {
+        Some(party) => number / power_of_ten(digits.saturating_sub(2)) == party,
+        None => true,
+    }
+}
+
+fn power_of_ten(exponent: u8) -> u32
+    requires { exponent ≤ 5 }
+    ensures power { result ≡ 10 ^ exponent }
+    ensures some { 0 < result }
+{
+    match exponent {
+        0 => 1,
+        1 => 10,
+        2 => 100,
+        3 => 1_000,
+        4 => 10_000,
+        _ => 100_000,
+    }
+}
+
+/// The party of a field, if it may stand behind the last: its number is greater.
+#[tactic(auto, using(crate::proofs::FieldLaws::party_narrow), unfolding(crate::specs::Votes::party_after))]
+pub(crate) fn party_after(last: u32, field: &[u8]) -> Option<u32>
+    ensures { result ≡ party_after last field.now }
+{
+    let number = number_of(&TABLE.party, field)? as u32;
+    if last < number { Some(number) } else { None }
+}
