@@ -1,19 +1,22 @@
 -- How many votes of a choice there are
-use Rattle.std.proofs.Common.{◌≡◌, ℕ, zero, suc, ◌+◌, ◌<◌, ◌≢◌, Bool, true, false, cond, ◌==◌, ◌&&◌, List, [], ◌∷◌, length, slice_get, Some, inl, inr, refl, sym, ap, subst, ◌∙◌, arith}
+use Rattle.std.proofs.Common.{◌≡◌, ℕ, zero, suc, ◌+◌, ◌<◌, ◌≤◌, ◌≢◌, Bool, true, false, cond, ◌==◌, ◌&&◌, List, [], ◌∷◌, length, slice_get, Option, Some, inl, inr, refl, sym, ap, subst, ◌∙◌, arith}
 use Rattle.std.specs.List.{AllByRecursion, zip}
-use Rattle.std.proofs.lemmas.Bool.{eqb-true, eq-eqb, cases_Bool}
+use Rattle.std.specs.Prelude.{IsSomeAnd}
+use Rattle.std.proofs.lemmas.Bool.{eqb-true, eq-eqb, cases_Bool, cases_lt}
 use Rattle.std.proofs.lemmas.List.Sums.{sum_by-cons}
 use Rattle.election_tables.specs.TablesData.{TablesData}
 use Rattle.vote_kinds.specs.declared.choice.Choice.{Choice}
 use Rattle.vote_kinds.specs.Choice.{is_same}
 use Rattle.vote_kinds.specs.Ballot.{BallotLine, is_choice, line_of, lines_by_panel}
 use Rattle.vote_record.specs.Bag.{bag_at, count_of, with_vote}
+use Rattle.vote_record.specs.RdvData.{IsVote}
 use Rattle.vote_record.proofs.Bags.{bag_at-with_vote_same, bag_at-with_vote_other, count_cons, count_of-with_choice, length-with_vote, same_true}
 use Rattle.image_codec.specs.State.{State, with_votes}
 use Rattle.image_codec.specs.Valid.{HasChoices}
 use Rattle.image_codec.specs.Encoding.{IsStateOf}
 use Rattle.image_codec.specs.Laws.{votes_for}
 use Rattle.image_codec.proofs.ReadParts.{line_found}
+use Rattle.image_codec.proofs.Valid.{bag_for_each}
 
 -- one vote more
 one_counted : (p panel : ℕ) (c x : Choice) (bags : List (List Choice)) → panel < length bags
@@ -60,3 +63,17 @@ pub no_other_votes : (t : TablesData) (voters : ℕ) (s : State) (panel : ℕ) (
     → count_of c (bag_at s.bags panel) ≡ 0
 no_other_votes t voters s panel c of lt none =
     no_other (line_of t panel) c (bag_at s.bags panel) (choices_at (lines_by_panel t) s.bags panel (line_of t panel) of.choices (line_found t panel lt)) none
+
+no_bag : (bags : List (List Choice)) (panel : ℕ) → length bags ≤ panel → bag_at bags panel ≡ []
+no_bag [] panel le = refl
+no_bag (bag ∷ bags) zero le = absurd (omega arith)
+no_bag (bag ∷ bags) (suc panel) le = no_bag bags panel (omega arith)
+
+-- each vote of a state is a choice of its panel
+pub only_votes : (t : TablesData) (voters : ℕ) (s : State) → IsStateOf t voters s → (panel : ℕ) → AllByRecursion (IsVote t panel) (bag_at s.bags panel)
+only_votes t voters s of panel = elim (cases_lt panel (length t.panels)) [
+  | inl lt ↦
+      subst (λ (found : Option BallotLine). AllByRecursion (λ c. IsSomeAnd found (λ line. is_choice line c ≡ true)) (bag_at s.bags panel)) (sym (line_found t panel lt))
+      (choices_at (lines_by_panel t) s.bags panel (line_of t panel) of.choices (line_found t panel lt))
+  | inr ge ↦ subst (AllByRecursion (IsVote t panel)) (sym (no_bag s.bags panel (omega (arith, bag_for_each t s of.valid of.places)))) tt
+]

@@ -15,7 +15,7 @@ pub mod AnyOrder
 pub mod Fills
 pub mod Loaded
 pub mod OfTables
-mod Counting
+pub mod Counting
 pub mod Growing
 mod Parts
 mod AddChoices

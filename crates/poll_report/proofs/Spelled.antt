@@ -1,5 +1,5 @@
 -- The report of a section is one that has a spelling
-use Rattle.std.proofs.Common.{◌≡◌, ◌≢◌, ℕ, zero, suc, ◌+◌, ◌*◌, ◌<◌, ◌≤◌, Bool, true, false, List, [], ◌∷◌, ◌++◌, map, length, slice_get, Option, Some, unwrap_or, inl, inr, refl, sym, ap, ◌∙◌, subst, arith}
+use Rattle.std.proofs.Common.{◌≡◌, ◌≢◌, ℕ, zero, suc, ◌+◌, ◌*◌, ◌<◌, ◌≤◌, Bool, true, false, List, [], ◌∷◌, ◌++◌, map, length, slice_get, Option, Some, option_map, unwrap_or, inl, inr, refl, sym, ap, ◌∙◌, subst, arith}
 use Rattle.std.specs.Prelude.{◌==◌, nat_eq, nat_lt, ◌&&◌, IsSomeAnd, IsTrue}
 use Rattle.std.specs.List.{All, AllByRecursion, AllPairs, list_any}
 use Rattle.std.proofs.lemmas.Bool.{cases_Bool}
@@ -20,8 +20,9 @@ use Rattle.vote_kinds.specs.declared.choice.Choice.TheVariants as choice
 use Rattle.turnout.specs.Turnout.{number_came}
 use Rattle.turnout.proofs.Marks.{number_came-le-length}
 use Rattle.urna_base.specs.Moment.{is_between}
-use Rattle.vote_kinds.specs.Ballot.{BallotLine, line_for, lines_from, lines_by_panel, is_choice, is_proportional}
+use Rattle.vote_kinds.specs.Ballot.{BallotLine, line_for, lines_by_panel, is_choice, is_proportional}
 use Rattle.vote_kinds.specs.Choice.{is_same}
+use Rattle.vote_kinds.proofs.Lookups.{by_panel_get}
 use Rattle.vote_record.specs.Bag.{bag_at, count_of}
 use Rattle.vote_record.specs.RdvData.{RdvData, IsVote}
 use Rattle.vote_record.specs.Laws.{HasOnlyVotes}
@@ -213,19 +214,8 @@ offices_spelled t bags came first before (p ∷ panels) parties rise few fits ro
 
 -- ---- what the record owes
 
-line_got : (t : TablesData) (first : ℕ) (panels : List Panel) (k : ℕ) (p : Panel) → slice_get panels k ≡ Some p → slice_get (lines_from t first panels) k ≡ Some (line_for t (first + k) p)
-line_got t first [] k p e = absurd (cc)
-line_got t first (q ∷ panels) zero p e =
-    let same : q ≡ p = cc in
-    ap (λ (r : Panel). Some (line_for t first r)) same ∙ ap (λ (n : ℕ). Some (line_for t n p)) (omega arith)
-line_got t first (q ∷ panels) (suc k) p e = line_got t (first + 1) panels k p e ∙ ap (λ (n : ℕ). Some (line_for t n p)) (omega arith)
-
-all_lines : (t : TablesData) → lines_by_panel t ≡ lines_from t 0 t.panels
-unfolding lines_by_panel
-all_lines t = refl
-
 line_there : (t : TablesData) (k : ℕ) (p : Panel) → slice_get t.panels k ≡ Some p → slice_get (lines_by_panel t) k ≡ Some (line_for t k p)
-line_there t k p e = ap (λ (lines : List BallotLine). slice_get lines k) (all_lines t) ∙ line_got t 0 t.panels k p e ∙ ap (λ (n : ℕ). Some (line_for t n p)) (omega arith)
+line_there t k p e = by_panel_get t k ∙ ap (λ (o : Option Panel). option_map (line_for t k) o) e
 
 bag_total : (n : ℕ) (bags : List (List Choice)) (panels : List Panel) (k : ℕ) (p : Panel) → map length bags ≡ map (λ places. n * places) (map places_in panels)
     → slice_get panels k ≡ Some p → length (bag_at bags k) ≡ n * places_in p

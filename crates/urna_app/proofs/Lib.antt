@@ -9,3 +9,4 @@ mod Keeping
 mod Loads
 mod Once
 mod Sessions
+mod Reports

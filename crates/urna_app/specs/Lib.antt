@@ -10,3 +10,4 @@ pub mod Holding
 pub mod Laws
 pub mod Taking
 pub mod Vota
+pub mod Reports

@@ -1,6 +1,7 @@
-//! Laws of endings (`specs/Laws.antt`), and the headline (`specs/Headline.antt`).
+//! Laws of endings (`specs/Laws.antt`), of reports (`specs/Reports.antt`), and the headline (`specs/Headline.antt`).
 ghost use Rattle.urna_app.specs.Headline.{AllAreCounted, DayKeepsVotes, KeysHaveRun, LoadBeginsDay, VotesAreKept};
 ghost use Rattle.urna_app.specs.Laws.{RefusedOnce, RefusedOrGiven};
+ghost use Rattle.urna_app.specs.Reports.{SealedHasReport, SealedHasText};
 
 /// Where the cabinet tells its files, the words and the files determine whether they are refused, and with which status.
 pub fn one_ending()
@@ -18,4 +19,10 @@ pub fn votes_are_kept()
     ensures load { LoadBeginsDay }
     ensures counted { AllAreCounted }
     ensures run { KeysHaveRun }
+{}
+
+/// Each sealed poll of a section of the tables has a report, and the report a text that spells it.
+pub fn reports()
+    ensures report { SealedHasReport }
+    ensures text { SealedHasText }
 {}

@@ -1,0 +1,8 @@
+use Rattle.urna_app.proofs.Reports.{sealed_has_report, sealed_has_text}
+use Rattle.urna_app.proofs.laws.reports.Goals as goal
+
+pub returns-clause-report : goal.returns-clause-report
+returns-clause-report _ = sealed_has_report
+
+pub returns-clause-text : goal.returns-clause-text
+returns-clause-text _ = sealed_has_text
