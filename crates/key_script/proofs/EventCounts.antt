@@ -8,8 +8,10 @@ use Rattle.urna_base.specs.Lines.{before_first_line, lines_of}
 use Rattle.key_script.specs.declared.keys.ClerkKey.{ClerkKey}
 use Rattle.key_script.specs.declared.keys.Event.{Event}
 use Rattle.key_script.specs.declared.keys.Event.TheVariants.{Clerk}
-use Rattle.key_script.specs.Script.{after_word, clerk_line, events_of_keys, voter_line, events_of_line, events_of_lines, events_of}
-use Rattle.key_script.proofs.LineLaws.{events_of_keys-first, after_word-some}
+use Rattle.urna_base.specs.Words.{after_word}
+use Rattle.urna_base.proofs.WordLaws.{after_word-some}
+use Rattle.key_script.specs.Script.{clerk_line, events_of_keys, voter_line, events_of_line, events_of_lines, events_of}
+use Rattle.key_script.proofs.LineLaws.{events_of_keys-first}
 use Rattle.key_script.proofs.ScriptLaws.{events_of_lines-first, unwrap_or-some}
 
 -- the bytes of the lines, without their line feeds

@@ -15,9 +15,11 @@ use Rattle.key_script.specs.declared.keys.ClerkKey.TheVariants.{Abre, Titulo, Li
 use Rattle.key_script.specs.declared.keys.Event.{Event}
 use Rattle.key_script.specs.declared.keys.Event.TheVariants.{Clerk, Voter}
 use Rattle.key_script.specs.Event.{IsKey, IsClerkKey}
-use Rattle.key_script.specs.Script.{after_word, clerk_line, key_of_byte, voter_event, all_some, events_of_keys, voter_line, events_of_line}
+use Rattle.urna_base.specs.Words.{after_word}
+use Rattle.urna_base.proofs.WordLaws.{after_word-some}
+use Rattle.key_script.specs.Script.{clerk_line, key_of_byte, voter_event, all_some, events_of_keys, voter_line, events_of_line}
 use Rattle.key_script.specs.Spelling.{clerk_text, key_byte, keys_text, Spells, clerk, voter}
-use Rattle.key_script.proofs.LineLaws.{after_word-some, moment_value-digits, clerk_line-gives, clerk_line-valid, key_of_byte-valid}
+use Rattle.key_script.proofs.LineLaws.{moment_value-digits, clerk_line-gives, clerk_line-valid, key_of_byte-valid}
 
 -- the line of a clerk's valid key reads as that key
 pub clerk_text-reads : (key : ClerkKey) → IsClerkKey key → events_of_line (clerk_text key) ≡ Some (Clerk key ∷ [])

@@ -6,6 +6,7 @@ use Rattle.std.specs.Str.{bytes_eq}
 use Rattle.urna_base.specs.Digits.{is_digit, digits_value}
 use Rattle.urna_base.specs.Lines.{lines_of}
 use Rattle.urna_base.specs.Moment.{is_moment}
+use Rattle.urna_base.specs.Words.{after_word}
 use Rattle.key_script.specs.declared.keys.Key.{Key}
 use Rattle.key_script.specs.declared.keys.Key.TheVariants.{Digit, Blank, Correct, Confirm}
 use Rattle.key_script.specs.declared.keys.ClerkKey.{ClerkKey}
@@ -23,12 +24,6 @@ abbrev pub all_some : {A : Type 0} → List (Option A) → Option (List A)
 all_some [] = Some []
 all_some (None ∷ os) = None
 all_some (Some x ∷ os) = option_map (λ xs. x ∷ xs) (all_some os)
-
--- what follows a word, where the text begins with it
-abbrev pub after_word : List ℕ → List ℕ → Option (List ℕ)
-after_word [] text = Some text
-after_word (w ∷ word) [] = None
-after_word (w ∷ word) (c ∷ text) = if c == w then after_word word text else None
 
 -- the valid moment that 14 digits write
 abbrev pub moment_value : List ℕ → Option ℕ

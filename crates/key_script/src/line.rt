@@ -3,7 +3,8 @@ ghost use Rattle.std.specs.List.{list_all};
 ghost use Rattle.std.specs.Option.{option_copied, option_and_then, option_map};
 ghost use Rattle.std.specs.Str.{bytes_eq};
 ghost use Rattle.urna_base.specs.Digits.{digits_value};
-ghost use Rattle.key_script.specs.Script.{after_word, moment_value, clerk_line, key_of_byte, voter_event, events_of_keys, voter_line, events_of_line};
+ghost use Rattle.urna_base.specs.Words.{after_word};
+ghost use Rattle.key_script.specs.Script.{moment_value, clerk_line, key_of_byte, voter_event, events_of_keys, voter_line, events_of_line};
 
 use crate::keys::{ClerkKey, Event, Key};
 use urna_base::{digits, moment_ok};

@@ -6,27 +6,14 @@ use Rattle.std.specs.Prelude.{MatchOption, nat_lt}
 use Rattle.std.proofs.lemmas.Bool.Decides.{nat_tests}
 use Rattle.urna_base.specs.Moment.{is_between}
 use Rattle.urna_base.proofs.MomentLaws.{is_date-below}
-use Rattle.qr_text.proofs.RowLaws.{after_word-front, after_word-back, number_back, time_small}
-use Rattle.qr_text.specs.Reading.{after_word, number_at}
+use Rattle.qr_text.proofs.RowLaws.{number_back, time_small}
+use Rattle.qr_text.specs.Reading.{number_at}
 use Rattle.qr_text.specs.Sections.{is_narrow}
 use Rattle.qr_text.specs.Table.{fits}
 use Rattle.qr_text.specs.declared.table.Form.TheVariants.{Vota, Between, Date, Time}
 use Rattle.qr_text.specs.declared.table.Form.{Form}
 use Rattle.qr_text.specs.declared.table.Row.{Row}
 use Rattle.qr_text.specs.declared.table.TheConstants.{TABLE}
-
-after_word-none : (word text : List ℕ) → ((rest : List ℕ) → text ≢ word ++ rest) → after_word word text ≡ None
-after_word-none word text never = go (after_word word text) refl
-  where
-    go : (o : Option (List ℕ)) → after_word word text ≡ o → o ≡ None
-    go None e = refl
-    go (Some rest) e = absurd (never rest (after_word-back word text rest e))
-
--- what `strip_prefix` gives
-pub after_word-stripped : (word text : List ℕ) (r : Option (Bor (List ℕ))) → MatchOption r ((rest : List ℕ) → text ≢ word ++ rest) (λ x. text ≡ word ++ x.now)
-    → option_copied r ≡ after_word word text
-after_word-stripped word text None never = sym (after_word-none word text never)
-after_word-stripped word text (Some x) e = rw e (sym (after_word-front word x.now))
 
 pub number_fits : (r : Row) (p : List ℕ) (v : ℕ) → number_at r p ≡ Some v → fits r.form v ≡ true
 number_fits r p v h = (number_back r p v h).1

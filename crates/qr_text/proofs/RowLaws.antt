@@ -19,7 +19,9 @@ use Rattle.election_tables.specs.Fields.{has_digits}
 use Rattle.election_tables.proofs.Kept.{has_digits-below}
 use Rattle.poll_report.specs.Report.{digits_in, is_some_votes, is_vote}
 use Rattle.poll_report.specs.declared.report.Count.{Count}
-use Rattle.qr_text.specs.Reading.{after_word, only_fitting, written_value, value_at, number_at, vote_with, vote_of, vote_at}
+use Rattle.urna_base.specs.Words.{after_word}
+use Rattle.urna_base.proofs.WordLaws.{after_word-append, after_word-some}
+use Rattle.qr_text.specs.Reading.{only_fitting, written_value, value_at, number_at, vote_with, vote_of, vote_at}
 use Rattle.qr_text.specs.Table.{fits, is_time, value_text, field_text, vote_row}
 use Rattle.qr_text.specs.declared.table.Form.TheVariants.{Vota, Between, Date, Time}
 use Rattle.qr_text.specs.declared.table.Form.{Form}
@@ -39,26 +41,10 @@ time_small v e = grind (arith, nat_tests)
 pub between_small : (low high v : ℕ) → is_between low high v ≡ true → high < 10 ^ 18 → v < 10 ^ 18
 between_small low high v e h = grind (arith, nat_tests)
 
--- ---- the word before a text
-
-pub after_word-front : (word text : List ℕ) → after_word word (word ++ text) ≡ Some text
-after_word-front [] text = refl
-after_word-front (w ∷ word) text = rw (eq-eqb w w refl) (after_word-front word text)
-
 -- where a guarded value is there the guard holds
 guard_some : {A : Type 0} (b : Bool) (o : Option A) (x : A) → (if b then o else None) ≡ Some x → (b ≡ true) × (o ≡ Some x)
 guard_some true o x e = (refl, e)
 guard_some false o x e = absurd (cc)
-
-pub after_word-back : (word text rest : List ℕ) → after_word word text ≡ Some rest → text ≡ word ++ rest
-after_word-back [] text rest e = cc
-after_word-back (w ∷ word) [] rest e = absurd (cc)
-after_word-back (w ∷ word) (c ∷ text) rest e =
-    let both = guard_some (c == w) (after_word word text) rest e in
-    let test : (c == w) ≡ true = both.0 in
-    let heads : c ≡ w = grind (arith, nat_tests) in
-    let tails = after_word-back word text rest both.1 in
-    cc
 
 -- ---- values
 
@@ -90,7 +76,7 @@ value_again form v s e = rw (written_again form v s e, e) refl
 -- the number of a field that is written is read
 pub number_again : (r : Row) (v : ℕ) → IsSmall r.form → fits r.form v ≡ true → number_at r (field_text r v) ≡ Some v
 unfolding number_at
-number_again r v s e = rw (after_word-front r.key (58 ∷ value_text r.form v)) (value_again r.form v s e)
+number_again r v s e = rw (after_word-append r.key (58 ∷ value_text r.form v)) (value_again r.form v s e)
 
 value_back : (form : Form) (t : List ℕ) (v : ℕ) → value_at form t ≡ Some v → (t ≡ value_text form v) × (fits form v ≡ true)
 unfolding value_at
@@ -106,9 +92,9 @@ number_back r p v e =
     let outer = and_then_some (option_and_then (after_word (58 ∷ [])) (after_word r.key p)) (value_at r.form) v e in
     let colon = and_then_some (after_word r.key p) (after_word (58 ∷ [])) outer.0 outer.1 in
     let text = value_back r.form outer.0 v outer.2 in
-    let behind : colon.0 ≡ 58 ∷ value_text r.form v = after_word-back (58 ∷ []) colon.0 outer.0 colon.2
+    let behind : colon.0 ≡ 58 ∷ value_text r.form v = after_word-some (58 ∷ []) colon.0 outer.0 colon.2
     ∙ ap (λ (x : List ℕ). 58 ∷ x) text.0 in
-    (after_word-back r.key p colon.0 colon.1 ∙ ap (λ (x : List ℕ). r.key ++ x) behind, text.1)
+    (after_word-some r.key p colon.0 colon.1 ∙ ap (λ (x : List ℕ). r.key ++ x) behind, text.1)
 
 -- ---- a candidate's field
 

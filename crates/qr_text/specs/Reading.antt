@@ -6,6 +6,7 @@ use Rattle.std.specs.List.{slice_split}
 use Rattle.std.specs.Option.{option_and_then, option_or}
 use Rattle.std.specs.Str.{bytes_eq}
 use Rattle.urna_base.specs.Digits.{digits_value, decimal_value}
+use Rattle.urna_base.specs.Words.{after_word}
 use Rattle.election_tables.specs.Fields.{first_two}
 use Rattle.election_tables.specs.Offices.{code_proportional}
 use Rattle.poll_report.specs.Report.{is_vote, is_above, numbers_of, digits_in, may_have_code}
@@ -25,12 +26,6 @@ use Rattle.qr_text.specs.declared.table.Row.{Row}
 use Rattle.qr_text.specs.declared.table.TheConstants.{TABLE}
 
 -- ---- one field
-
--- what follows a word, where the text begins with it
-abbrev pub after_word : List ℕ → List ℕ → Option (List ℕ)
-after_word [] text = Some text
-after_word (w ∷ word) [] = None
-after_word (w ∷ word) (c ∷ text) = if c == w then after_word word text else None
 
 -- the number that a text of the form writes, whether or not a field may have it
 abbrev pub written_value : Form → List ℕ → Option ℕ

@@ -3,7 +3,8 @@ ghost use Rattle.std.specs.Prelude.{◌≡◌, ◌-◌, ◌^◌, ◌<◌, ◌≤
 ghost use Rattle.std.specs.Option.{option_copied};
 ghost use Rattle.election_tables.specs.Fields.{first_two, has_digits};
 ghost use Rattle.poll_report.specs.Report.{is_vote};
-ghost use Rattle.qr_text.specs.Reading.{after_word, number_at, value_at, written_value};
+ghost use Rattle.urna_base.specs.Words.{after_word};
+ghost use Rattle.qr_text.specs.Reading.{number_at, value_at, written_value};
 ghost use Rattle.qr_text.specs.Table.{fits};
 ghost use Rattle.qr_text.specs.Votes.{belongs, party_after, vote_after, vote_by_colon};
 ghost use Rattle.qr_text.specs.declared.table.TheConstants.{TABLE};

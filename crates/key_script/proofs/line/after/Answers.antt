@@ -1,6 +1,6 @@
 use Rattle.std.proofs.lemmas.Bool.Decides.{Decides-eqb}
 use Rattle.std.proofs.lemmas.Slice.Eq.{strip_prefix_is}
-use Rattle.key_script.proofs.LineLaws.{after_word-stripped}
+use Rattle.urna_base.proofs.WordLaws.{after_word-stripped}
 use Rattle.key_script.proofs.line.after.Goals as goal
 
 pub returns : goal.returns

@@ -1,6 +1,6 @@
 use Rattle.std.proofs.lemmas.Bool.Decides.{Decides-eqb}
 use Rattle.std.proofs.lemmas.Slice.Eq.{strip_prefix_is}
-use Rattle.qr_text.proofs.FieldLaws.{after_word-stripped}
+use Rattle.urna_base.proofs.WordLaws.{after_word-stripped}
 use Rattle.qr_text.proofs.value.after.Goals as goal
 
 pub returns : goal.returns
