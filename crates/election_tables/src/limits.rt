@@ -1,7 +1,7 @@
 //! How much the tables and the roll may have (docs/FORMATS.md, "Limits").
 
 /// The most offices, each of which is a panel of the ballot.
-pub(crate) const MOST_OFFICES: usize = 8;
+pub const MOST_OFFICES: usize = 8;
 
 /// The most parties.
 pub(crate) const MOST_PARTIES: usize = 40;

@@ -7,6 +7,7 @@ use Rattle.std.proofs.lemmas.Bool.Decides.{nat_tests}
 use Rattle.std.proofs.lemmas.List.Elements.{recursion_from_All, All-contains, All-head, All-tail}
 use Rattle.std.proofs.lemmas.List.Kept.{AllPairs-from_increasing}
 use Rattle.std.proofs.lemmas.List.Sums.{count_by-le-length}
+use Rattle.election_tables.specs.Limits.{most_offices}
 use Rattle.election_tables.specs.Offices.{code_digits, code_proportional, allows}
 use Rattle.election_tables.specs.TablesData.{TablesData, IsTables, IsPanel, IsCandidate, IsParty, IsSection, places_in, places_of}
 use Rattle.election_tables.specs.declared.office.Kind.{Kind}
@@ -183,11 +184,11 @@ length_codes : (before : List OfficeCount) → length (map (λ o. o.code) before
 length_codes [] = refl
 length_codes (o ∷ before) = ap suc (length_codes before)
 
-may_code : (before : List OfficeCount) (p : Panel) → length before < 8 → has_code (map (λ o. o.code) before) p.office.code ≡ false → code_digits p.office.code ≡ Some p.office.digits
+may_code : (before : List OfficeCount) (p : Panel) → length before < most_offices → has_code (map (λ o. o.code) before) p.office.code ≡ false → code_digits p.office.code ≡ Some p.office.digits
     → may_have_code (map (λ o. o.code) before) p.office.code ≡ true
 may_code before p few none known =
     let short = length_codes before in
-    let room : nat_lt (length (map (λ o. o.code) before)) 8 ≡ true = grind (arith, nat_tests) in
+    let room : nat_lt (length (map (λ o. o.code) before)) most_offices ≡ true = grind (arith, nat_tests) in
     rw (room, none, known) refl
 
 length_snoc : (before : List OfficeCount) (o : OfficeCount) → length (before ++ o ∷ []) ≡ suc (length before)
@@ -197,7 +198,7 @@ length_snoc (b ∷ before) o = ap suc (length_snoc before o)
 offices_spelled : (t : TablesData) (bags : List (List Choice)) (came first : ℕ) (before : List OfficeCount) (panels : List Panel)
     → All IsParty t.parties → Rises (map (λ q. q.number) t.parties) → came ≤ greatest_count
     → ((k : ℕ) (p : Panel) → slice_get panels k ≡ Some p → Fits t bags came (first + k) p)
-    → length before + length panels ≤ 8 → Without before panels → Differ panels
+    → length before + length panels ≤ most_offices → Without before panels → Differ panels
     → EachAfter (MayCount came) before (counts_of_panels t bags first panels)
 offices_spelled t bags came first before [] parties rise few fits room new apart = tt
 offices_spelled t bags came first before (p ∷ panels) parties rise few fits room new apart =

@@ -5,6 +5,9 @@ use std::alloc::Global;
 use std::marker::Model;
 use urna_base::Memory;
 
+/// The greatest number of voters or votes that a report can tell.
+pub const GREATEST_COUNT: u64 = 9_999;
+
 /// The number of a candidate or of a party, and its votes.
 #[derive(Clone, Copy, Debug, PartialEq, Eq)]
 pub struct Count {

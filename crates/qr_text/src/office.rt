@@ -14,12 +14,9 @@ use crate::reader::{Reader, read};
 use crate::said::{SaidOffice, SaidOffices, SaidParties};
 use crate::table::TABLE;
 use crate::votes::{read_parties, read_votes};
-use election_tables::{code_digits, code_proportional};
+use election_tables::{MOST_OFFICES, code_digits, code_proportional};
 use poll_report::Counts;
 use std::alloc::Global;
-
-/// The most offices of a report (docs/FORMATS.md, "Report text").
-const MOST_OFFICES: usize = 8;
 
 /// The sums of an office.
 #[derive(Clone, Copy)]

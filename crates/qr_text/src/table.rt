@@ -1,6 +1,7 @@
 //! The one table of the report's fields (docs/FORMATS.md, "Report text"). The code writes and reads each field by its row, and the
 //! definitions cite the same constant (`specs/Table.antt`).
 use election_tables::GREATEST_SECTION;
+use poll_report::GREATEST_COUNT;
 
 /// How the value of a field is written, and which numbers it may have.
 #[derive(Clone, Copy, Debug, PartialEq, Eq)]
@@ -91,7 +92,7 @@ const PLACE: Form = Form::Between {
 /// A number of voters or of votes.
 const COUNT: Form = Form::Between {
     low: 0,
-    high: 9_999,
+    high: GREATEST_COUNT,
 };
 
 /// The code of an office. Which codes there are says `election_tables::code_digits`.
@@ -106,7 +107,7 @@ const PARTY: Form = Form::Between { low: 10, high: 99 };
 /// At least one vote.
 const SOME_VOTES: Form = Form::Between {
     low: 1,
-    high: 9_999,
+    high: GREATEST_COUNT,
 };
 
 /// A row of the table, in one line.
