@@ -1,12 +1,11 @@
 -- Laws of one line: which events it has.
-use Rattle.std.proofs.Common.{◌≡◌, ◌≢◌, ℕ, ◌-◌, ◌≤◌, Bool, true, false, ◌&&◌, List, [], ◌∷◌, ◌++◌, length, map, refl, ap, sym, ◌∙◌, subst, arith, Some, None, Option, IsSome, MatchOption, IfSome, Bor, codes}
+use Rattle.std.proofs.Common.{◌≡◌, ℕ, ◌-◌, ◌≤◌, Bool, true, false, ◌&&◌, List, [], ◌∷◌, ◌++◌, length, map, refl, ap, ◌∙◌, subst, arith, Some, None, Option, IsSome, MatchOption, IfSome, Bor, codes}
 use Rattle.std.specs.Prelude.{◌==◌, if◌then◌else◌, is_some, All}
 use Rattle.std.specs.List.{list_all}
-use Rattle.std.specs.Option.{option_or, option_map, option_and_then, option_copied, unwrap_or}
+use Rattle.std.specs.Option.{option_or, option_map, option_and_then, unwrap_or}
 use Rattle.std.specs.Str.{bytes_eq}
 use Rattle.std.proofs.lemmas.Option.{same_Some}
 use Rattle.std.proofs.lemmas.Slice.Eq.{bytes_eq-Decides}
-use Rattle.std.proofs.lemmas.Bool.Decides.{nat_tests}
 use Rattle.std.proofs.lemmas.List.Elements.{All-nil, All-cons}
 use Rattle.urna_base.specs.Digits.{is_digit, digits_value}
 use Rattle.urna_base.specs.Moment.{is_moment}
@@ -19,7 +18,7 @@ use Rattle.key_script.specs.declared.keys.Event.{Event}
 use Rattle.key_script.specs.declared.keys.Event.TheVariants.{Clerk, Voter}
 use Rattle.key_script.specs.Event.{IsKey, IsClerkKey, IsEvent}
 use Rattle.urna_base.specs.Words.{after_word}
-use Rattle.urna_base.proofs.WordLaws.{after_word-append, after_word-some}
+use Rattle.urna_base.proofs.WordLaws.{after_word-some}
 use Rattle.key_script.specs.Script.{all_some, moment_value, numbered, bare, clerk_line, key_of_byte, voter_event, events_of_keys, voter_line, events_of_line}
 
 -- a moment that is read is valid

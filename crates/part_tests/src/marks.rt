@@ -11,7 +11,10 @@ fn counts_who_came(rt: HostRuntime) -> Result<(), Fail> {
         assert_eq!(rt; turnout.len(), came, "after {place}");
     }
     assert_eq!(rt;
-        (turnout.voters(), [0, 1, 2, 3].map(|place| turnout.came(place))),
+        (
+            turnout.voters(),
+            [0, 1, 2, 3].map(|place| turnout.came(place))
+        ),
         (3, [true, false, true, false])
     );
     Ok(())

@@ -115,7 +115,8 @@ fn is_vote(digits: u8, number: u64, votes: u64) -> bool
 {
     let low = power_of_ten(digits.saturating_sub(1));
     let high = power_of_ten(digits);
-    (u64::from(low) <= number && number < u64::from(high)) && (1 <= votes && votes <= GREATEST_COUNT)
+    (u64::from(low) <= number && number < u64::from(high))
+        && (1 <= votes && votes <= GREATEST_COUNT)
 }
 
 /// Whether a candidate is one of the party, if one is named.

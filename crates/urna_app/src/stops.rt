@@ -148,10 +148,7 @@ fn is_healed(healed: &Recorder, before: &Recorder) -> bool {
 }
 
 /// Whether the open poll without a voter is told wherever a recovery is stopped.
-fn tells_it_at_each_stop(
-    rt: &(impl Abort + AllocGlobal),
-    healed: &Recorder,
-) -> Result<bool, Fail> {
+fn tells_it_at_each_stop(rt: &(impl Abort + AllocGlobal), healed: &Recorder) -> Result<bool, Fail> {
     for ops in SYNCS..healed.trail_len() {
         let images = stopped(rt, healed, ops, Tear::Byte(0x5A))?;
         if told(rt, images)?.as_slice() != HELD[1] {

@@ -4,13 +4,7 @@ use election_tables::Kind;
 
 /// A panel: the code of its office, its digits, how it is decided, its seats, and of each candidate, rising, the number, the birth
 /// and the name.
-pub(super) type PanelRow = (
-    u8,
-    u8,
-    Kind,
-    u32,
-    &'static [(u32, u32, &'static str)],
-);
+pub(super) type PanelRow = (u8, u8, Kind, u32, &'static [(u32, u32, &'static str)]);
 
 /// The parts of the good document. Its offices have numbers of 5, 2 and 3 digits, and its lists don't rise.
 pub(super) const HEAD: &str = "processo = 7
