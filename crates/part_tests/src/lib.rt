@@ -1,6 +1,6 @@
-//! The tests of seven parts: what each answers to values from outside, and each of its public calls once on its happy path.
+//! The tests of nine parts: what each answers to values from outside, and each of its public calls once on its happy path.
 //! They stand in a crate of their own because a crate with tests is proved twice, with them and without them; here nothing
-//! but the tests is. One module has the tests of one crate.
+//! but the tests is. One module has the tests of one crate, and `reports` has those of two.
 #![tactic(auto)]
 
 #[cfg(test)]
@@ -11,6 +11,8 @@ mod marks;
 mod numbers;
 #[cfg(test)]
 mod panel;
+#[cfg(test)]
+mod reports;
 #[cfg(test)]
 mod script;
 #[cfg(test)]
