@@ -1,4 +1,4 @@
--- Which reports there are: those that a section of an election can have.
+-- Which reports there are: those that have a text. No number of voters or votes is above `greatest_count`.
 use Rattle.std.specs.Prelude.{◌≡◌, ℕ, ◌+◌, ◌*◌, ◌≤◌, ◌<◌, Bool, true, false, not, ◌&&◌, ◌==◌, nat_lt, List, [], ◌∷◌, ◌++◌, length, map, is_some, unwrap_or}
 use Rattle.std.specs.List.{sum_by, list_all, list_any}
 use Rattle.urna_base.specs.Moment.{is_between, is_date, is_moment}

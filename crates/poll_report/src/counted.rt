@@ -18,7 +18,7 @@ use vote_record::Rdv;
 
 impl Report {
     /// The report of a section of the tables, as its record and its turnout are, opened and closed at these moments
-    /// YYYYMMDDHHMMSS (docs/RULES.md, "The report"). Each number is the number of members of a bag.
+    /// YYYYMMDDHHMMSS (docs/RULES.md, "The report"). Each count of votes is the number of members of a bag.
     ///
     /// The caller owes that the record is one of these tables and has the votes of all who came, that the section is one of
     /// the tables and has as many voters as the turnout, that both moments are valid, and that closing isn't below opening.

@@ -7,7 +7,7 @@ use thiserror::Error;
 pub enum FieldFault {
     /// This field may not stand there, or the text ends and it is still wanted.
     Field(u32),
-    /// At this field the text says a sum other than it is.
+    /// At this field a sum is tested, and the text says another number for it.
     Sum { field: u32, sum: u64, said: u64 },
 }
 

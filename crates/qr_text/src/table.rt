@@ -1,5 +1,6 @@
-//! The one table of the report's fields (docs/FORMATS.md, "Report text"). The code writes and reads each field by its row, and the
-//! definitions cite the same constant (`specs/Table.antt`).
+//! The one table of the report's fields (docs/FORMATS.md, "Report text"): keys and forms, which the code writes and reads by, and what
+//! is tested, which the definitions cite from the same constant (`specs/Table.antt`). The field of a candidate has the number as its
+//! key, and the order of the fields is that of `specs/Said.antt`.
 use election_tables::GREATEST_SECTION;
 use poll_report::GREATEST_COUNT;
 
