@@ -79,7 +79,7 @@ const SEALED: [u8; 23] = [
 const VOTES: [u8; 15] = [1, 0, 0, 0, 2, 1, 0, 0, 0, 45, 3, 0, 0, 0, 0];
 
 /// A body of zeros but for its front and the bytes from the number of panels on.
-fn body_of(alloc: Global, front: &[u8], bags: &[u8]) -> Result<Vec<u8>, Memory>
+pub(super) fn body_of(alloc: Global, front: &[u8], bags: &[u8]) -> Result<Vec<u8>, Memory>
     requires front { length front.now ≤ 97 }
     requires bags { length bags.now ≤ 1000 }
     ensures { IfOk result (λ body. vec_len body ≡ 65536) }

@@ -1,10 +1,16 @@
 //! The texts of reports, read and written again (the crates `poll_report` and `qr_text`).
 ghost use Rattle.std.specs.Prelude.{◌<◌, ◌^◌, length};
+ghost use Rattle.std.specs.List.{Contains};
+ghost use Rattle.image_codec.specs.Encoding.{IsStateOf};
 
+use crate::codec::body_of;
+use election_tables::{Section, Tables};
+use image_codec::{State, decode};
 use poll_report::{Count, OfficeCount, Report};
 use qr_text::{FieldError, FieldFault, read_fields, write_fields};
 use std::alloc::{AllocError, Global};
 use std::test::Fail;
+use turnout::Phase;
 use urna_base::Memory;
 
 mod texts;
@@ -176,5 +182,91 @@ fn is_read(alloc: Global) -> Result<bool, Memory> {
 #[test]
 fn a_text_gives_the_numbers_of_its_report(rt: HostRuntime) -> Result<(), Fail> {
     assert!(rt; is_read(rt.alloc())?);
+    Ok(())
+}
+
+const TABLES: &[u8] = br#"
+processo = 7
+data = 20261004
+turno = 1
+cargo = [
+  {codigo = 13, regra = "proporcional", cadeiras = 5},
+  {codigo = 11, regra = "absoluta", cadeiras = 1},
+]
+partido = [
+  {numero = 13, nome = "PA"},
+  {numero = 45, nome = "PB"},
+]
+candidato = [
+  {cargo = 13, numero = 13001, nascimento = 19700101, nome = "ANA"},
+  {cargo = 13, numero = 45001, nascimento = 19650520, nome = "BRUNO"},
+  {cargo = 11, numero = 13, nascimento = 19600303, nome = "CARLA"},
+  {cargo = 11, numero = 45, nascimento = 19751212, nome = "DAVI"},
+]
+secao = [{zona = 1, secao = 42, eleitores = 3}]
+"#;
+
+/// A sealed poll: version and phase, 20261004080000, 20261004170000, how many came, all three voters.
+const SEALED: [u8; 23] = [
+    1, 2, 0, 0, 18, 109, 97, 243, 115, 128, 0, 0, 18, 109, 97, 244, 211, 16, 0, 0, 0, 3, 224,
+];
+
+/// Two panels: a vote for candidate 13001, one for party 45 and a blank one; one for candidate 13, one for candidate 45 and a null
+/// one.
+const VOTES: [u8; 39] = [
+    2, 0, 0, 0, 3, 1, 0, 0, 50, 201, 2, 0, 0, 0, 45, 3, 0, 0, 0, 0, 0, 0, 0, 3, 1, 0, 0, 0, 13, 1,
+    0, 0, 0, 45, 4, 0, 0, 0, 0,
+];
+
+/// The text of the report of a sealed poll; nothing where it isn't sealed.
+fn state_text(
+    alloc: Global,
+    tables: &Tables,
+    section: Section,
+    state: &State,
+) -> Result<Option<Vec<u8>>, Memory>
+    requires section { Contains tables.now.sections section }
+    requires state { IsStateOf tables.now section.voters state.now }
+{
+    let Phase::Sealed { opened, closed } = state.phase() else {
+        return Ok(None);
+    };
+    let report = Report::of(
+        alloc,
+        tables,
+        section,
+        state.votes(),
+        state.turnout(),
+        opened,
+        closed,
+    )?;
+    Ok(Some(write_fields(alloc, &report)?))
+}
+
+/// The text of the report of the sealed poll of these tables; nothing where it is none.
+fn sealed_text(alloc: Global, tables: &Tables) -> Result<Option<Vec<u8>>, Memory> {
+    if tables.section_count() == 0 {
+        return Ok(None);
+    }
+    let section = tables.section(0);
+    let body = body_of(alloc, &SEALED, &VOTES)?;
+    match decode(alloc, tables, section.voters, &body)? {
+        Some(state) => state_text(alloc, tables, section, &state),
+        None => Ok(None),
+    }
+}
+
+/// Whether the report of the sealed poll has this text.
+fn has_text(alloc: Global, tables: &Tables, text: &str) -> Result<bool, Memory> {
+    match sealed_text(alloc, tables)? {
+        Some(written) => Ok(written.as_slice() == text.as_bytes()),
+        None => Ok(false),
+    }
+}
+
+#[test]
+fn a_sealed_poll_has_its_report(rt: HostRuntime) -> Result<(), Fail> {
+    let tables = Tables::read(rt.alloc(), TABLES)?;
+    assert!(rt; has_text(rt.alloc(), &tables, TWO_OFFICES)?);
     Ok(())
 }
