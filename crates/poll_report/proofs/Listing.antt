@@ -1,23 +1,20 @@
 -- The counts of the first candidates, parties and panels
-use Rattle.std.proofs.Common.{◌≡◌, ℕ, zero, suc, ◌+◌, ◌<◌, ◌≤◌, Bool, List, [], ◌∷◌, ◌++◌, map, length, take, slice_get, slice_index, Option, Some, None, option_map, unwrap_or, inl, inr, refl, sym, ap, ◌∙◌, add-one, arith}
+use Rattle.std.proofs.Common.{◌≡◌, ℕ, zero, suc, ◌+◌, ◌<◌, ◌≤◌, Bool, List, [], ◌∷◌, ◌++◌, map, length, take, slice_get, Option, Some, None, option_map, inl, inr, refl, sym, ap, ◌∙◌, add-one, arith}
 use Rattle.std.specs.Prelude.{nat_lt}
 use Rattle.std.specs.List.{filter}
 use Rattle.std.proofs.lemmas.Bool.{cases_Bool}
 use Rattle.std.proofs.lemmas.List.{take_all}
 use Rattle.std.proofs.lemmas.List.Sums.{length-filter, count_by-le-length}
 use Rattle.election_tables.specs.TablesData.{TablesData, without_name}
-use Rattle.election_tables.specs.declared.office.Office.{Office}
 use Rattle.election_tables.specs.declared.tables.candidates.Candidate.{Candidate}
 use Rattle.election_tables.specs.declared.tables.candidates.NamedCandidate.{NamedCandidate}
 use Rattle.election_tables.specs.declared.tables.panels.Panel.{Panel}
 use Rattle.vote_kinds.specs.declared.choice.Choice.{Choice}
-use Rattle.vote_kinds.specs.declared.choice.Choice.TheVariants as choice
-use Rattle.vote_kinds.specs.Ballot.{panel_at, no_panel}
-use Rattle.vote_kinds.proofs.Lookups.{office_known, candidates_known}
+use Rattle.vote_kinds.specs.Ballot.{panel_at}
 use Rattle.vote_record.specs.Bag.{bag_at, count_of}
 use Rattle.poll_report.specs.declared.report.Count.{Count}
 use Rattle.poll_report.specs.declared.report.OfficeCount.{OfficeCount}
-use Rattle.poll_report.specs.Counted.{counted, listed, party_counts, office_count, counts_of_panels, office_counts}
+use Rattle.poll_report.specs.Counted.{counted, listed, office_count, counts_of_panels, office_counts}
 use Rattle.poll_report.proofs.LineLists.{lines_more, known}
 
 -- ---- numbers

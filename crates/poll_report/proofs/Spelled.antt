@@ -135,6 +135,7 @@ office_spelled t bags came number p parties rise few fits =
       majority = no_parties p.office.kind p.office.code t bag panel.office.kind;
       places = refl;
       total = let total_of_parties = ap votes_of same_parties in omega (arith, fits.1);
+      few = let total_of_parties = ap votes_of same_parties in omega (arith, few_members);
     }
 
 -- ---- the offices of all panels

@@ -58,13 +58,14 @@ abbrev pub total_of : OfficeCount → ℕ
 total_of o = votes_of o.nominal + votes_of o.parties + o.blank + o.null_votes
 
 -- Each number that is listed has a vote, and only an office that is decided in proportion has party votes. There are as many votes as
--- those who came have, each of them one.
+-- those who came have, each of them one, and no more than a report can tell.
 pub record IsOfficeCount (came : ℕ) (o : OfficeCount) : Type 0 where
   pub nominal : EachAfter (MayVote (digits_in o.code)) [] o.nominal
   pub parties : EachAfter MayLegend [] o.parties
   pub majority : code_proportional o.code ≡ false → o.parties ≡ []
   pub places : o.places ≡ 1
   pub total : total_of o ≡ came * o.places
+  pub few : total_of o ≤ greatest_count
 
 -- an office has the code, none of these has it, and there is room for one more
 abbrev pub may_have_code : List ℕ → ℕ → Bool

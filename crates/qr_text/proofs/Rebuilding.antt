@@ -323,6 +323,9 @@ from_ten : (digits : ℕ) (ps : List SaidParty) → Parties digits ps → From 0
 from_ten digits [] h = tt
 from_ten digits (p ∷ ps) h = (omega arith, from_ten digits ps h.1)
 
+at_most_9999 : (n : ℕ) → is_between 0 9999 n ≡ true → n ≤ 9999
+at_most_9999 n h = grind (arith, nat_tests)
+
 -- the flattened office is one that a report can have
 count_is : (s : Said) (o : SaidOffice) (b : Bool) → IsSaidOffice o → code_proportional o.code ≡ b → SumsRight s b o
     → IsOfficeCount s.came (count_of o)
@@ -341,6 +344,7 @@ count_is s o true h e sums =
       majority = λ other. let clash : true ≡ false = sym e ∙ other in absurd (cc);
       places = refl;
       total = omega arith;
+      few = let most = at_most_9999 o.total h.total in omega arith;
     }
 count_is s o false h e sums =
     let none = h.majority e in
@@ -359,6 +363,7 @@ count_is s o false h e sums =
       majority = λ other. parties;
       places = refl;
       total = omega arith;
+      few = let most = at_most_9999 o.total h.total in omega arith;
     }
 
 -- ---- all offices
@@ -444,9 +449,6 @@ head_right s h = record {
   voters = equal_from (s.came + s.missed) s.able h.1.1.1.1.1.1.1.1.0;
   order = order_from _ _ h.1.1.1.1.1.1.1.1.1.1.1.1.0;
 }
-
-at_most_9999 : (n : ℕ) → is_between 0 9999 n ≡ true → n ≤ 9999
-at_most_9999 n h = grind (arith, nat_tests)
 
 some_counts : (os : List SaidOffice) → 0 < length os → 0 < length (map count_of os)
 some_counts [] h = h

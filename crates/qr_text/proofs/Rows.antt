@@ -52,9 +52,23 @@ two_offices_is_report = record {
         majority = λ e. let other : true ≡ false = e in absurd (cc);
         places = refl;
         total = refl;
+        few = lit≤ tt;
       },
     ),
-    ((refl, record { nominal = ((refl, refl), ((refl, refl), tt)); parties = tt; majority = λ e. refl; places = refl; total = refl }), tt),
+    (
+      (
+        refl,
+        record {
+          nominal = ((refl, refl), ((refl, refl), tt));
+          parties = tt;
+          majority = λ e. refl;
+          places = refl;
+          total = refl;
+          few = lit≤ tt;
+        },
+      ),
+      tt,
+    ),
   );
 }
 
