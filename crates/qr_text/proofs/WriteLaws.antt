@@ -1,28 +1,30 @@
 -- The pieces of a report's text, joined.
-use Rattle.std.proofs.Common.{◌≡◌, ℕ, ◌+◌, ◌-◌, ◌≤◌, ◌<◌, Bool, true, false, List, [], ◌∷◌, ◌++◌, length, map, take, get_or, zero, suc, ◌*◌, append_assoc, refl, sym, ap, subst, ◌∙◌, arith, inl, inr}
-use Rattle.std.specs.Prelude.{if◌then◌else◌, ◌/◌, ◌^◌}
-use Rattle.std.specs.List.{AllByRecursion, flat_map, filter, range_with_len, join_with_byte}
+use Rattle.std.proofs.Common.{◌≡◌, ℕ, ◌+◌, ◌-◌, ◌≤◌, ◌<◌, Bool, true, false, List, [], ◌∷◌, ◌++◌, length, map, take, get_or, zero, suc, append_assoc, refl, sym, ap, subst, ◌∙◌, arith, inl, inr}
+use Rattle.std.specs.Prelude.{if◌then◌else◌, ◌/◌, ◌^◌, ◌==◌}
+use Rattle.std.specs.List.{flat_map, filter, range_with_len, join_with_byte}
 use Rattle.std.proofs.lemmas.Bool.{cases_Bool}
 use Rattle.std.proofs.lemmas.Grind.{flat_map-append}
 use Rattle.std.proofs.lemmas.List.Folds.{flat_map-map}
 use Rattle.std.proofs.lemmas.List.FromFn.{map-range_with_len_more}
 use Rattle.std.proofs.lemmas.List.{append-nil, map-append, take_more}
 use Rattle.urna_base.proofs.MomentLaws.{is_date-below}
+use Rattle.election_tables.specs.Fields.{first_two}
 use Rattle.election_tables.specs.Offices.{code_proportional}
-use Rattle.poll_report.specs.Report.{greatest_count, total_of, IsReport, MayCount, EachAfter, digits_in}
+use Rattle.poll_report.specs.Report.{greatest_count, votes_of, IsOfficeCount, IsReport, MayCount, EachAfter, digits_in}
 use Rattle.poll_report.specs.declared.report.Count.{Count}
 use Rattle.poll_report.specs.declared.report.OfficeCount.{OfficeCount}
 use Rattle.poll_report.specs.declared.report.Report.{Report}
 use Rattle.qr_text.specs.Said.{Field, fields, vote_field, party_field, office_field, kind_number, party_fields, votes_fields, sum_fields, office_fields, texts}
-use Rattle.qr_text.specs.Spelling.{said, said_office, said_party, report_fields, report_text}
+use Rattle.qr_text.specs.Spelling.{candidates_of, party_votes, said, said_office, said_party, report_fields, report_text}
 use Rattle.qr_text.specs.Table.{head_rows, field_text}
-use Rattle.qr_text.specs.Writing.{with_fields, head_texts, spaced_vote, spaced_votes, spaced_party, spaced_parties, spaced_office_votes, with_code, with_sums, with_last, with_office, spaced, spaced_office}
+use Rattle.qr_text.specs.Writing.{IsCounted, with_fields, with_total, head_texts, spaced_vote, spaced_votes, spaced_party, spaced_parties, spaced_office_votes, with_code, with_sums, with_last, with_office, spaced, spaced_office}
 use Rattle.qr_text.specs.declared.said.Said.{Said}
 use Rattle.qr_text.specs.declared.said.SaidOffice.{SaidOffice}
 use Rattle.qr_text.specs.declared.said.SaidParty.{SaidParty}
 use Rattle.qr_text.specs.declared.table.TheConstants.{TABLE}
+use Rattle.qr_text.proofs.Grouping.{RestFrom, rest_of_all}
 use Rattle.qr_text.proofs.Reporting.{office_of}
-use Rattle.qr_text.proofs.Saying.{date_of, some_votes}
+use Rattle.qr_text.proofs.Saying.{ascends_by, ascends_parties, date_of, grouped, legend_of, part_votes, some_votes, within_by, within_parties}
 
 -- the dates of a report have eight digits
 pub date_small_of : (r : Report) → IsReport r → r.date < 10 ^ 8
@@ -40,7 +42,7 @@ pub spaced_joins : (text : List ℕ) (fs : List (List ℕ)) → text ++ spaced f
 spaced_joins text [] = append-nil text
 spaced_joins text (f ∷ fs) = ap (λ (t : List ℕ). text ++ 32 ∷ t) (spaced_joins f fs)
 
-spaced_texts : (a b : List Field) → spaced (texts (a ++ b)) ≡ spaced (texts a) ++ spaced (texts b)
+pub spaced_texts : (a b : List Field) → spaced (texts (a ++ b)) ≡ spaced (texts a) ++ spaced (texts b)
 spaced_texts a b = ap (λ (x : List (List ℕ)). spaced x) (map-append (λ (f : Field). f.text) a b)
     ∙ flat_map-append (λ (t : List ℕ). 32 ∷ t) (texts a) (texts b)
 
@@ -67,8 +69,12 @@ party_spaced p =
     (party_field p TABLE.party_legend p.legend ∷ party_field p TABLE.party_total p.total ∷ []) (spaced_votes p.candidates)
     (votes_spaced p.candidates)
 
+-- the party of a number in an office
+abbrev pub spaced_at : OfficeCount → ℕ → List ℕ
+spaced_at o k = spaced_party (said_party (digits_in o.code) o k)
+
 parties_spaced : (o : OfficeCount) (ks : List ℕ)
-    → flat_map (spaced_party o) ks ≡ spaced (texts (flat_map party_fields (filter some_votes (map (said_party (digits_in o.code) o) ks))))
+    → flat_map (spaced_at o) ks ≡ spaced (texts (flat_map party_fields (filter some_votes (map (said_party (digits_in o.code) o) ks))))
 parties_spaced o [] = refl
 parties_spaced o (k ∷ ks) =
     let rest = parties_spaced o ks in
@@ -76,7 +82,7 @@ parties_spaced o (k ∷ ks) =
     elim (cases_Bool (some_votes p)) [
       | inl e ↦
           let later : List Field = flat_map party_fields (filter some_votes (map (said_party (digits_in o.code) o) ks)) in
-          rw e (ap (λ (t : List ℕ). t ++ flat_map (spaced_party o) ks) (party_spaced p)
+          rw e (ap (λ (t : List ℕ). t ++ flat_map (spaced_at o) ks) (party_spaced p)
           ∙ (ap (λ (t : List ℕ). spaced (texts (party_fields p)) ++ t) rest ∙ sym (spaced_texts (party_fields p) later)))
       | inr e ↦ rw e rest
     ]
@@ -127,10 +133,10 @@ written r =
     ∙ (ap (λ (t : List ℕ). orig ++ t) (sym (flat_map-append (λ (t : List ℕ). 32 ∷ t) (head_texts r) all))
     ∙ spaced_joins orig (head_texts r ++ all))))
 
-pub parties_more : (o : OfficeCount) (n k : ℕ) → 10 + n ≡ k → spaced_parties o (n + 1) ≡ spaced_parties o n ++ spaced_party o k
+pub parties_more : (o : OfficeCount) (n k : ℕ) → 10 + n ≡ k → spaced_parties o (n + 1) ≡ spaced_parties o n ++ spaced_at o k
 unfolding spaced_parties
 parties_more o n k h =
-    let f : ℕ → List ℕ = spaced_party o in
+    let f : ℕ → List ℕ = spaced_at o in
     let same : ℕ → ℕ = λ x. x in
     sym (flat_map-map f same (range_with_len 10 (n + 1)))
     ∙ (ap (λ (l : List ℕ). flat_map f l) (map-range_with_len_more same 10 n k h)
@@ -138,40 +144,70 @@ parties_more o n k h =
     ∙ (ap (λ (l : List ℕ). l ++ (f k ++ [])) (flat_map-map f same (range_with_len 10 n))
     ∙ ap (λ (l : List ℕ). flat_map f (range_with_len 10 n) ++ l) (append-nil (f k)))))
 
-abbrev pub Few : OfficeCount → Type 0
-Few o = total_of o ≤ greatest_count
+counted_at : (came : ℕ) (before os : List OfficeCount) (k : ℕ) (d : OfficeCount) → EachAfter (MayCount came) before os → k < length os
+    → IsOfficeCount came (get_or os k d)
+counted_at came before [] k d h w = absurd (omega arith)
+counted_at came before (o ∷ os) zero d h w = h.0.1
+counted_at came before (o ∷ os) (suc k) d h w = counted_at came (before ++ o ∷ []) os k d h.1 (omega arith)
 
-few_votes : (came : ℕ) (before os : List OfficeCount) → came ≤ greatest_count → EachAfter (MayCount came) before os → AllByRecursion Few os
-few_votes came before [] m h = tt
-few_votes came before (o ∷ os) m h =
-    let total = h.0.1.total in
-    let one : o.places ≡ 1 = h.0.1.places in
-    let came_is : came * o.places ≡ came = rw one (omega arith) in
-    (omega arith, few_votes came (before ++ o ∷ []) os m h.1)
+-- each office of a report is counted
+pub counted_item : (r : Report) (items : List OfficeCount) (k : ℕ) (x : OfficeCount) → IsReport r → items ≡ r.offices → k < length items
+    → x ≡ get_or items k x → IsCounted x
+counted_item r items k x is e w h =
+    let P : List OfficeCount → Type 0 = λ l. k < length l in
+    let Q : OfficeCount → Type 0 = λ y. IsOfficeCount r.came y in
+    let same : x ≡ get_or r.offices k x = h ∙ ap (λ (l : List OfficeCount). get_or l k x) e in
+    (r.came, subst Q (sym same) (counted_at r.came [] r.offices k x is.offices (subst P e w)))
 
-few_at : (os : List OfficeCount) (k : ℕ) (d : OfficeCount) → AllByRecursion Few os → k < length os → Few (get_or os k d)
-few_at [] k d h w = absurd (omega arith)
-few_at (o ∷ os) zero d h w = h.0
-few_at (o ∷ os) (suc k) d h w = few_at os k d h.1 (omega arith)
+-- ---- party after party
 
-pub office_few : (r : Report) (k : ℕ) (d : OfficeCount) → IsReport r → k < length r.offices → Few (get_or r.offices k d)
-office_few r k d h w = let a = h.came in let b = h.able in few_at r.offices k d (few_votes r.came [] r.offices (omega arith) h.offices) w
+-- the party of a candidate of an office
+abbrev pub by_party : OfficeCount → Count → ℕ
+by_party o c = first_two (digits_in o.code) c.number
 
-pub parties_step : (o : OfficeCount) (k : ℕ) (start out new : List ℕ) → 10 ≤ k → out ≡ start ++ spaced_parties o (k - 10)
-    → new ≡ out ++ spaced_party o k → new ≡ start ++ spaced_parties o (k + 1 - 10)
-parties_step o k start out new low e h =
+-- the party of an entry
+abbrev pub by_number : Count → ℕ
+by_number c = c.number
+
+pub all_candidates_left : (o : OfficeCount) (cs : List Count) → IsCounted o → code_proportional o.code ≡ true → cs ≡ o.nominal
+    → RestFrom (by_party o) 10 o.nominal cs
+all_candidates_left o cs h e same =
+    let digits : ℕ = digits_in o.code in
+    let g = grouped o.code e in
+    rest_of_all (by_party o) 10 90 o.nominal cs same (within_by digits g [] o.nominal h.1.nominal)
+    (ascends_by digits g [] o.nominal h.1.nominal)
+
+pub all_entries_left : (o : OfficeCount) (ps : List Count) → IsCounted o → ps ≡ o.parties → RestFrom by_number 10 o.parties ps
+all_entries_left o ps h same =
+    rest_of_all by_number 10 90 o.parties ps same (within_parties [] o.parties h.1.parties) (ascends_parties [] o.parties h.1.parties)
+
+-- the candidates and the entry of a party have no more votes than a report can tell
+pub few_in_party : (o : OfficeCount) (k : ℕ) (own entry : List Count) → IsCounted o → own ≡ filter (λ c. by_party o c == k) o.nominal
+    → entry ≡ filter (λ c. by_number c == k) o.parties → votes_of own + votes_of entry ≤ greatest_count
+few_in_party o k own entry h own_is entry_is =
+    let nominal = ap (λ (l : List Count). votes_of l) own_is in
+    let nominal_part = part_votes (λ c. by_party o c == k) o.nominal in
+    let legend = ap (λ (l : List Count). votes_of l) entry_is in
+    let legend_part = part_votes (λ c. by_number c == k) o.parties in
+    let few = h.1.few in
+    omega (arith, nominal, nominal_part, legend, legend_part, few)
+
+pub parties_step : (o : OfficeCount) (k : ℕ) (own entry : List Count) (start out new : List ℕ) → IsCounted o → 10 ≤ k
+    → own ≡ filter (λ c. by_party o c == k) o.nominal → entry ≡ filter (λ c. by_number c == k) o.parties
+    → out ≡ start ++ spaced_parties o (k - 10) → new ≡ out ++ spaced_party (with_total k own (votes_of entry))
+    → new ≡ start ++ spaced_parties o (k + 1 - 10)
+parties_step o k own entry start out new h low own_is entry_is e put =
     let step : k + 1 - 10 ≡ k - 10 + 1 = omega arith in
     let more = parties_more o (k - 10) k (omega arith) in
-    h ∙ (ap (λ (t : List ℕ). t ++ spaced_party o k) e
-    ∙ (append_assoc start (spaced_parties o (k - 10)) (spaced_party o k)
-    ∙ (ap (λ (t : List ℕ). start ++ t) (sym more) ∙ ap (λ (n : ℕ). start ++ spaced_parties o n) (sym step))))
+    let legend : votes_of entry ≡ party_votes k o.parties = ap (λ (l : List Count). votes_of l) entry_is
+    ∙ sym (legend_of [] o.parties k h.1.parties) in
+    put ∙ (ap (λ (l : List Count). out ++ spaced_party (with_total k l (votes_of entry))) own_is
+    ∙ (ap (λ (v : ℕ). out ++ spaced_party (with_total k (candidates_of (digits_in o.code) k o.nominal) v)) legend
+    ∙ (ap (λ (t : List ℕ). t ++ spaced_at o k) e
+    ∙ (append_assoc start (spaced_parties o (k - 10)) (spaced_at o k)
+    ∙ (ap (λ (t : List ℕ). start ++ t) (sym more) ∙ ap (λ (j : ℕ). start ++ spaced_parties o j) (sym step))))))
 
-pub few_item : (r : Report) (items : List OfficeCount) (k : ℕ) (x : OfficeCount) → IsReport r → items ≡ r.offices → k < length items
-    → x ≡ get_or items k x → Few x
-few_item r items k x is e w h =
-    let P : List OfficeCount → Type 0 = λ l. k < length l in
-    let Q : OfficeCount → Type 0 = λ y. Few y in
-    subst Q (sym (h ∙ ap (λ (l : List OfficeCount). get_or l k x) e)) (office_few r k x is (subst P e w))
+-- ---- office after office
 
 pub offices_step : (r : Report) (items os : List OfficeCount) (k : ℕ) (x : OfficeCount) (start out new : List ℕ) → items ≡ os
     → k < length items → x ≡ get_or items k x

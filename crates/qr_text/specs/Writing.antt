@@ -1,14 +1,15 @@
 -- The text of a report part by part, each field behind a space (32): what the functions that write it say.
-use Rattle.std.specs.Prelude.{ℕ, ◌-◌, ◌/◌, ◌%◌, ◌<◌, ◌^◌, Bool, nat_lt, if◌then◌else◌, List, [], ◌∷◌, ◌++◌}
+use Rattle.std.specs.Prelude.{ℕ, ◌+◌, ◌-◌, ◌/◌, ◌%◌, ◌<◌, ◌^◌, Bool, nat_lt, if◌then◌else◌, List, [], ◌∷◌, ◌++◌}
 use Rattle.std.specs.List.{flat_map, range_with_len}
 use Rattle.election_tables.specs.Offices.{code_proportional}
-use Rattle.poll_report.specs.Report.{digits_in, total_of, votes_of}
+use Rattle.poll_report.specs.Report.{IsOfficeCount, digits_in, total_of, votes_of}
 use Rattle.poll_report.specs.declared.report.Count.{Count}
 use Rattle.poll_report.specs.declared.report.OfficeCount.{OfficeCount}
 use Rattle.poll_report.specs.declared.report.Report.{Report}
 use Rattle.qr_text.specs.Said.{kind_number, office_fields, texts}
 use Rattle.qr_text.specs.Spelling.{said, said_office, said_party}
 use Rattle.qr_text.specs.Table.{field_text, vote_row}
+use Rattle.qr_text.specs.declared.said.SaidParty.{SaidParty}
 use Rattle.qr_text.specs.declared.table.Form.TheVariants.{Vota, Between, Date, Time}
 use Rattle.qr_text.specs.declared.table.Form.{Form}
 use Rattle.qr_text.specs.declared.table.TheConstants.{TABLE}
@@ -54,23 +55,31 @@ spaced_vote c = 32 ∷ field_text (vote_row c.number) c.votes
 abbrev pub spaced_votes : List Count → List ℕ
 spaced_votes counts = flat_map spaced_vote counts
 
+-- a party with its total
+abbrev pub with_total : ℕ → List Count → ℕ → SaidParty
+with_total party candidates legend =
+    record { number = party; candidates = candidates; legend = legend; total = votes_of candidates + legend }
+
 -- a party with its candidates, where it has votes
-abbrev pub spaced_party : OfficeCount → ℕ → List ℕ
-spaced_party o number =
-    let p = said_party (digits_in o.code) o number in
+abbrev pub spaced_party : SaidParty → List ℕ
+spaced_party p =
     if nat_lt 0 p.total
-    then (32 ∷ field_text TABLE.party number) ++ spaced_votes p.candidates
+    then (32 ∷ field_text TABLE.party p.number) ++ spaced_votes p.candidates
     ++ (32 ∷ field_text TABLE.party_legend p.legend) ++ (32 ∷ field_text TABLE.party_total p.total)
     else []
 
 -- so many of the parties from 10 on
 unfoldable pub spaced_parties : OfficeCount → ℕ → List ℕ
-spaced_parties o n = flat_map (spaced_party o) (range_with_len 10 n)
+spaced_parties o n = flat_map (λ k. spaced_party (said_party (digits_in o.code) o k)) (range_with_len 10 n)
 
 unfoldable pub spaced_office_votes : OfficeCount → List ℕ
 spaced_office_votes o = if code_proportional o.code then spaced_parties o 90 else spaced_votes o.nominal
 
 -- ---- an office
+
+-- an office of some report
+abbrev pub IsCounted : OfficeCount → Type 0
+IsCounted o = (came : ℕ) × IsOfficeCount came o
 
 unfoldable pub with_code : ℕ → Bool → List ℕ → List ℕ
 with_code code proportional text = with_fields text (field_text TABLE.office code ∷ field_text TABLE.kind (kind_number proportional) ∷ [])

@@ -1,9 +1,11 @@
-ghost use Rattle.std.specs.Prelude.{◌≡◌, ◌≤◌, ◌+◌, ◌++◌, ◌==◌, IfOk, OnOk};
-ghost use Rattle.std.specs.List.{filter, find, flat_map};
-ghost use Rattle.poll_report.specs.Report.{IsReport, digits_in, greatest_count, total_of, votes_of};
-ghost use Rattle.qr_text.specs.Spelling.{candidates_of, party_votes, report_text};
+ghost use Rattle.std.specs.Prelude.{◌≡◌, ◌≤◌, ◌+◌, ◌++◌, ◌==◌, true, IfOk, OnOk};
+ghost use Rattle.std.specs.List.{flat_map, prefix_len};
+ghost use Rattle.election_tables.specs.Fields.{first_two};
+ghost use Rattle.election_tables.specs.Offices.{code_proportional};
+ghost use Rattle.poll_report.specs.Report.{IsReport, digits_in, greatest_count, votes_of};
+ghost use Rattle.qr_text.specs.Spelling.{report_text};
 ghost use Rattle.qr_text.specs.Table.{field_text};
-ghost use Rattle.qr_text.specs.Writing.{head_texts, spaced_office, spaced_office_votes, spaced_parties, spaced_party, spaced_votes, with_code, with_fields, with_last, with_office, with_sums};
+ghost use Rattle.qr_text.specs.Writing.{IsCounted, head_texts, spaced_office, spaced_office_votes, spaced_parties, spaced_party, spaced_votes, with_code, with_fields, with_last, with_office, with_sums, with_total};
 ghost use Rattle.qr_text.specs.declared.table.TheConstants.{TABLE};
 
 use crate::field::{party_of, put_field, put_next, put_vote};
@@ -59,7 +61,7 @@ fn put_offices(out: &mut Vec<u8>, report: &Report) -> Result<(), Memory>
 
 #[tactic(auto, unfolding(crate::specs::Writing::with_office))]
 fn put_office(out: &mut Vec<u8>, report: &Report, office: &OfficeCount) -> Result<(), Memory>
-    requires { total_of office.now ≤ greatest_count }
+    requires { IsCounted office.now }
     ensures { OnOk result (out.new.items ≡ with_office report.now out.old.items office.now) }
 {
     let nominal = votes_of(office.nominal.as_slice());
@@ -84,7 +86,7 @@ fn put_code(out: &mut Vec<u8>, code: u8, proportional: bool) -> Result<(), Memor
 /// Appends the votes of an office, by party where it is proportional.
 #[tactic(auto, unfolding(crate::specs::Writing::spaced_office_votes))]
 fn put_office_votes(out: &mut Vec<u8>, office: &OfficeCount) -> Result<(), Memory>
-    requires { votes_of office.now.nominal + votes_of office.now.parties ≤ greatest_count }
+    requires { IsCounted office.now }
     ensures { OnOk result (out.new.items ≡ out.old.items ++ spaced_office_votes office.now) }
 {
     if code_proportional(office.code) {
@@ -124,29 +126,54 @@ fn put_last(out: &mut Vec<u8>, blank: u32, null_votes: u32, total: u32) -> Resul
     Ok(())
 }
 
-/// Appends the parties that have votes, of 10 to 99, rising.
+/// Appends the parties that have votes, of 10 to 99, rising. Candidates and parties rise, so what a party has stands first in what is
+/// left, and is cut off there: the work grows with the text.
 fn put_parties(out: &mut Vec<u8>, office: &OfficeCount) -> Result<(), Memory>
-    requires { votes_of office.now.nominal + votes_of office.now.parties ≤ greatest_count }
+    requires counted { IsCounted office.now }
+    requires proportional { code_proportional office.now.code ≡ true }
     ensures { OnOk result (out.new.items ≡ out.old.items ++ spaced_parties office.now 90) }
 {
+    let mut candidates = office.nominal.as_slice();
+    let mut legends = office.parties.as_slice();
     for party in 10..100 {
-        put_party(out, office, party)?;
+        let (own, others) = candidates.split_at(first_of_party(candidates, office.code, party));
+        let (legend, later) = legends.split_at(first_of_number(legends, party));
+        put_party(out, party, own, votes_of(legend))?;
+        candidates = others;
+        legends = later;
     }
     Ok(())
 }
 
-/// Appends a party, if it has votes.
-#[tactic(auto, using(crate::proofs::Saying::legend_part, crate::proofs::Saying::part_votes))]
-fn put_party(out: &mut Vec<u8>, office: &OfficeCount, party: u32) -> Result<(), Memory>
-    requires { votes_of office.now.nominal + votes_of office.now.parties ≤ greatest_count }
-    ensures { OnOk result (out.new.items ≡ out.old.items ++ spaced_party office.now party) }
+/// How many candidates of a party stand first among some.
+fn first_of_party(counts: &[Count], code: u8, party: u32) -> usize
+    ensures { result ≡ prefix_len (λ c. first_two (digits_in code) c.number == party) counts.now }
 {
-    let votes = votes_in_party(office.nominal.as_slice(), office.code, party);
-    let legend = votes_for_party(office.parties.as_slice(), party);
-    let total = votes + legend;
+    counts
+        .iter()
+        .take_while(|count| party_of(code, count.number) == party)
+        .count()
+}
+
+/// How many entries of a party stand first among some.
+fn first_of_number(counts: &[Count], party: u32) -> usize
+    ensures { result ≡ prefix_len (λ c. c.number == party) counts.now }
+{
+    counts
+        .iter()
+        .take_while(|count| count.number == party)
+        .count()
+}
+
+/// Appends a party, if it has votes.
+fn put_party(out: &mut Vec<u8>, party: u32, candidates: &[Count], legend: u32) -> Result<(), Memory>
+    requires { votes_of candidates.now + legend ≤ greatest_count }
+    ensures { OnOk result (out.new.items ≡ out.old.items ++ spaced_party (with_total party candidates.now legend)) }
+{
+    let total = votes_of(candidates) + legend;
     if total > 0 {
         next!(out, party, party);
-        put_party_votes(out, office.nominal.as_slice(), office.code, party)?;
+        put_votes(out, candidates)?;
         next!(out, party_legend, legend);
         next!(out, party_total, total);
     }
@@ -163,18 +190,6 @@ fn put_votes(out: &mut Vec<u8>, counts: &[Count]) -> Result<(), Memory>
     Ok(())
 }
 
-/// Appends those of a party.
-fn put_party_votes(out: &mut Vec<u8>, counts: &[Count], code: u8, party: u32) -> Result<(), Memory>
-    ensures { OnOk result (out.new.items ≡ out.old.items ++ spaced_votes (candidates_of (digits_in code) party counts.now)) }
-{
-    for count in counts {
-        if party_of(code, count.number) == party {
-            put_vote(out, *count)?;
-        }
-    }
-    Ok(())
-}
-
 /// All votes of some numbers.
 fn votes_of(counts: &[Count]) -> u32
     requires { votes_of counts.now ≤ greatest_count }
@@ -185,34 +200,4 @@ fn votes_of(counts: &[Count]) -> u32
         votes += count.votes;
     }
     votes
-}
-
-/// All votes of the candidates of a party.
-fn votes_in_party(counts: &[Count], code: u8, party: u32) -> u32
-    requires { votes_of counts.now ≤ greatest_count }
-    ensures { result ≡ votes_of (candidates_of (digits_in code) party counts.now) }
-{
-    let mut votes = 0;
-    for count in counts {
-        if party_of(code, count.number) == party {
-            votes += count.votes;
-        }
-    }
-    votes
-}
-
-/// The party votes of a party.
-fn votes_for_party(parties: &[Count], party: u32) -> u32
-    ensures { result ≡ party_votes party parties.now }
-{
-    match entry_of(parties, party) {
-        Some(count) => count.votes,
-        None => 0,
-    }
-}
-
-fn entry_of(parties: &[Count], party: u32) -> Option<Count>
-    ensures { result ≡ find (λ c. c.number == party) parties.now }
-{
-    parties.iter().copied().find(|count| count.number == party)
 }

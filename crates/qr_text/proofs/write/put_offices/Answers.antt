@@ -1,10 +1,10 @@
 use Rattle.std.proofs.Common.{arith}
-use Rattle.qr_text.proofs.WriteLaws.{few_item, offices_step}
+use Rattle.qr_text.proofs.WriteLaws.{counted_item, offices_step}
 use Rattle.qr_text.proofs.write.put_offices.Goals as goal
 
 pub put_office-requires : goal.put_office-requires
 put_office-requires c =
-    few_item c.args.report.now c.as_slice-office-items.result.now c.loop-office.office-index c.office-item.result c.requires
+    counted_item c.args.report.now c.as_slice-office-items.result.now c.loop-office.office-index c.office-item.result c.requires
     c.as_slice-office-items.ensures (omega (arith, c.loop-office-test.true)) c.office-item.is
 
 pub loop-office-preserved : goal.loop-office-preserved
