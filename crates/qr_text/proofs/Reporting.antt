@@ -39,7 +39,7 @@ office_of proportional r o = record {
 total_is : (came : ℕ) (o : OfficeCount) → IsOfficeCount came o → votes_of o.nominal + votes_of o.parties + o.blank + o.null_votes ≡ came
 total_is came o h = let one = ap (λ (n : ℕ). came * n) h.places in let all = h.total in omega arith
 
-is_office : (r : Report) (o : OfficeCount) (b : Bool) → r.able ≤ 9999 → r.came ≤ r.able → IsOfficeCount r.came o
+pub is_office : (r : Report) (o : OfficeCount) (b : Bool) → r.able ≤ 9999 → r.came ≤ r.able → IsOfficeCount r.came o
     → code_proportional o.code ≡ b → IsSaidOffice (office_of b r o)
 is_office r o true able came h e =
     let all = total_is r.came o h in

@@ -6,7 +6,6 @@ use Rattle.std.specs.List.{list_all, slice_split, join_with_byte}
 use Rattle.std.specs.Option.{option_and_then}
 use Rattle.std.specs.Str.{bytes_eq}
 use Rattle.std.proofs.lemmas.Bool.Decides.{nat_tests}
-use Rattle.std.proofs.lemmas.Bool.{eq-eqb}
 use Rattle.std.proofs.lemmas.List.Elements.{All-nil, All-cons}
 use Rattle.std.proofs.lemmas.List.Splits.{slice_split_at, slice_split_none, join_with_byte-slice_split}
 use Rattle.std.proofs.lemmas.Slice.Eq.{bytes_eq-Decides}
@@ -109,7 +108,7 @@ no_colons (c ∷ t) h =
     let other : is_colon c ≡ false = grind (arith, nat_tests) in
     All-cons (λ b. is_colon b ≡ false) c t other (no_colons t both.1)
 
-all_digits : (v : ℕ) → v < 10 ^ 18 → list_all is_digit (decimal v) ≡ true
+pub all_digits : (v : ℕ) → v < 10 ^ 18 → list_all is_digit (decimal v) ≡ true
 all_digits v s = (decimal_value-some (decimal v) v (decimal_value-decimal v s)).0.all
 
 vote_small : (digits : ℕ) (c : Count) → is_vote digits c ≡ true → c.votes < 10 ^ 18

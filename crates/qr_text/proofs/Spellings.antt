@@ -5,7 +5,7 @@ use Rattle.std.proofs.lemmas.List.Splits.{join_with_byte-slice_split}
 use Rattle.poll_report.specs.Report.{IsReport}
 use Rattle.poll_report.specs.declared.report.Report.{Report}
 use Rattle.qr_text.specs.Fault.{Says}
-use Rattle.qr_text.specs.Laws.{NeverBoth, OneAnswer, OneText, TextSpellsReport}
+use Rattle.qr_text.specs.Laws.{NeverBoth, OneAnswer, OneText, TextHasFields, TextSpellsReport}
 use Rattle.qr_text.specs.Said.{fields, texts}
 use Rattle.qr_text.specs.Spelling.{Spells, pieces, said, report_fields, report_text}
 use Rattle.qr_text.specs.declared.said.Said.{Said}
@@ -13,7 +13,7 @@ use Rattle.qr_text.proofs.Faults.{one_of_both, not_both, says_one}
 use Rattle.qr_text.proofs.Flattening.{one_report}
 use Rattle.qr_text.proofs.Rebuilding.{said_is_report}
 use Rattle.qr_text.proofs.Reporting.{is_said, passes}
-use Rattle.qr_text.proofs.Texts.{report_is_said}
+use Rattle.qr_text.proofs.Texts.{report_is_said, some_fields}
 
 spells_says : (bytes : List ℕ) (r : Report) → Spells bytes r → Says bytes (said r)
 unfolding report_fields
@@ -52,3 +52,7 @@ text_spells_report r is =
       λ q h. one_report q r h.report is
           (says_one (report_text r) (said q) (said r) (spells_says (report_text r) q h) (spells_says (report_text r) r spells)),
     )
+
+pub text_has_fields : TextHasFields
+unfolding report_fields
+text_has_fields r is = (((text_spells_report r is).0).fields, some_fields (said r))

@@ -76,7 +76,7 @@ short_at came before (x ∷ os) (suc i) o few h lt e = short_at came (before ++ 
 pub short_said : (s : Said) (i : ℕ) (o : SaidOffice) → IsReport (report_of s) → i < length s.offices → o ≡ get_or s.offices i o → IsShort (count_of o)
 short_said s i o h lt e = short_at s.came [] s.offices i o (let came = h.came in let able = h.able in omega arith) h.offices lt e
 
-few_offices : (came : ℕ) (before os : List OfficeCount) → length before ≤ most_offices → EachAfter (MayCount came) before os → length before + length os ≤ most_offices
+pub few_offices : (came : ℕ) (before os : List OfficeCount) → length before ≤ most_offices → EachAfter (MayCount came) before os → length before + length os ≤ most_offices
 few_offices came before [] few h = omega arith
 few_offices came before (o ∷ os) few h =
     let test = (both_from_and (nat_lt (length (map (λ x. x.code) before)) most_offices) (is_some (code_digits o.code) && not (list_any (λ c. c == o.code) (map (λ x. x.code) before))) h.0.0).0 in

@@ -1,9 +1,12 @@
 -- What is so of all field texts.
-use Rattle.std.specs.Prelude.{◌≡◌, ◌⊎◌, ◌↔◌, ℕ, List}
-use Rattle.poll_report.specs.Report.{IsReport}
+use Rattle.std.specs.Prelude.{◌≡◌, ◌⊎◌, ◌↔◌, ℕ, ◌+◌, ◌*◌, ◌<◌, ◌≤◌, true, List, length, codes, None}
+use Rattle.std.specs.List.{AllByRecursion, list_all, sum_by}
+use Rattle.urna_base.specs.Moment.{is_between}
+use Rattle.urna_base.specs.Words.{after_word}
+use Rattle.poll_report.specs.Report.{IsReport, total_of}
 use Rattle.poll_report.specs.declared.report.Report.{Report}
 use Rattle.qr_text.specs.Fault.{IsFault, Says}
-use Rattle.qr_text.specs.Spelling.{Spells, report_text, said}
+use Rattle.qr_text.specs.Spelling.{Spells, pieces, report_fields, report_text, said}
 use Rattle.qr_text.specs.declared.fault.FieldFault.{FieldFault}
 use Rattle.qr_text.specs.declared.said.Said.{Said}
 
@@ -57,3 +60,28 @@ OneText = (bytes : List ℕ) (r : Report) → IsReport r → Spells bytes r ↔ 
 -- which spells that report and no other
 abbrev pub TextSpellsReport : Type 0
 TextSpellsReport = (r : Report) → IsReport r → Spells (report_text r) r × ((q : Report) → Spells (report_text r) q → q ≡ r)
+
+-- ---- the form of a text
+
+-- a field has 1 to 13 bytes, each of 0x21 to 0x7E, and doesn't begin as the hash of a part does
+pub record IsPlain (field : List ℕ) : Type 0 where
+  pub some : 0 < length field
+  pub short : length field ≤ 13
+  pub seen : list_all (is_between 0x21 0x7E) field ≡ true
+  pub no_hash : after_word (codes "HASH:") field ≡ None
+
+-- the pieces of a report's text are the report's fields, and there are some
+abbrev pub TextHasFields : Type 0
+TextHasFields = (r : Report) → IsReport r → (pieces (report_text r) ≡ report_fields r) × (0 < length (report_fields r))
+
+-- each field of a report is plain
+abbrev pub FieldsArePlain : Type 0
+FieldsArePlain = (r : Report) → IsReport r → AllByRecursion IsPlain (report_fields r)
+
+-- no text is long for its votes
+abbrev pub ShortByVotes : Type 0
+ShortByVotes = (r : Report) → IsReport r → length (report_text r) ≤ 1000 + 40 * sum_by total_of r.offices
+
+-- nor for those who came, who have a vote for each of at most eight offices
+abbrev pub TextIsShort : Type 0
+TextIsShort = (r : Report) → IsReport r → length (report_text r) ≤ 1000 + 320 * r.came

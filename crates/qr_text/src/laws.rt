@@ -1,5 +1,5 @@
 //! What is so of every field text. Each function here does nothing: its contract is the law.
-ghost use Rattle.qr_text.specs.Laws.{NeverBoth, NotBoth, OneAnswer, OneFault, OneOfBoth, OneReport, OneText, ReportIsSaid, SaidIsReport, SaysOne, TextSpellsReport};
+ghost use Rattle.qr_text.specs.Laws.{FieldsArePlain, NeverBoth, NotBoth, OneAnswer, OneFault, OneOfBoth, OneReport, OneText, ReportIsSaid, SaidIsReport, SaysOne, ShortByVotes, TextHasFields, TextIsShort, TextSpellsReport};
 
 /// A text has one fault, or it says one thing rightly, and never both.
 pub fn faults()
@@ -22,4 +22,12 @@ pub fn spellings()
     ensures never_both { NeverBoth }
     ensures one_text { OneText }
     ensures one_report { TextSpellsReport }
+{}
+
+/// The fields of a report's text are its pieces, and plain: short, and of bytes that are seen. The text isn't long for its votes.
+pub fn texts()
+    ensures fields { TextHasFields }
+    ensures plain { FieldsArePlain }
+    ensures by_votes { ShortByVotes }
+    ensures short { TextIsShort }
 {}
