@@ -15,7 +15,7 @@ use Rattle.poll_report.specs.declared.report.OfficeCount.{OfficeCount}
 use Rattle.poll_report.specs.declared.report.Report.{Report}
 use Rattle.poll_report.proofs.Totals.{votes_cons}
 use Rattle.qr_text.specs.Laws.{OneReport}
-use Rattle.qr_text.specs.Reported.{count_of, legends, report_of}
+use Rattle.qr_text.specs.Reported.{legends, told_office, told_report}
 use Rattle.qr_text.specs.Said.{moment}
 use Rattle.qr_text.specs.Spelling.{said, said_office, said_party, candidates_of, party_votes}
 use Rattle.qr_text.specs.declared.said.Said.{Said}
@@ -136,7 +136,7 @@ rebuilt o nominal parties a b p =
 
 -- an office comes back from what it says
 office_back : (r : Report) (o : OfficeCount) (b : Bool) → IsOfficeCount r.came o → code_proportional o.code ≡ b
-    → count_of (office_of b r o) ≡ o
+    → told_office (office_of b r o) ≡ o
 office_back r o true h e =
     let digits : ℕ = digits_in o.code in
     let g = grouped o.code e in
@@ -151,23 +151,23 @@ office_back r o true h e =
 office_back r o false h e = rebuilt o (o.nominal ++ []) [] (append-nil o.nominal) (sym (h.majority e)) h.places
 
 offices_back : (r : Report) (before os : List OfficeCount) → EachAfter (MayCount r.came) before os
-    → map count_of (map (said_office r) os) ≡ os
+    → map told_office (map (said_office r) os) ≡ os
 offices_back r before [] h = refl
 offices_back r before (o ∷ os) h =
-    ap (λ (l : List OfficeCount). count_of (said_office r o) ∷ l) (offices_back r (before ++ o ∷ []) os h.1)
+    ap (λ (l : List OfficeCount). told_office (said_office r o) ∷ l) (offices_back r (before ++ o ∷ []) os h.1)
     ∙ ap (λ (n : OfficeCount). n ∷ os) (office_back r o (code_proportional o.code) h.0.1 refl)
 
 -- and so does a report
-pub report_back : (r : Report) → IsReport r → report_of (said r) ≡ r
+pub report_back : (r : Report) → IsReport r → told_report (said r) ≡ r
 unfolding said
 report_back r h =
     ap (λ (n : ℕ). record r {
       opened = n;
       closed = moment (r.closed / 1000000) (r.closed % 1000000);
-      offices = map count_of (map (said_office r) r.offices);
+      offices = map told_office (map (said_office r) r.offices);
     }) (whole_moment r.opened)
-    ∙ (ap (λ (n : ℕ). record r { closed = n; offices = map count_of (map (said_office r) r.offices) }) (whole_moment r.closed)
+    ∙ (ap (λ (n : ℕ). record r { closed = n; offices = map told_office (map (said_office r) r.offices) }) (whole_moment r.closed)
     ∙ ap (λ (l : List OfficeCount). record r { offices = l }) (offices_back r [] r.offices h.offices))
 
 pub one_report : OneReport
-one_report r q hr hq e = sym (report_back r hr) ∙ (ap (λ (s : Said). report_of s) e ∙ report_back q hq)
+one_report r q hr hq e = sym (report_back r hr) ∙ (ap (λ (s : Said). told_report s) e ∙ report_back q hq)

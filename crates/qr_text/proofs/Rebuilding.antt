@@ -16,7 +16,7 @@ use Rattle.poll_report.specs.declared.report.OfficeCount.{OfficeCount}
 use Rattle.poll_report.proofs.Totals.{votes_cons}
 use Rattle.qr_text.specs.Fault.{failing}
 use Rattle.qr_text.specs.Laws.{SaidIsReport}
-use Rattle.qr_text.specs.Reported.{legends, count_of, report_of}
+use Rattle.qr_text.specs.Reported.{legends, told_office, told_report}
 use Rattle.qr_text.specs.Said.{Field, Equals, Holds, IsSaid, IsSaidOffice, MayOffice, MayParty, MayVoteIn, moment, all_nominal, all_legend, codes_in, fields, head_values, head_field, vote_field, party_fields, votes_fields, sum_fields, office_fields}
 use Rattle.qr_text.specs.Spelling.{said, said_office, said_parties, candidates_of, party_votes}
 use Rattle.qr_text.specs.Table.{is_time, head_rows}
@@ -165,7 +165,7 @@ same_office o candidates parties able nominal legend total c p a n l t =
 -- what the flattened office says, of this kind and with so many voters
 abbrev again_of : Bool → ℕ → SaidOffice → SaidOffice
 again_of b able o =
-    let c : OfficeCount = count_of o in
+    let c : OfficeCount = told_office o in
     record {
       code = o.code;
       candidates = if b then [] else c.nominal;
@@ -178,7 +178,7 @@ again_of b able o =
       total = votes_of c.nominal + votes_of c.parties + o.blank + o.null_votes;
     }
 
-nominal_of : (o : SaidOffice) → votes_of (count_of o).nominal ≡ all_nominal o
+nominal_of : (o : SaidOffice) → votes_of (told_office o).nominal ≡ all_nominal o
 nominal_of o = let both = votes_append o.candidates (all_candidates o.parties) in let flat = votes_flat o.parties in omega arith
 
 -- and that is the office
@@ -188,22 +188,22 @@ office_again s o true h e votes sums =
     let digits : ℕ = digits_in o.code in
     let none = h.proportional e in
     let are = are_parties digits [] o.parties h.parties in
-    let flat : (count_of o).nominal ≡ all_candidates o.parties = ap (λ (l : List Count). l ++ all_candidates o.parties) none in
-    let tells : Tells digits (λ k. candidates_of digits k (count_of o).nominal) (λ k. party_votes k (legends o.parties)) 10 o.parties =
+    let flat : (told_office o).nominal ≡ all_candidates o.parties = ap (λ (l : List Count). l ++ all_candidates o.parties) none in
+    let tells : Tells digits (λ k. candidates_of digits k (told_office o).nominal) (λ k. party_votes k (legends o.parties)) 10 o.parties =
     λ k l. (ap (λ (x : List Count). candidates_of digits k x) flat, refl) in
-    let parties = again digits (λ k. candidates_of digits k (count_of o).nominal) (λ k. party_votes k (legends o.parties)) 90 10 o.parties
+    let parties = again digits (λ k. candidates_of digits k (told_office o).nominal) (λ k. party_votes k (legends o.parties)) 90 10 o.parties
     tells are (parties_right o.parties votes) (are_rising digits [] o.parties h.parties) (in_range digits o.parties are) in
     let nominal = nominal_of o ∙ sums.nominal in
     let legend = legends_sum o.parties ∙ sums.legend refl in
     let all = sums.all in
-    same_office o [] (said_parties (count_of o)) s.able _ _ _ (sym none) parties sums.able nominal legend (omega arith)
+    same_office o [] (said_parties (told_office o)) s.able _ _ _ (sym none) parties sums.able nominal legend (omega arith)
 office_again s o false h e votes sums =
     let none = h.majority e in
     let nominal = nominal_of o ∙ sums.nominal in
     let legend : votes_of (legends o.parties) ≡ o.legend = ap (λ (ps : List SaidParty). votes_of (legends ps)) none.0 ∙ sym none.1 in
     let all = sums.all in
     let candidates = ap (λ (ps : List SaidParty). o.candidates ++ all_candidates ps) none.0 ∙ append-nil o.candidates in
-    same_office o (count_of o).nominal [] s.able _ _ _ candidates (sym none.0) sums.able nominal legend (omega arith)
+    same_office o (told_office o).nominal [] s.able _ _ _ candidates (sym none.0) sums.able nominal legend (omega arith)
 
 -- ---- the flattened office is an office of a report
 
@@ -328,7 +328,7 @@ at_most_9999 n h = grind (arith, nat_tests)
 
 -- the flattened office is one that a report can have
 count_is : (s : Said) (o : SaidOffice) (b : Bool) → IsSaidOffice o → code_proportional o.code ≡ b → SumsRight s b o
-    → IsOfficeCount s.came (count_of o)
+    → IsOfficeCount s.came (told_office o)
 count_is s o true h e sums =
     let digits : ℕ = digits_in o.code in
     let are = are_parties digits [] o.parties h.parties in
@@ -350,7 +350,7 @@ count_is s o false h e sums =
     let none = h.majority e in
     let digits : ℕ = digits_in o.code in
     let P : List Count → Type 0 = λ l. EachAfter (MayVote digits) [] l in
-    let candidates : (count_of o).nominal ≡ o.candidates = ap (λ (ps : List SaidParty). o.candidates ++ all_candidates ps) none.0
+    let candidates : (told_office o).nominal ≡ o.candidates = ap (λ (ps : List SaidParty). o.candidates ++ all_candidates ps) none.0
     ∙ append-nil o.candidates in
     let parties : legends o.parties ≡ [] = ap (λ (ps : List SaidParty). legends ps) none.0 in
     let Q : List Count → Type 0 = λ l. EachAfter MayLegend [] l in
@@ -368,7 +368,7 @@ count_is s o false h e sums =
 
 -- ---- all offices
 
-codes_same : (os : List SaidOffice) → map (λ c. c.code) (map count_of os) ≡ codes_in os
+codes_same : (os : List SaidOffice) → map (λ c. c.code) (map told_office os) ≡ codes_in os
 codes_same [] = refl
 codes_same (o ∷ os) = ap (λ (l : List ℕ). o.code ∷ l) (codes_same os)
 
@@ -383,24 +383,24 @@ office_pass s o h =
     record { votes = both.0; sums = sums_right s (code_proportional o.code) o both.1 }
 
 offices_are : (s : Said) (before os : List SaidOffice) → EachAfter MayOffice before os → Pass (flat_map (office_fields s) os)
-    → EachAfter (MayCount s.came) (map count_of before) (map count_of os)
+    → EachAfter (MayCount s.came) (map told_office before) (map told_office os)
 offices_are s before [] h p = tt
 offices_are s before (o ∷ os) h p =
     let both = pass_left (office_fields s o) (flat_map (office_fields s) os) p in
     let here = office_pass s o both.0 in
     let P : List ℕ → Type 0 = λ l. may_have_code l o.code ≡ true in
-    let Q : List OfficeCount → Type 0 = λ l. EachAfter (MayCount s.came) l (map count_of os) in (
+    let Q : List OfficeCount → Type 0 = λ l. EachAfter (MayCount s.came) l (map told_office os) in (
       (subst P (sym (codes_same before)) h.0.0, count_is s o (code_proportional o.code) h.0.1 refl here.sums),
-      subst Q (map-append count_of before (o ∷ [])) (offices_are s (before ++ o ∷ []) os h.1 both.1),
+      subst Q (map-append told_office before (o ∷ [])) (offices_are s (before ++ o ∷ []) os h.1 both.1),
     )
 
 offices_again : (s : Said) (before os : List SaidOffice) → EachAfter MayOffice before os → Pass (flat_map (office_fields s) os)
-    → map (said_office (report_of s)) (map count_of os) ≡ os
+    → map (said_office (told_report s)) (map told_office os) ≡ os
 offices_again s before [] h p = refl
 offices_again s before (o ∷ os) h p =
     let both = pass_left (office_fields s o) (flat_map (office_fields s) os) p in
     let here = office_pass s o both.0 in
-    ap (λ (l : List SaidOffice). said_office (report_of s) (count_of o) ∷ l) (offices_again s (before ++ o ∷ []) os h.1 both.1)
+    ap (λ (l : List SaidOffice). said_office (told_report s) (told_office o) ∷ l) (offices_again s (before ++ o ∷ []) os h.1 both.1)
     ∙ ap (λ (x : SaidOffice). x ∷ os) (office_again s o (code_proportional o.code) h.0.1 refl here.votes here.sums)
 
 -- ---- the head
@@ -450,12 +450,12 @@ head_right s h = record {
   order = order_from _ _ h.1.1.1.1.1.1.1.1.1.1.1.1.0;
 }
 
-some_counts : (os : List SaidOffice) → 0 < length os → 0 < length (map count_of os)
+some_counts : (os : List SaidOffice) → 0 < length os → 0 < length (map told_office os)
 some_counts [] h = h
 some_counts (o ∷ os) h = omega arith
 
 -- the report that was said can be spelled
-report_is : (s : Said) → IsSaid s → HeadRight s → Pass (flat_map (office_fields s) s.offices) → IsReport (report_of s)
+report_is : (s : Said) → IsSaid s → HeadRight s → Pass (flat_map (office_fields s) s.offices) → IsReport (told_report s)
 unfolding head_rows
 report_is s h right pass =
     let f = h.head in
@@ -476,7 +476,7 @@ report_is s h right pass =
     }
 
 -- and says the same
-said_again : (s : Said) → IsSaid s → HeadRight s → Pass (flat_map (office_fields s) s.offices) → said (report_of s) ≡ s
+said_again : (s : Said) → IsSaid s → HeadRight s → Pass (flat_map (office_fields s) s.offices) → said (told_report s) ≡ s
 unfolding said head_rows
 said_again s h right pass =
     let f = h.head in
@@ -486,7 +486,7 @@ said_again s h right pass =
     let closes = time_small s.close_time f.1.1.1.1.1.1.1.1.1.1.1.1.0 in
     let m1 : ℕ = moment s.open_date s.open_time in
     let m2 : ℕ = moment s.close_date s.close_time in
-    let os : List SaidOffice = map (said_office (report_of s)) (map count_of s.offices) in
+    let os : List SaidOffice = map (said_office (told_report s)) (map told_office s.offices) in
     ap (λ (n : ℕ). record s {
       missed = n;
       open_date = m1 / 1000000;
@@ -513,4 +513,4 @@ unfolding fields
 said_is_report s bytes says =
     let both = pass_left (map (head_field s) (zip head_rows (head_values s))) (flat_map (office_fields s) s.offices) says.sums in
     let right = head_right s both.0 in
-    (report_of s, report_is s says.said right both.1, said_again s says.said right both.1)
+    (told_report s, report_is s says.said right both.1, said_again s says.said right both.1)

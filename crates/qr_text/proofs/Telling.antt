@@ -15,7 +15,7 @@ use Rattle.poll_report.specs.declared.report.OfficeCount.{OfficeCount}
 use Rattle.urna_base.proofs.DigitLaws.{both_from_and}
 use Rattle.qr_text.proofs.Flattening.{some_of}
 use Rattle.poll_report.proofs.Totals.{votes_cons}
-use Rattle.qr_text.specs.Reported.{count_of, legend_of, legends, report_of}
+use Rattle.qr_text.specs.Reported.{legend_of, legends, told_office, told_report}
 use Rattle.qr_text.specs.declared.said.Said.{Said}
 use Rattle.qr_text.specs.declared.said.SaidOffice.{SaidOffice}
 use Rattle.qr_text.specs.declared.said.SaidParty.{SaidParty}
@@ -66,14 +66,14 @@ short_office came o few h =
     let total : total_of o ≡ came * 1 = h.total ∙ ap (λ n. came * n) h.places in
     (omega (arith, nominal, total, few), omega (arith, parties, total, few))
 
-short_at : (came : ℕ) (before : List OfficeCount) (os : List SaidOffice) (i : ℕ) (o : SaidOffice) → came ≤ 9999 → EachAfter (MayCount came) before (map count_of os)
-    → i < length os → o ≡ get_or os i o → IsShort (count_of o)
+short_at : (came : ℕ) (before : List OfficeCount) (os : List SaidOffice) (i : ℕ) (o : SaidOffice) → came ≤ 9999 → EachAfter (MayCount came) before (map told_office os)
+    → i < length os → o ≡ get_or os i o → IsShort (told_office o)
 short_at came before [] i o few h lt e = absurd (omega arith)
-short_at came before (x ∷ os) zero o few h lt e = let P : SaidOffice → Type 0 = λ y. IsShort (count_of y) in subst P (sym e) (short_office came (count_of x) few h.0.1)
-short_at came before (x ∷ os) (suc i) o few h lt e = short_at came (before ++ count_of x ∷ []) os i o few h.1 (omega arith) e
+short_at came before (x ∷ os) zero o few h lt e = let P : SaidOffice → Type 0 = λ y. IsShort (told_office y) in subst P (sym e) (short_office came (told_office x) few h.0.1)
+short_at came before (x ∷ os) (suc i) o few h lt e = short_at came (before ++ told_office x ∷ []) os i o few h.1 (omega arith) e
 
 -- so are those of each office of a report
-pub short_said : (s : Said) (i : ℕ) (o : SaidOffice) → IsReport (report_of s) → i < length s.offices → o ≡ get_or s.offices i o → IsShort (count_of o)
+pub short_said : (s : Said) (i : ℕ) (o : SaidOffice) → IsReport (told_report s) → i < length s.offices → o ≡ get_or s.offices i o → IsShort (told_office o)
 short_said s i o h lt e = short_at s.came [] s.offices i o (let came = h.came in let able = h.able in omega arith) h.offices lt e
 
 pub few_offices : (came : ℕ) (before os : List OfficeCount) → length before ≤ most_offices → EachAfter (MayCount came) before os → length before + length os ≤ most_offices
@@ -86,5 +86,5 @@ few_offices came before (o ∷ os) few h =
     omega (arith, rest, more)
 
 -- there are at most eight offices
-pub few_said : (s : Said) → IsReport (report_of s) → length s.offices ≤ most_offices
-few_said s h = let few = few_offices s.came [] (map count_of s.offices) (omega arith) h.offices in let same = length-map s.offices count_of in omega (arith, few, same)
+pub few_said : (s : Said) → IsReport (told_report s) → length s.offices ≤ most_offices
+few_said s h = let few = few_offices s.came [] (map told_office s.offices) (omega arith) h.offices in let same = length-map s.offices told_office in omega (arith, few, same)

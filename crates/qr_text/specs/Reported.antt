@@ -22,8 +22,8 @@ abbrev pub all_candidates : SaidOffice → List Count
 all_candidates o = o.candidates ++ flat_map (λ p. p.candidates) o.parties
 
 -- an office without its sums
-abbrev pub count_of : SaidOffice → OfficeCount
-count_of o = record {
+abbrev pub told_office : SaidOffice → OfficeCount
+told_office o = record {
   code = o.code;
   places = 1;
   nominal = all_candidates o;
@@ -33,8 +33,8 @@ count_of o = record {
 }
 
 -- the moments are those of their dates and times of the day
-abbrev pub report_of : Said → Report
-report_of s = record {
+abbrev pub told_report : Said → Report
+told_report s = record {
   process = s.process;
   date = s.date;
   turn = s.turn;
@@ -44,5 +44,5 @@ report_of s = record {
   came = s.came;
   opened = moment s.open_date s.open_time;
   closed = moment s.close_date s.close_time;
-  offices = map count_of s.offices;
+  offices = map told_office s.offices;
 }

@@ -11,7 +11,7 @@ use Rattle.qr_text.specs.declared.said.Said.{Said}
 use Rattle.qr_text.specs.declared.said.SaidOffice.{SaidOffice}
 use Rattle.qr_text.specs.declared.said.SaidParty.{SaidParty}
 use Rattle.qr_text.specs.declared.table.Row.{Row}
-use Rattle.qr_text.specs.declared.table.Tested.TheVariants.{Order, Voters, Party, Able, Nominal, Legend, Total}
+use Rattle.qr_text.specs.declared.table.Tested.TheVariants.{Nothing, Order, Voters, Party, Able, Nominal, Legend, Total}
 use Rattle.qr_text.specs.declared.table.Tested.{Tested}
 use Rattle.qr_text.specs.declared.table.TheConstants.{TABLE}
 
@@ -38,12 +38,23 @@ all_legend o = sum_by (λ p. p.legend) o.parties
 abbrev pub head_tests : Tested → Said → List Test
 head_tests Order s = Holds (nat_le (moment s.open_date s.open_time) (moment s.close_date s.close_time)) ∷ []
 head_tests Voters s = Equals (s.came + s.missed) s.able ∷ []
-head_tests _ s = []
+head_tests Nothing s = []
+head_tests Party s = []
+head_tests Able s = []
+head_tests Nominal s = []
+head_tests Legend s = []
+head_tests Total s = []
 
 -- in a party
 abbrev pub party_tests : Tested → SaidParty → List Test
 party_tests Party p = Equals (votes_of p.candidates + p.legend) p.total ∷ []
-party_tests _ p = []
+party_tests Nothing p = []
+party_tests Order p = []
+party_tests Voters p = []
+party_tests Able p = []
+party_tests Nominal p = []
+party_tests Legend p = []
+party_tests Total p = []
 
 -- in an office; two sums at its total, in this order
 abbrev pub office_tests : Tested → Said → SaidOffice → List Test
@@ -51,7 +62,10 @@ office_tests Able s o = Equals s.able o.able ∷ []
 office_tests Nominal s o = Equals (all_nominal o) o.nominal ∷ []
 office_tests Legend s o = Equals (all_legend o) o.legend ∷ []
 office_tests Total s o = Equals (o.nominal + o.legend + o.blank + o.null_votes) o.total ∷ Equals s.came o.total ∷ []
-office_tests _ s o = []
+office_tests Nothing s o = []
+office_tests Order s o = []
+office_tests Voters s o = []
+office_tests Party s o = []
 
 -- ---- the fields
 

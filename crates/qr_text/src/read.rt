@@ -13,7 +13,7 @@ use crate::head::read_head;
 use crate::office::read_offices;
 use crate::reader::Reader;
 use crate::said::Said;
-use crate::told::report_of;
+use crate::told::told_report;
 use poll_report::Report;
 use std::alloc::Global;
 use urna_base::Memory;
@@ -36,7 +36,7 @@ fn read_report(alloc: Global, bytes: &[u8]) -> Result<Report, FieldError>
     ensures { MatchRead result (λ r. Spells bytes.now r) (λ f. IsFault bytes.now f) }
 {
     let said = read_said(alloc, bytes)?;
-    let report = report_of(alloc, &said)?;
+    let report = told_report(alloc, &said)?;
     Ok(report)
 }
 

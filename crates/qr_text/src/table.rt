@@ -46,6 +46,7 @@ pub struct Row {
 }
 
 /// The fields of a report by name, in the order in which they stand.
+#[derive(Drop)]
 pub struct Table {
     pub orig: Row,
     pub process: Row,

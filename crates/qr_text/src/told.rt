@@ -1,7 +1,7 @@
 //! The report that was said: its numbers and votes, without the sums.
 ghost use Rattle.std.specs.Prelude.{◌≡◌, ◌+◌, ◌++◌, ◌<◌, ◌^◌, length, IfOk, OnOk};
 ghost use Rattle.poll_report.specs.Report.{IsReport};
-ghost use Rattle.qr_text.specs.Reported.{all_candidates, count_of, legend_of, legends, report_of};
+ghost use Rattle.qr_text.specs.Reported.{all_candidates, legend_of, legends, told_office, told_report};
 
 use crate::head::moment;
 use crate::said::{Said, SaidOffice, SaidParties, SaidParty};
@@ -10,13 +10,13 @@ use std::alloc::Global;
 use urna_base::Memory;
 
 /// The report that was said. The caller owes that there is such a report, so that its lists are short.
-pub(crate) fn report_of(alloc: Global, said: &Said) -> Result<Report, Memory>
-    requires { IsReport (report_of said.now) }
-    ensures { IfOk result (λ r. r ≡ report_of said.now) }
+pub(crate) fn told_report(alloc: Global, said: &Said) -> Result<Report, Memory>
+    requires { IsReport (told_report said.now) }
+    ensures { IfOk result (λ r. r ≡ told_report said.now) }
 {
     let mut offices = OfficeCounts::new(alloc);
     for office in said.offices.as_slice() {
-        offices.push(count_of(alloc, office)?)?;
+        offices.push(told_office(alloc, office)?)?;
     }
     Ok(Report {
         process: said.process,
@@ -33,10 +33,10 @@ pub(crate) fn report_of(alloc: Global, said: &Said) -> Result<Report, Memory>
 }
 
 /// The counts of an office.
-fn count_of(alloc: Global, office: &SaidOffice) -> Result<OfficeCount, Memory>
+fn told_office(alloc: Global, office: &SaidOffice) -> Result<OfficeCount, Memory>
     requires candidates { length (all_candidates office.now) < 2 ^ 32 }
     requires legends { length (legends office.now.parties) < 2 ^ 32 }
-    ensures { IfOk result (λ o. o ≡ count_of office.now) }
+    ensures { IfOk result (λ o. o ≡ told_office office.now) }
 {
     let nominal = candidates_of(alloc, office)?;
     let parties = legends_of(alloc, &office.parties)?;

@@ -10,7 +10,7 @@ ghost use Rattle.qr_text.specs.Votes.{belongs, party_after, vote_after, vote_by_
 ghost use Rattle.qr_text.specs.declared.table.TheConstants.{TABLE};
 
 use crate::table::{Form, Row, TABLE};
-use poll_report::{Count, GREATEST_COUNT};
+use poll_report::Count;
 use urna_base::{date_ok, decimal, digits};
 
 /// The number that a field writes, if it is a field of the row.
@@ -115,8 +115,7 @@ fn is_vote(digits: u8, number: u64, votes: u64) -> bool
 {
     let low = power_of_ten(digits.saturating_sub(1));
     let high = power_of_ten(digits);
-    (u64::from(low) <= number && number < u64::from(high))
-        && (1 <= votes && votes <= GREATEST_COUNT)
+    (u64::from(low) <= number && number < u64::from(high)) && fits(TABLE.votes, votes)
 }
 
 /// Whether a candidate is one of the party, if one is named.

@@ -13,15 +13,15 @@ use Rattle.qr_text.proofs.Spellings.{says_spells}
 use Rattle.qr_text.proofs.read.read_report.Goals as goal
 use Rattle.qr_text.specs.Reading.{said_by}
 use Rattle.qr_text.specs.Spelling.{Spells}
-use Rattle.qr_text.specs.Reported.{report_of}
+use Rattle.qr_text.specs.Reported.{told_report}
 use Rattle.qr_text.specs.declared.said.Said.{Said}
 
 -- what was read is what a report says, and the text spells that report
-spells : (bytes : List ℕ) (s : Said) → said_by bytes ≡ Ok s → Spells bytes (report_of s)
+spells : (bytes : List ℕ) (s : Said) → said_by bytes ≡ Ok s → Spells bytes (told_report s)
 spells bytes s h =
     let says = read_says bytes s h in
     let found = said_is_report s bytes says in
-    let same : found.0 ≡ report_of s = sym (report_back found.0 found.1) ∙ ap (λ (x : Said). report_of x) found.2 in
+    let same : found.0 ≡ told_report s = sym (report_back found.0 found.1) ∙ ap (λ (x : Said). told_report x) found.2 in
     let P : Report → Type 0 = λ r. Spells bytes r in
     subst P same (says_spells bytes s found.0 says found.1 found.2)
 
@@ -30,8 +30,8 @@ returns-in_err-said c =
     let p = err_from_is_err_and c.from_residual.result c.from_residual.ensures.1 in
     rw (p.1, p.2) (fault_above _ _ _ _ c.in_err-said.field-0.0 c.in_err-said.ensures (λ f h. read_fault complete completes c.args.bytes.now f h))
 
-pub report_of-requires : goal.report_of-requires
-report_of-requires c = (spells c.args.bytes.now c.in_ok-said.said c.in_ok-said.ensures).report
+pub told_report-requires : goal.told_report-requires
+told_report-requires c = (spells c.args.bytes.now c.in_ok-said.said c.in_ok-said.ensures).report
 
 pub returns : goal.returns
 returns c =
