@@ -1,0 +1,46 @@
+-- A file has one fault, or it is the parts of one text, and never both.
+use Rattle.std.proofs.Common.{◌≡◌, ℕ, ◌<◌, ◌^◌, List, [], length, sym, ap, ◌∙◌, inl, inr, arith}
+use Rattle.std.specs.Prelude.{Ok}
+use Rattle.hash_chain.proofs.FileLaws.{rereads}
+use Rattle.hash_chain.proofs.Places.{is_fault, no_fault_of}
+use Rattle.hash_chain.proofs.Reading.{lines_read, text_of_lines}
+use Rattle.hash_chain.proofs.Remaking.{lines_made, result_cases}
+use Rattle.hash_chain.proofs.Sizes.{many_bytes}
+use Rattle.hash_chain.specs.Chain.{Line, parts_text}
+use Rattle.hash_chain.specs.Cut.{cut, pieces}
+use Rattle.hash_chain.specs.Fault.{ArePartsOf}
+use Rattle.hash_chain.specs.Laws.{NeverBoth, OneOfBoth}
+
+few_parts_of : (text : List ℕ) → length (parts_text text) < 2 ^ 63 → length (cut (pieces text)) < 10 ^ 18
+unfolding parts_text
+few_parts_of text short = let many = many_bytes (length (cut (pieces text))) 1 [] (cut (pieces text)) in omega arith
+
+-- the parts of a text are read as lines that say the text
+pub lines_of_parts : (bytes text : List ℕ) → length bytes < 2 ^ 63 → ArePartsOf bytes text → (ls : List Line) × (lines_read bytes ≡ Ok ls) × (text_of_lines ls ≡ text)
+lines_of_parts bytes text short h =
+    let same = ap (λ (x : List ℕ). length x) h.same in
+    let read = rereads text h.fields (few_parts_of text (omega arith)) in
+    (read.0, ap (λ (x : List ℕ). lines_read x) h.same ∙ read.1, read.2)
+
+-- what a file says whose lines are read
+pub parts_read : (bytes : List ℕ) (ls : List Line) → lines_read bytes ≡ Ok ls → ArePartsOf bytes (text_of_lines ls)
+parts_read bytes ls e = let made = lines_made bytes ls e in record { fields = made.0; same = made.1 }
+
+one_text : (bytes : List ℕ) (ls : List Line) → length bytes < 2 ^ 63 → lines_read bytes ≡ Ok ls → (other : List ℕ) → ArePartsOf bytes other → other ≡ text_of_lines ls
+one_text bytes ls short e other h =
+    let read = lines_of_parts bytes other short h in
+    let both : Ok read.0 ≡ Ok ls = sym read.1 ∙ e in
+    let same : read.0 ≡ ls = cc in
+    sym read.2 ∙ ap (λ (x : List Line). text_of_lines x) same
+
+pub one_of_both : OneOfBoth
+one_of_both bytes short =
+    elim (result_cases (lines_read bytes)) [
+      | inl ok ↦ inr (text_of_lines ok.0, parts_read bytes ok.0 ok.1, one_text bytes ok.0 short ok.1)
+      | inr bad ↦ inl (bad.0, is_fault bytes bad.0 bad.1)
+    ]
+
+pub never_both : NeverBoth
+never_both bytes text f short fault parts =
+    let read = lines_of_parts bytes text short parts in
+    no_fault_of bytes read.0 f read.1 fault

@@ -1,0 +1,10 @@
+pub mod HashLaws
+pub mod CutLaws
+pub mod LineLaws
+pub mod Reading
+pub mod FileLaws
+pub mod LinesBack
+pub mod Remaking
+pub mod Places
+pub mod Sizes
+pub mod Faults

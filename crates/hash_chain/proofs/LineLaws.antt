@@ -1,0 +1,143 @@
+-- A line of the form is read as what it says.
+use Rattle.std.proofs.Common.{◌≡◌, ℕ, ◌<◌, ◌^◌, Bool, true, false, List, [], ◌∷◌, ◌++◌, length, Some, refl, sym, ap, ◌∙◌, subst, ◌⊎◌, inl, inr, arith, lit<, append_assoc}
+use Rattle.std.specs.Prelude.{codes, not, nat_lt, ◌==◌, ◌||◌, All, is_none}
+use Rattle.std.specs.List.{slice_split, list_all, AllByRecursion, join_with_byte}
+use Rattle.std.specs.Fmt.{decimal}
+use Rattle.std.proofs.lemmas.List.Splits.{slice_split_at, slice_split_none}
+use Rattle.std.proofs.lemmas.List.Elements.{All-nil, All-cons}
+use Rattle.std.proofs.lemmas.Bool.Decides.{nat_tests}
+use Rattle.urna_base.specs.Digits.{is_digit}
+use Rattle.urna_base.specs.Moment.{is_between}
+use Rattle.urna_base.proofs.DecimalLaws.{decimal_value-decimal, decimal_value-some}
+use Rattle.urna_base.proofs.DigitLaws.{both_from_and}
+use Rattle.hash_chain.specs.Chain.{Line, line_text}
+use Rattle.hash_chain.specs.Cut.{pieces, joined}
+use Rattle.hash_chain.specs.Lines.{IsLine, is_word, is_field, two_numbers, fields_and_hash, line_of_pieces, line_of}
+use Rattle.hash_chain.specs.Hash.{is_hash}
+use Rattle.urna_base.specs.Words.{after_word}
+
+-- ---- bytes that are no separators
+
+abbrev pub other : ℕ → ℕ → Bool
+other c b = not (b == c)
+
+others_all : (c : ℕ) (t : List ℕ) → list_all (other c) t ≡ true → All (λ b. (b == c) ≡ false) t
+others_all c [] h = All-nil (λ b. (b == c) ≡ false)
+others_all c (b ∷ t) h =
+    let both = both_from_and (other c b) (list_all (other c) t) h in
+    let test : other c b ≡ true = both.0 in
+    let no_match : (b == c) ≡ false = grind (arith, nat_tests) in
+    All-cons (λ x. (x == c) ≡ false) b t no_match (others_all c t both.1)
+
+pub split_at : (c : ℕ) (t rest : List ℕ) → list_all (other c) t ≡ true → slice_split (λ b. b == c) (t ++ c ∷ rest) ≡ t ∷ slice_split (λ b. b == c) rest
+split_at c t rest h = let same : (c == c) ≡ true = grind (arith, nat_tests) in slice_split_at (λ b. b == c) t c rest (others_all c t h) same
+
+pub split_last : (c : ℕ) (t : List ℕ) → list_all (other c) t ≡ true → slice_split (λ b. b == c) t ≡ t ∷ []
+split_last c t h = slice_split_none (λ b. b == c) t (others_all c t h)
+
+pub all_append : (p : ℕ → Bool) (a b : List ℕ) → list_all p a ≡ true → list_all p b ≡ true → list_all p (a ++ b) ≡ true
+all_append p [] b h g = g
+all_append p (x ∷ a) b h g = let both = both_from_and (p x) (list_all p a) h in rw (both.0, all_append p a b both.1 g) refl
+
+-- each element that passes one test passes another
+all_weaker : (p q : ℕ → Bool) → ((x : ℕ) → p x ≡ true → q x ≡ true) → (t : List ℕ) → list_all p t ≡ true → list_all q t ≡ true
+all_weaker p q weaker [] h = refl
+all_weaker p q weaker (x ∷ t) h = let both = both_from_and (p x) (list_all p t) h in rw (weaker x both.0, all_weaker p q weaker t both.1) refl
+
+digits_of : (v : ℕ) → v < 10 ^ 18 → list_all is_digit (decimal v) ≡ true
+digits_of v s = (decimal_value-some (decimal v) v (decimal_value-decimal v s)).0.all
+
+digit_other : (c : ℕ) → (c < 48) ⊎ (57 < c) → (x : ℕ) → is_digit x ≡ true → other c x ≡ true
+digit_other c (inl out) x h = grind (arith, nat_tests)
+digit_other c (inr out) x h = grind (arith, nat_tests)
+
+pub decimal_other : (c v : ℕ) → (c < 48) ⊎ (57 < c) → v < 10 ^ 18 → list_all (other c) (decimal v) ≡ true
+decimal_other c v out s = all_weaker is_digit (other c) (digit_other c out) (decimal v) (digits_of v s)
+
+printed_other : (c : ℕ) → c < 33 → (x : ℕ) → is_between 33 126 x ≡ true → other c x ≡ true
+printed_other c low x h = grind (arith, nat_tests)
+
+pub word_other : (c : ℕ) (t : List ℕ) → c < 33 → is_word t ≡ true → list_all (other c) t ≡ true
+word_other c t low h = all_weaker (is_between 33 126) (other c) (printed_other c low) t (both_from_and (nat_lt 0 (length t)) (list_all (is_between 33 126) t) h).1
+
+hex_other : (c : ℕ) → c < 33 → (x : ℕ) → (is_digit x || is_between 65 70 x) ≡ true → other c x ≡ true
+hex_other c low x h = grind (arith, nat_tests)
+
+pub hash_other : (c : ℕ) (t : List ℕ) → c < 33 → is_hash t ≡ true → list_all (other c) t ≡ true
+hash_other c t low h = all_weaker (λ x. is_digit x || is_between 65 70 x) (other c) (hex_other c low) t (both_from_and (length t == 128) (list_all (λ x. is_digit x || is_between 65 70 x) t) h).1
+
+-- ---- joined words are split again
+
+pub split_joined : (c : ℕ) (w : List ℕ) (ws : List (List ℕ)) → AllByRecursion (λ t. list_all (other c) t ≡ true) (w ∷ ws) → slice_split (λ b. b == c) (join_with_byte c (w ∷ ws)) ≡ w ∷ ws
+split_joined c w [] h = split_last c w h.0
+split_joined c w (v ∷ ws) h = split_at c w (join_with_byte c (v ∷ ws)) h.0 ∙ ap (λ (l : List (List ℕ)). w ∷ l) (split_joined c v ws h.1)
+
+joined_more : (f : List ℕ) (fs : List (List ℕ)) (w : List ℕ) → joined ((f ∷ fs) ++ w ∷ []) ≡ joined (f ∷ fs) ++ 32 ∷ w
+joined_more f [] w = refl
+joined_more f (g ∷ fs) w = ap (λ (l : List ℕ). f ++ 32 ∷ l) (joined_more g fs w) ∙ sym (append_assoc f (32 ∷ joined (g ∷ fs)) (32 ∷ w))
+
+fields_other : (fs : List (List ℕ)) (h : List ℕ) → AllByRecursion (λ f. is_field f ≡ true) fs → is_hash h ≡ true → AllByRecursion (λ t. list_all (other 32) t ≡ true) (fs ++ (codes "HASH:" ++ h) ∷ [])
+fields_other [] h fine hash = (hash_other 32 h (lit< tt) hash, tt)
+fields_other (f ∷ fs) h fine hash = (word_other 32 f (lit< tt) (both_from_and (is_word f) (is_none (after_word (codes "HASH:") f)) fine.0).0, fields_other fs h fine.1 hash)
+
+read_fields : (fs : List (List ℕ)) (h : List ℕ) → AllByRecursion (λ f. is_field f ≡ true) fs → is_hash h ≡ true → fields_and_hash (fs ++ (codes "HASH:" ++ h) ∷ []) ≡ Some (fs, h)
+read_fields [] h fine hash = rw hash refl
+read_fields (f ∷ []) h fine hash = rw (fine.0, hash) refl
+read_fields (f ∷ g ∷ fs) h fine hash = rw (fine.0, read_fields (g ∷ fs) h fine.1 hash) refl
+
+-- ---- a whole line
+
+abbrev pub numbers_text : ℕ → ℕ → List ℕ
+numbers_text a b = codes "QRBU:" ++ (decimal a ++ 58 ∷ decimal b)
+
+abbrev pub version_text : List ℕ → List ℕ
+version_text v = codes "VRQR:" ++ v
+
+shape : (q a b w v j h : List ℕ)
+    → (q ++ (a ++ 58 ∷ (b ++ (32 ∷ (w ++ (v ++ 32 ∷ j)))))) ++ (32 ∷ h) ≡ (q ++ (a ++ 58 ∷ b)) ++ (32 ∷ ((w ++ v) ++ (32 ∷ (j ++ 32 ∷ h))))
+shape q a b w v j h = simp append_assoc
+
+pub regroup : (l : Line) (f : List ℕ) (fs : List (List ℕ)) → l.fields ≡ f ∷ fs
+    → line_text l ≡ numbers_text l.number l.parts ++ (32 ∷ (version_text l.version ++ (32 ∷ joined ((f ∷ fs) ++ (codes "HASH:" ++ l.hash) ∷ []))))
+regroup l f fs e =
+    let last = joined_more f fs (codes "HASH:" ++ l.hash) in
+    let same = ap (λ (x : List (List ℕ)). joined x) e in
+    shape (codes "QRBU:") (decimal l.number) (decimal l.parts) (codes "VRQR:") l.version (joined l.fields) (codes "HASH:" ++ l.hash)
+    ∙ (ap (λ (x : List ℕ). numbers_text l.number l.parts ++ (32 ∷ (version_text l.version ++ (32 ∷ (x ++ 32 ∷ (codes "HASH:" ++ l.hash)))))) same
+    ∙ ap (λ (x : List ℕ). numbers_text l.number l.parts ++ (32 ∷ (version_text l.version ++ (32 ∷ x)))) (sym last))
+
+numbers_other : (a b : ℕ) → a < 10 ^ 18 → b < 10 ^ 18 → list_all (other 32) (numbers_text a b) ≡ true
+numbers_other a b sa sb =
+    all_append (other 32) (decimal a) (58 ∷ decimal b) (decimal_other 32 a (inl (lit< tt)) sa) (decimal_other 32 b (inl (lit< tt)) sb)
+
+two_read : (a b : ℕ) → a < 10 ^ 18 → b < 10 ^ 18 → two_numbers (slice_split (λ x. x == 58) (decimal a ++ 58 ∷ decimal b)) ≡ Some (a, b)
+two_read a b sa sb =
+    rw (split_at 58 (decimal a) (decimal b) (decimal_other 58 a (inr (lit< tt)) sa), split_last 58 (decimal b) (decimal_other 58 b (inr (lit< tt)) sb), decimal_value-decimal a sa, decimal_value-decimal b sb) refl
+
+some_fields : (f : List ℕ) (fs : List (List ℕ)) → nat_lt 0 (length (f ∷ fs)) ≡ true
+some_fields f fs = grind (arith, nat_tests)
+
+below_test : (a b : ℕ) → nat_lt a b ≡ true → a < b
+below_test a b h = grind (arith, nat_tests)
+
+pub lines_are_read : (l : Line) → IsLine l → line_of (line_text l) ≡ Some l
+unfolding line_of
+lines_are_read l h = go l.fields refl
+  where
+    go : (fs : List (List ℕ)) → l.fields ≡ fs → line_of_pieces (pieces (line_text l)) ≡ Some l
+    go [] e = let some = h.some in let none = ap (λ (x : List (List ℕ)). nat_lt 0 (length x)) e in absurd (cc)
+    go (f ∷ fs) e =
+        let sa : l.number < 10 ^ 18 = below_test l.number (10 ^ 18) h.number in
+        let sb : l.parts < 10 ^ 18 = below_test l.parts (10 ^ 18) h.parts in
+        let P : List (List ℕ) → Type 0 = λ x. AllByRecursion (λ t. is_field t ≡ true) x in
+        let fine : AllByRecursion (λ t. is_field t ≡ true) (f ∷ fs) = subst P e h.fields in
+        let words : List (List ℕ) = (f ∷ fs) ++ (codes "HASH:" ++ l.hash) ∷ [] in
+        let first = split_at 32 (numbers_text l.number l.parts) (version_text l.version ++ 32 ∷ joined words) (numbers_other l.number l.parts sa sb) in
+        let second = split_at 32 (version_text l.version) (joined words) (word_other 32 l.version (lit< tt) h.version) in
+        let third = split_joined 32 f (fs ++ (codes "HASH:" ++ l.hash) ∷ []) (fields_other (f ∷ fs) l.hash fine h.hash) in
+        let all : pieces (line_text l) ≡ numbers_text l.number l.parts ∷ version_text l.version ∷ words =
+        ap (λ (x : List ℕ). pieces x) (regroup l f fs e) ∙ (first ∙ ap (λ (x : List (List ℕ)). numbers_text l.number l.parts ∷ x) (second ∙ ap (λ (x : List (List ℕ)). version_text l.version ∷ x) third)) in
+        let record_same : record { number = l.number; parts = l.parts; version = l.version; fields = f ∷ fs; hash = l.hash } ≡ l =
+        ap (λ (x : List (List ℕ)). record { number = l.number; parts = l.parts; version = l.version; fields = x; hash = l.hash }) (sym e) in
+        ap (λ (x : List (List ℕ)). line_of_pieces x) all
+        ∙ (rw (two_read l.number l.parts sa sb, read_fields (f ∷ fs) l.hash fine h.hash, h.version, some_fields f fs) refl ∙ ap (λ (x : Line). Some x) record_same)

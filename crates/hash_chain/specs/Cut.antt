@@ -1,0 +1,43 @@
+-- The fields of a text, cut into parts (docs/FORMATS.md, "Parts").
+use Rattle.std.specs.Prelude.{◌≡◌, ℕ, ◌+◌, ◌<◌, ◌≤◌, ◌==◌, nat_le, if◌then◌else◌, List, [], ◌∷◌, ◌++◌, length}
+use Rattle.std.specs.List.{AllByRecursion, flat_map, join_with_byte, slice_split}
+
+-- the pieces of a text between single spaces (32): its fields
+abbrev pub pieces : List ℕ → List (List ℕ)
+pieces text = slice_split (λ b. b == 32) text
+
+-- fields with single spaces between them
+abbrev pub joined : List (List ℕ) → List ℕ
+joined fields = join_with_byte 32 fields
+
+-- how many bytes the fields of a part have at most, with the spaces between them
+abbrev pub part_size : ℕ
+part_size = 1000
+
+-- behind a part stands no part, or one whose first field would not have fitted into it
+abbrev pub IsFull : List (List ℕ) → List (List (List ℕ)) → Type 0
+IsFull part [] = Unit {0}
+IsFull part ([] ∷ parts) = ⊥
+IsFull part ((f ∷ fs) ∷ parts) = (part_size < length (joined part) + 1 + length f) × IsFull (f ∷ fs) parts
+
+-- each part has a field, and is as full as it can be
+abbrev pub AreFull : List (List (List ℕ)) → Type 0
+AreFull [] = Unit {0}
+AreFull ([] ∷ parts) = ⊥
+AreFull ((f ∷ fs) ∷ parts) = IsFull (f ∷ fs) parts
+
+-- the parts of some fields: all of them in order, each part within its size, and as full as it can be
+pub record IsCut (fields : List (List ℕ)) (parts : List (List (List ℕ))) : Type 0 where
+  pub all : flat_map (λ part. part) parts ≡ fields
+  pub within : AllByRecursion (λ part. length (joined part) ≤ part_size) parts
+  pub full : AreFull parts
+
+-- Which these are (`laws::parts`, `OneCut`): a part takes one field after the other while they fit.
+abbrev pub cut_after : List (List ℕ) → List (List ℕ) → List (List (List ℕ))
+cut_after part [] = part ∷ []
+cut_after part (f ∷ fs) =
+    if nat_le (length (joined part) + 1 + length f) part_size then cut_after (part ++ f ∷ []) fs else part ∷ cut_after (f ∷ []) fs
+
+unfoldable pub cut : List (List ℕ) → List (List (List ℕ))
+cut [] = []
+cut (f ∷ fs) = cut_after (f ∷ []) fs
