@@ -31,7 +31,7 @@ begins f part (g ∷ fs) =
       | false ↦ (part, cut_after (g ∷ []) fs, refl)
     ]
 
-full_behind : (part : List (List ℕ)) (g : List ℕ) (f : List ℕ) (fs : List (List ℕ)) → part_size < length (joined (g ∷ part)) + 1 + length f → AreFull (cut_after (f ∷ []) fs) → IsFull (g ∷ part) (cut_after (f ∷ []) fs)
+pub full_behind : (part : List (List ℕ)) (g : List ℕ) (f : List ℕ) (fs : List (List ℕ)) → part_size < length (joined (g ∷ part)) + 1 + length f → AreFull (cut_after (f ∷ []) fs) → IsFull (g ∷ part) (cut_after (f ∷ []) fs)
 full_behind part g f fs over full =
     let b = begins f [] fs in
     let P : List (List (List ℕ)) → Type 0 = λ x. IsFull (g ∷ part) x in
@@ -75,7 +75,7 @@ joined_shorter g part (f ∷ more) =
     omega arith
 
 -- the part that was begun takes its fields
-takes : (g : List ℕ) (part more : List (List ℕ)) (rest : List (List (List ℕ))) → length (joined ((g ∷ part) ++ more)) ≤ part_size → IsFull ((g ∷ part) ++ more) rest
+pub takes : (g : List ℕ) (part more : List (List ℕ)) (rest : List (List (List ℕ))) → length (joined ((g ∷ part) ++ more)) ≤ part_size → IsFull ((g ∷ part) ++ more) rest
     → cut_after (g ∷ part) (more ++ flat_map (λ p. p) rest) ≡ ((g ∷ part) ++ more) ∷ cut (flat_map (λ p. p) rest)
 unfolding cut
 takes g part (f ∷ more) rest fits full =

@@ -1,5 +1,5 @@
 -- A file has one fault, or it is the parts of one text, and never both.
-use Rattle.std.proofs.Common.{◌≡◌, ℕ, ◌<◌, ◌^◌, List, [], length, sym, ap, ◌∙◌, inl, inr, arith}
+use Rattle.std.proofs.Common.{◌≡◌, ℕ, ◌<◌, ◌^◌, List, [], length, sym, ap, ◌∙◌, ◌⊎◌, inl, inr, Some, arith}
 use Rattle.std.specs.Prelude.{Ok}
 use Rattle.hash_chain.proofs.FileLaws.{rereads}
 use Rattle.hash_chain.proofs.Places.{is_fault, no_fault_of}
@@ -8,8 +8,8 @@ use Rattle.hash_chain.proofs.Remaking.{lines_made, result_cases}
 use Rattle.hash_chain.proofs.Sizes.{many_bytes}
 use Rattle.hash_chain.specs.Chain.{Line, parts_text}
 use Rattle.hash_chain.specs.Cut.{cut, pieces}
-use Rattle.hash_chain.specs.Fault.{ArePartsOf}
-use Rattle.hash_chain.specs.Laws.{NeverBoth, OneOfBoth}
+use Rattle.hash_chain.specs.Fault.{ArePartsOf, fault_at}
+use Rattle.hash_chain.specs.Laws.{NeverBoth, OneFault, OneOfBoth}
 
 few_parts_of : (text : List ℕ) → length (parts_text text) < 2 ^ 63 → length (cut (pieces text)) < 10 ^ 18
 unfolding parts_text
@@ -44,3 +44,16 @@ pub never_both : NeverBoth
 never_both bytes text f short fault parts =
     let read = lines_of_parts bytes text short parts in
     no_fault_of bytes read.0 f read.1 fault
+
+lower_or_same : (a b : ℕ) → (a < b) ⊎ ((b < a) ⊎ (a ≡ b))
+lower_or_same a b = grind arith
+
+-- the first line that has a fault is one, and it has one
+pub one_fault : OneFault
+one_fault bytes f g hf hg = elim (lower_or_same hf.line hg.line) [
+  | inl l ↦ let none = hg.sound hf.line hf.some l in let some = hf.fault in absurd (cc)
+  | inr (inl l) ↦ let none = hf.sound hg.line hg.some l in let some = hg.fault in absurd (cc)
+  | inr (inr e) ↦
+      let both : Some f ≡ Some g = sym hf.fault ∙ (ap (λ (k : ℕ). fault_at bytes k) e ∙ hg.fault) in
+      cc
+]

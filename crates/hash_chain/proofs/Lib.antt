@@ -8,3 +8,8 @@ pub mod Remaking
 pub mod Places
 pub mod Sizes
 pub mod Faults
+pub mod PieceLaws
+pub mod CutText
+pub mod LineParts
+pub mod PutLaws
+pub mod Joining

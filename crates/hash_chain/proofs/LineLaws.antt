@@ -40,7 +40,7 @@ all_append p [] b h g = g
 all_append p (x ∷ a) b h g = let both = both_from_and (p x) (list_all p a) h in rw (both.0, all_append p a b both.1 g) refl
 
 -- each element that passes one test passes another
-all_weaker : (p q : ℕ → Bool) → ((x : ℕ) → p x ≡ true → q x ≡ true) → (t : List ℕ) → list_all p t ≡ true → list_all q t ≡ true
+pub all_weaker : (p q : ℕ → Bool) → ((x : ℕ) → p x ≡ true → q x ≡ true) → (t : List ℕ) → list_all p t ≡ true → list_all q t ≡ true
 all_weaker p q weaker [] h = refl
 all_weaker p q weaker (x ∷ t) h = let both = both_from_and (p x) (list_all p t) h in rw (weaker x both.0, all_weaker p q weaker t both.1) refl
 
@@ -72,15 +72,15 @@ pub split_joined : (c : ℕ) (w : List ℕ) (ws : List (List ℕ)) → AllByRecu
 split_joined c w [] h = split_last c w h.0
 split_joined c w (v ∷ ws) h = split_at c w (join_with_byte c (v ∷ ws)) h.0 ∙ ap (λ (l : List (List ℕ)). w ∷ l) (split_joined c v ws h.1)
 
-joined_more : (f : List ℕ) (fs : List (List ℕ)) (w : List ℕ) → joined ((f ∷ fs) ++ w ∷ []) ≡ joined (f ∷ fs) ++ 32 ∷ w
+pub joined_more : (f : List ℕ) (fs : List (List ℕ)) (w : List ℕ) → joined ((f ∷ fs) ++ w ∷ []) ≡ joined (f ∷ fs) ++ 32 ∷ w
 joined_more f [] w = refl
 joined_more f (g ∷ fs) w = ap (λ (l : List ℕ). f ++ 32 ∷ l) (joined_more g fs w) ∙ sym (append_assoc f (32 ∷ joined (g ∷ fs)) (32 ∷ w))
 
-fields_other : (fs : List (List ℕ)) (h : List ℕ) → AllByRecursion (λ f. is_field f ≡ true) fs → is_hash h ≡ true → AllByRecursion (λ t. list_all (other 32) t ≡ true) (fs ++ (codes "HASH:" ++ h) ∷ [])
+pub fields_other : (fs : List (List ℕ)) (h : List ℕ) → AllByRecursion (λ f. is_field f ≡ true) fs → is_hash h ≡ true → AllByRecursion (λ t. list_all (other 32) t ≡ true) (fs ++ (codes "HASH:" ++ h) ∷ [])
 fields_other [] h fine hash = (hash_other 32 h (lit< tt) hash, tt)
 fields_other (f ∷ fs) h fine hash = (word_other 32 f (lit< tt) (both_from_and (is_word f) (is_none (after_word (codes "HASH:") f)) fine.0).0, fields_other fs h fine.1 hash)
 
-read_fields : (fs : List (List ℕ)) (h : List ℕ) → AllByRecursion (λ f. is_field f ≡ true) fs → is_hash h ≡ true → fields_and_hash (fs ++ (codes "HASH:" ++ h) ∷ []) ≡ Some (fs, h)
+pub read_fields : (fs : List (List ℕ)) (h : List ℕ) → AllByRecursion (λ f. is_field f ≡ true) fs → is_hash h ≡ true → fields_and_hash (fs ++ (codes "HASH:" ++ h) ∷ []) ≡ Some (fs, h)
 read_fields [] h fine hash = rw hash refl
 read_fields (f ∷ []) h fine hash = rw (fine.0, hash) refl
 read_fields (f ∷ g ∷ fs) h fine hash = rw (fine.0, read_fields (g ∷ fs) h fine.1 hash) refl

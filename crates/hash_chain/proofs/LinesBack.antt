@@ -23,7 +23,7 @@ use Rattle.hash_chain.proofs.LineLaws.{regroup, numbers_text, version_text}
 
 -- ---- readers backwards
 
-and_then_some : {A B : Type 0} (o : Option A) (f : A → Option B) (y : B) → option_and_then f o ≡ Some y → (x : A) × (o ≡ Some x) × (f x ≡ Some y)
+pub and_then_some : {A B : Type 0} (o : Option A) (f : A → Option B) (y : B) → option_and_then f o ≡ Some y → (x : A) × (o ≡ Some x) × (f x ≡ Some y)
 and_then_some None f y e = absurd (cc)
 and_then_some (Some x) f y e = (x, refl, e)
 
@@ -31,7 +31,7 @@ map_some : {A B : Type 0} (f : A → B) (o : Option A) (y : B) → option_map f 
 map_some f None y e = absurd (cc)
 map_some f (Some x) y e = (x, refl, cc)
 
-guard_some : {A : Type 0} (b : Bool) (o : Option A) (y : A) → (if b then o else None) ≡ Some y → (b ≡ true) × (o ≡ Some y)
+pub guard_some : {A : Type 0} (b : Bool) (o : Option A) (y : A) → (if b then o else None) ≡ Some y → (b ≡ true) × (o ≡ Some y)
 guard_some true o y e = (refl, e)
 guard_some false o y e = absurd (cc)
 
@@ -59,7 +59,7 @@ numbers_back (a ∷ b ∷ []) n e =
     )
 numbers_back (a ∷ b ∷ c ∷ more) n e = absurd (cc)
 
-fields_back : (ps : List (List ℕ)) (x : List (List ℕ) × List ℕ) → fields_and_hash ps ≡ Some x
+pub fields_back : (ps : List (List ℕ)) (x : List (List ℕ) × List ℕ) → fields_and_hash ps ≡ Some x
     → (ps ≡ x.0 ++ (codes "HASH:" ++ x.1) ∷ []) × AllByRecursion (λ f. is_field f ≡ true) x.0 × (is_hash x.1 ≡ true)
 fields_back [] x e = absurd (cc)
 fields_back (p ∷ []) x e =

@@ -22,18 +22,22 @@ abbrev fields_in : List Line → List (List (List ℕ))
 fields_in ls = map (λ l. l.fields) ls
 
 -- each line behind the one before it has no fault
-abbrev Chain : ℕ → ℕ → Option Line → List Line → Type 0
+abbrev pub Chain : ℕ → ℕ → Option Line → List Line → Type 0
 Chain n i before [] = Unit {0}
 Chain n i before (l ∷ ls) = IsLine l × Fine n i before l × Chain n (i + 1) (Some l) ls
 
-record Back (n i : ℕ) (before : Option Line) (ps : List (List ℕ)) (ls : List Line) : Type 0 where
-  same : ps ≡ map line_text ls ++ [] ∷ []
-  chain : Chain n i before ls
-  some : (1 < i) ⊎ (0 < length ls)
+pub record Back (n i : ℕ) (before : Option Line) (ps : List (List ℕ)) (ls : List Line) : Type 0 where
+  pub same : ps ≡ map line_text ls ++ [] ∷ []
+  pub chain : Chain n i before ls
+  pub some : (1 < i) ⊎ (0 < length ls)
 
-empty : (t : List ℕ) → (length t == 0) ≡ true → t ≡ []
+pub empty : (t : List ℕ) → (length t == 0) ≡ true → t ≡ []
 empty [] h = refl
 empty (x ∷ t) h = let none : length (x ∷ t) ≡ 0 = grind (arith, nat_tests) in absurd (omega arith)
+
+pub not_empty : (t : List ℕ) → (length t == 0) ≡ false → t ≡ [] → ⊥
+not_empty [] h e = absurd (cc)
+not_empty (x ∷ t) h e = absurd (cc)
 
 above : (k : ℕ) → nat_lt 1 k ≡ true → 1 < k
 above k h = grind (arith, nat_tests)
@@ -69,7 +73,7 @@ pub read_later : (n i : ℕ) (before : Option Line) (bytes next : List ℕ) (res
 unfolding read_from
 read_later n i before bytes next rest l f h g k = rw (h, g, read_from) (rw k refl)
 
-read_back : (n i : ℕ) (before : Option Line) (ps : List (List ℕ)) (ls : List Line) → 0 < length ps → 0 < i → read_from n i before ps ≡ Ok ls → Back n i before ps ls
+pub read_back : (n i : ℕ) (before : Option Line) (ps : List (List ℕ)) (ls : List Line) → 0 < length ps → 0 < i → read_from n i before ps ≡ Ok ls → Back n i before ps ls
 unfolding read_from
 read_back n i before [] ls some later e = absurd (omega arith)
 read_back n i before (last ∷ []) ls some later e =

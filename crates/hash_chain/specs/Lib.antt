@@ -4,3 +4,4 @@ pub mod Chain
 pub mod Lines
 pub mod Fault
 pub mod Laws
+pub mod Reading

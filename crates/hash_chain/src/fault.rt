@@ -1,5 +1,9 @@
 //! Why a file is no parts of a field text.
+ghost use Rattle.std.specs.Prelude.{◌≡◌};
+ghost use Rattle.hash_chain.specs.declared.fault.PartError.TheVariants.{Fault, Memory};
+
 use thiserror::Error;
+use urna_base::Memory;
 
 /// The fault of a file of parts (docs/FORMATS.md, "Parts"): the first line that fails, counted from 1, and in it the first of these
 /// tests that does.
@@ -26,4 +30,22 @@ pub enum PartError {
     /// The file is no parts of a field text.
     #[error("the file is no parts of a field text")]
     Fault(PartFault),
+}
+
+/// A fault ends the reading.
+impl From<PartFault> for PartError {
+    ghost from_gives = { λ fault e. e ≡ Fault fault };
+
+    fn from(fault: PartFault) -> PartError {
+        PartError::Fault(fault)
+    }
+}
+
+/// So does want of memory.
+impl From<Memory> for PartError {
+    ghost from_gives = { λ _ e. e ≡ Memory };
+
+    fn from(_memory: Memory) -> PartError {
+        PartError::Memory
+    }
 }

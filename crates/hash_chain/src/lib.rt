@@ -5,7 +5,14 @@
 //! both. `make_parts` makes the file of a text; `join_parts` answers the text of which a file is the parts, or its fault.
 #![tactic(auto)]
 
+mod cut;
 mod fault;
+mod hash;
+mod join;
 pub mod laws;
+mod line;
+mod make;
 
 pub use fault::{PartError, PartFault};
+pub use join::join_parts;
+pub use make::make_parts;

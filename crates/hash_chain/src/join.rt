@@ -1,0 +1,197 @@
+//! A file of parts is read.
+ghost use Rattle.std.specs.Prelude.{◌≡◌, ◌≢◌, ◌==◌, ◌+◌, ◌<◌, ◌^◌, ◌++◌, ◌∷◌, [], ℕ, List, length, nat_le, nat_lt, ◌&&◌, position, IfOk, IfSome, MatchOption, MatchResult, OnOk, Err, None, Some};
+ghost use Rattle.std.specs.Str.{bytes_eq};
+ghost use Rattle.hash_chain.specs.Chain.{part_text, version};
+ghost use Rattle.hash_chain.specs.Cut.{joined, part_size, pieces};
+ghost use Rattle.hash_chain.specs.Fault.{ArePartsOf, IsPartFault, failing, fault_of, fits_before, hash_before};
+ghost use Rattle.hash_chain.specs.Hash.{hash_text};
+ghost use Rattle.hash_chain.specs.Lines.{feeds_in, line_of, rows};
+ghost use Rattle.hash_chain.specs.Reading.{MatchRead, said, said_before, with_part};
+ghost use Rattle.hash_chain.specs.declared.fault.PartError.{PartError};
+ghost use Rattle.hash_chain.specs.declared.fault.PartFault.{PartFault};
+
+use crate::cut::PART_SIZE;
+use crate::fault::{PartError, PartFault};
+use crate::hash::hash_of;
+use crate::line::{Line, VERSION, read_line, split_piece};
+use std::alloc::Global;
+use urna_base::Memory;
+
+/// The field text of which a file is the parts, or the fault of the file (docs/FORMATS.md, "Parts"); each file has one of both. The caller
+/// owes that the file is shorter than 2^31 bytes. `Memory` comes only where an allocation failed.
+pub fn join_parts(alloc: Global, bytes: &[u8]) -> Result<Vec<u8>, PartError>
+    requires { length bytes.now < 2 ^ 31 }
+    ensures ok { IfOk result (λ text. ArePartsOf bytes.now text.items) }
+    ensures fault { (f : PartFault) → result ≡ Err (PartError.Fault f) → IsPartFault bytes.now f }
+    ensures ok_there { result ≢ Err PartError.Memory → (text : List ℕ) → ArePartsOf bytes.now text → MatchResult result (λ t. t.items ≡ text) (λ e. ⊥) }
+    ensures fault_there { result ≢ Err PartError.Memory → (f : PartFault) → IsPartFault bytes.now f → result ≡ Err (PartError.Fault f) }
+{
+    read_parts(alloc, bytes)
+}
+
+/// The same, told of the answer that there is: that there is no other follows from the laws of files.
+fn read_parts(alloc: Global, bytes: &[u8]) -> Result<Vec<u8>, PartError>
+    requires { length bytes.now < 2 ^ 31 }
+    ensures { MatchRead result (λ text. ArePartsOf bytes.now text.items) (λ f. IsPartFault bytes.now f) }
+{
+    let feeds = count_feeds(bytes);
+    let mut text = Vec::new(alloc);
+    let mut before = None;
+    let mut place = 1;
+    let mut rest = bytes;
+    while let Some((row, behind)) = split_row(rest) {
+        let line = take_line(alloc, feeds, place, before, row)?;
+        push_fields(&mut text, line.fields)?;
+        before = Some(line);
+        place += 1;
+        rest = behind;
+    }
+    if rest.is_empty() && place > 1 {
+        Ok(text)
+    } else {
+        Err(PartError::Fault(PartFault::Form(place)))
+    }
+}
+
+/// How many line feeds a file has.
+fn count_feeds(bytes: &[u8]) -> u64
+    ensures { result ≡ feeds_in bytes.now }
+{
+    bytes.iter().filter(|byte| **byte == b'\n').count() as u64
+}
+
+/// The bytes in front of the first line feed, and those behind it.
+fn split_row(bytes: &[u8]) -> Option<(&[u8], &[u8])>
+    ensures row { MatchOption result (rows bytes.now ≡ bytes.now ∷ []) (λ x. rows bytes.now ≡ x.0.now ∷ rows x.1.now) }
+    ensures shorter { IfSome result (λ x. length x.1.now < length bytes.now) }
+{
+    match first_feed(bytes) {
+        Some(end) => Some((&bytes[..end], &bytes[end + 1..])),
+        None => None,
+    }
+}
+
+/// Where the first line feed stands.
+fn first_feed(bytes: &[u8]) -> Option<usize>
+    ensures { result ≡ position (λ b. b == 10) bytes.now }
+{
+    bytes.iter().position(|byte| *byte == b'\n')
+}
+
+/// Appends the fields of a part, behind a space where others stand before.
+fn push_fields(text: &mut Vec<u8>, fields: &[u8]) -> Result<(), Memory>
+    ensures { OnOk result (text.new.items ≡ with_part text.old.items fields.now) }
+{
+    if !text.is_empty() {
+        text.push(b' ')?;
+    }
+    text.extend_from_slice(fields)?;
+    Ok(())
+}
+
+/// The line at a place of a file with so many line feeds, behind the line before, or its fault.
+fn take_line<'a>(
+    alloc: Global,
+    feeds: u64,
+    place: u32,
+    before: Option<Line<'_>>,
+    row: &'a [u8],
+) -> Result<Line<'a>, PartError>
+    ensures fault { MatchRead result
+        (λ l. fault_of feeds place (said_before before.entry) (line_of row.now) ≡ None)
+        (λ f. fault_of feeds place (said_before before.entry) (line_of row.now) ≡ Some f) }
+    ensures line { IfOk result (λ l. line_of row.now ≡ Some (said l)) }
+{
+    let Some(line) = read_line(row) else {
+        return Err(PartError::Fault(PartFault::Form(place)));
+    };
+    match failing(alloc, feeds, place, before, line)? {
+        Some(fault) => Err(PartError::Fault(fault)),
+        None => Ok(line),
+    }
+}
+
+/// The first test behind the form that fails.
+#[tactic(auto, unfolding(crate::specs::Fault::failing))]
+fn failing(
+    alloc: Global,
+    feeds: u64,
+    place: u32,
+    before: Option<Line<'_>>,
+    line: Line<'_>,
+) -> Result<Option<PartFault>, Memory>
+    requires { line.text.now ≡ part_text (said line) }
+    ensures { IfOk result (λ o. o ≡ failing feeds place (said_before before.entry) (said line.entry)) }
+{
+    if !has_version(line) {
+        return Ok(Some(PartFault::Version(place)));
+    }
+    if !has_number(line, feeds, place) {
+        return Ok(Some(PartFault::Number(place)));
+    }
+    if !has_hash(alloc, before, line)? {
+        return Ok(Some(PartFault::Hash(place)));
+    }
+    if is_long(line.fields) || fits_before(before, line.fields) {
+        return Ok(Some(PartFault::Cut(place)));
+    }
+    Ok(None)
+}
+
+/// Whether a line is of the version of this format.
+fn has_version(line: Line<'_>) -> bool
+    ensures { result ≡ bytes_eq line.entry.version.now version }
+{
+    line.version == VERSION.as_slice()
+}
+
+/// Whether a line is the part that is due, of as many parts as the file has line feeds.
+fn has_number(line: Line<'_>, feeds: u64, place: u32) -> bool
+    ensures { result ≡ (line.entry.number == place && line.entry.parts == feeds) }
+{
+    line.number == u64::from(place) && line.parts == feeds
+}
+
+/// Whether the hash of a line is that of the hash before and its text.
+fn has_hash(alloc: Global, before: Option<Line<'_>>, line: Line<'_>) -> Result<bool, Memory>
+    ensures { IfOk result (λ b. b ≡ bytes_eq line.entry.hash.now (hash_text (hash_before (said_before before.entry) ++ line.entry.text.now))) }
+{
+    let hash = hash_of(alloc, hash_before(before), line.text)?;
+    Ok(line.hash == hash.as_bytes())
+}
+
+/// The hash from which a line's goes on: none before the first line.
+fn hash_before<'a>(before: Option<Line<'a>>) -> &'a [u8]
+    ensures { result.now ≡ hash_before (said_before before.entry) }
+{
+    match before {
+        Some(line) => line.hash,
+        None => &[],
+    }
+}
+
+/// Whether fields are more than a part has.
+#[tactic(auto, using(crate::proofs::PieceLaws::joined_pieces))]
+fn is_long(fields: &[u8]) -> bool
+    ensures { result ≡ nat_lt part_size (length (joined (pieces fields.now))) }
+{
+    fields.len() > PART_SIZE
+}
+
+/// Whether the first of these fields would have fitted into the part of the line before.
+fn fits_before(before: Option<Line<'_>>, fields: &[u8]) -> bool
+    ensures { result ≡ fits_before (said_before before.entry) (pieces fields.now) }
+{
+    match before {
+        Some(line) => fits_behind(line.fields, split_piece(fields).0),
+        None => false,
+    }
+}
+
+/// Whether a field would have fitted behind the fields of a part.
+#[tactic(auto, using(crate::proofs::PieceLaws::joined_pieces))]
+fn fits_behind(part: &[u8], field: &[u8]) -> bool
+    ensures { result ≡ nat_le (length (joined (pieces part.now)) + 1 + length field.now) part_size }
+{
+    part.len() + 1 + field.len() <= PART_SIZE
+}
