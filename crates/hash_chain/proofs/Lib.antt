@@ -13,3 +13,4 @@ pub mod CutText
 pub mod LineParts
 pub mod PutLaws
 pub mod Joining
+pub mod Rows

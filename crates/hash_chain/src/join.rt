@@ -57,7 +57,13 @@ fn read_parts(alloc: Global, bytes: &[u8]) -> Result<Vec<u8>, PartError>
 fn count_feeds(bytes: &[u8]) -> u64
     ensures { result ≡ feeds_in bytes.now }
 {
-    bytes.iter().filter(|byte| **byte == b'\n').count() as u64
+    let mut feeds = 0;
+    for byte in bytes {
+        if *byte == b'\n' {
+            feeds += 1;
+        }
+    }
+    feeds
 }
 
 /// The bytes in front of the first line feed, and those behind it.
