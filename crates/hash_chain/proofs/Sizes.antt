@@ -12,7 +12,7 @@ use Rattle.hash_chain.proofs.CutLaws.{few_parts, one_cut, part_bytes}
 use Rattle.hash_chain.proofs.HashLaws.{hashes}
 use Rattle.hash_chain.specs.Chain.{Line, line_text, lines_from, lines_text, part_line, part_text, parts_text}
 use Rattle.hash_chain.specs.Cut.{cut, joined, pieces}
-use Rattle.hash_chain.specs.Fault.{AreFields}
+use Rattle.hash_chain.specs.Fault.{AreFields, ArePartsOf}
 use Rattle.hash_chain.specs.Hash.{is_hash, is_hex}
 use Rattle.hash_chain.specs.Laws.{FewBytes}
 
@@ -97,4 +97,45 @@ few_bytes text fields short =
     let within = within_text (cut (pieces text)) in
     let file = few_bytes_of parts 1 [] (cut (pieces text)) (omega arith) (omega arith) in
     let count : parts ≤ length text / 500 + 1 = omega arith in
+    omega arith
+
+-- ---- a text is no longer than its file
+
+joined_over : (a b : List (List ℕ)) → length (joined (a ++ b)) ≤ length (joined a) + 1 + length (joined b)
+joined_over [] b = omega arith
+joined_over (f ∷ []) [] = omega arith
+joined_over (f ∷ []) (g ∷ b) = let both = length-append f (32 ∷ joined (g ∷ b)) in omega arith
+joined_over (f ∷ g ∷ a) b =
+    let rest = joined_over (g ∷ a) b in
+    let left = length-append f (32 ∷ joined (g ∷ a)) in
+    let right = length-append f (32 ∷ joined ((g ∷ a) ++ b)) in
+    omega arith
+
+text_within : (ps : List (List (List ℕ))) → length (joined (flat_map (λ p. p) ps)) ≤ part_bytes ps + length ps
+text_within [] = omega arith
+text_within (p ∷ ps) =
+    let rest = text_within ps in
+    let here = joined_over p (flat_map (λ q. q) ps) in
+    let sum = sum_by-cons (λ (q : List (List ℕ)). length (joined q)) p ps in
+    omega arith
+
+parts_within : (parts number : ℕ) (before : List ℕ) (ps : List (List (List ℕ))) → part_bytes ps + length ps ≤ length (lines_text (lines_from parts number before ps))
+parts_within parts number before [] = omega arith
+parts_within parts number before (p ∷ ps) =
+    let l : Line = part_line parts number before p in
+    let here = line_length parts number before p in
+    let rest = parts_within parts (number + 1) l.hash ps in
+    let both = length-append (line_text l) (10 ∷ lines_text (lines_from parts (number + 1) l.hash ps)) in
+    let sum = sum_by-cons (λ (q : List (List ℕ)). length (joined q)) p ps in
+    omega arith
+
+pub text_within_file : (bytes text : List ℕ) → ArePartsOf bytes text → length text ≤ length bytes
+unfolding parts_text
+text_within_file bytes text h =
+    let c = (one_cut (pieces text) h.fields).0 in
+    let whole : joined (flat_map (λ p. p) (cut (pieces text))) ≡ text = ap (λ (x : List (List ℕ)). joined x) c.all ∙ join_with_byte-slice_split 32 text in
+    let same = ap (λ (x : List ℕ). length x) whole in
+    let within = text_within (cut (pieces text)) in
+    let file = parts_within (length (cut (pieces text))) 1 [] (cut (pieces text)) in
+    let bytes_same = ap (λ (x : List ℕ). length x) h.same in
     omega arith

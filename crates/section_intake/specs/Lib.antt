@@ -1,0 +1,5 @@
+pub mod Fits
+pub mod Verdict
+pub mod Fitting
+pub mod Reading
+pub mod Laws

@@ -1,0 +1,20 @@
+//! What is said of the file of a report.
+use hash_chain::PartFault;
+use qr_text::FieldFault;
+
+/// The verdict on the file of a report (docs/FORMATS.md, "Verdicts").
+#[derive(Clone, Copy, Debug, PartialEq, Eq)]
+pub enum Verdict {
+    /// It is the report of this section of the tables.
+    Accepted { zone: u32, section: u32 },
+    /// It is no parts of a field text.
+    Part(PartFault),
+    /// The fields of its parts spell no report.
+    Fields(FieldFault),
+    /// Its report is not of these tables.
+    Strange,
+    /// It is a file of this section that was accepted before.
+    Repeated { zone: u32, section: u32 },
+    /// It is another report of a section of which one was accepted before.
+    Conflict { zone: u32, section: u32 },
+}
