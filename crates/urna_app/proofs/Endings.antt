@@ -11,18 +11,23 @@ use Rattle.urna_outside.proofs.Faults.{faultless_none}
 use Rattle.election_tables.specs.Roll.{RollData}
 use Rattle.election_tables.specs.TablesData.{TablesData}
 use Rattle.key_script.specs.declared.keys.Event.{Event}
+use Rattle.section_intake.specs.declared.verdict.Verdict.{Verdict}
+use Rattle.section_intake.specs.declared.verdict.Verdict.TheVariants as verdict
 use Rattle.state_store.specs.Calls.{IsUntouched}
 use Rattle.state_store.specs.declared.store.LoadError.{LoadError}
 use Rattle.state_store.specs.declared.store.LoadError.TheVariants as load
 use Rattle.station.specs.declared.station.StartError.{StartError}
 use Rattle.station.specs.declared.station.StartError.TheVariants as start
 use Rattle.urna_app.specs.Carga.{CargaEnds, load_no_cabinet, load_no_memory, load_refused}
-use Rattle.urna_app.specs.Command.{Carga, Vota}
+use Rattle.urna_app.specs.Command.{Carga, Confere, Vota}
+use Rattle.urna_app.specs.Confere.{ConfereEnds, check_no_cabinet, check_no_memory, check_refused}
 use Rattle.urna_app.specs.Documents.{HasKeys, HasRoll, HasTables, IsFirstFault}
 use Rattle.urna_app.specs.Errors.{load_status, port_status, start_status}
 use Rattle.urna_app.specs.Holding.{FailsToHold, hold_status}
 use Rattle.urna_app.specs.Taking.{CountsFor, HasTaken, status_in}
 use Rattle.urna_app.specs.Vota.{IsGiven, IsRefused, VotaEnds, cut, no_cabinet, no_memory, not_started, refused}
+use Rattle.urna_app.specs.Verdicts.{verdict_status}
+use Rattle.urna_app.specs.declared.status.Doc.TheVariants as doc
 use Rattle.urna_app.specs.declared.status.Status.{Status}
 use Rattle.urna_app.specs.declared.status.Status.TheVariants as status
 use Rattle.urna_app.specs.declared.vota.HoldError.{HoldError}
@@ -57,6 +62,7 @@ which status.Display = inr (inr (λ e. absurd (cc), λ e. absurd (cc)))
 which (status.Foreign d) = inr (inr (λ e. absurd (cc), λ e. absurd (cc)))
 which status.NoImage = inr (inr (λ e. absurd (cc), λ e. absurd (cc)))
 which (status.Busy d) = inr (inr (λ e. absurd (cc), λ e. absurd (cc)))
+which (status.ReportRefused v) = inr (inr (λ e. absurd (cc), λ e. absurd (cc)))
 which status.NoSection = inr (inr (λ e. absurd (cc), λ e. absurd (cc)))
 
 -- the keys are taken behind the tables and the roll
@@ -78,17 +84,29 @@ fault_ends names c d m s found taken = ends s (which s) found taken
         subst (VotaEnds names c d m m) (sym failed) (no_cabinet (subst (λ (v : Status). HasTaken 3 v c d) failed taken) (untouched m))
     ends u (inr (inr (memory, failed))) found taken = refused (found memory failed) taken (untouched m)
 
-pub load_fault_ends : (names : Carga) (c d : CabinetTold) (m : Told) (s : Status) → (s ≢ status.Memory → s ≢ status.Cabinet → IsFirstFault c.files names.tables names.roll s)
+pub load_fault_ends : (names : Carga) (c d : CabinetTold) (m : Told) (s : Status) → (s ≢ status.Memory → s ≢ status.Cabinet → IsFirstFault c.files names.tables doc.Roll names.roll s)
     → HasTaken 2 s c d → CargaEnds names c d m m s
 load_fault_ends names c d m s found taken = ends s (which s) found taken
   where
     ends : (u : Status) → (u ≡ status.Memory) ⊎ (u ≡ status.Cabinet) ⊎ ((u ≢ status.Memory) × (u ≢ status.Cabinet))
-        → (u ≢ status.Memory → u ≢ status.Cabinet → IsFirstFault c.files names.tables names.roll u) → HasTaken 2 u c d → CargaEnds names c d m m u
+        → (u ≢ status.Memory → u ≢ status.Cabinet → IsFirstFault c.files names.tables doc.Roll names.roll u) → HasTaken 2 u c d → CargaEnds names c d m m u
     ends u (inl memory) found taken =
         subst (CargaEnds names c d m m) (sym memory) (load_no_memory (subst (λ (v : Status). HasTaken 2 v c d) memory taken) (untouched m))
     ends u (inr (inl failed)) found taken =
         subst (CargaEnds names c d m m) (sym failed) (load_no_cabinet (subst (λ (v : Status). HasTaken 2 v c d) failed taken) (untouched m))
     ends u (inr (inr (memory, failed))) found taken = load_refused (found memory failed) taken (untouched m)
+
+pub check_fault_ends : (names : Confere) (c d : CabinetTold) (m : Told) (s : Status)
+    → (s ≢ status.Memory → s ≢ status.Cabinet → IsFirstFault c.files names.tables doc.Report names.report s) → HasTaken 2 s c d → ConfereEnds names c d m m s
+check_fault_ends names c d m s found taken = ends s (which s) found taken
+  where
+    ends : (u : Status) → (u ≡ status.Memory) ⊎ (u ≡ status.Cabinet) ⊎ ((u ≢ status.Memory) × (u ≢ status.Cabinet))
+        → (u ≢ status.Memory → u ≢ status.Cabinet → IsFirstFault c.files names.tables doc.Report names.report u) → HasTaken 2 u c d → ConfereEnds names c d m m u
+    ends u (inl memory) found taken =
+        subst (ConfereEnds names c d m m) (sym memory) (check_no_memory (subst (λ (v : Status). HasTaken 2 v c d) memory taken) (untouched m))
+    ends u (inr (inl failed)) found taken =
+        subst (ConfereEnds names c d m m) (sym failed) (check_no_cabinet (subst (λ (v : Status). HasTaken 2 v c d) failed taken) (untouched m))
+    ends u (inr (inr (memory, failed))) found taken = check_refused (found memory failed) taken (untouched m)
 
 counts_port : (p : Port) (old new : Tally) → new ≡ old → CountsFor (port_status p) old new
 counts_port port.Internal old new same = same
@@ -106,6 +124,14 @@ counts_load load.Memory old new same = same
 counts_load (load.Flash dev.Internal) old new same = same
 counts_load (load.Flash dev.External) old new same = same
 counts_load (load.Busy d) old new same = same
+
+pub counts_verdict : (v : Verdict) (old new : Tally) → new ≡ old → CountsFor (verdict_status v) old new
+counts_verdict (verdict.Accepted zone number) old new same = same
+counts_verdict (verdict.Part f) old new same = same
+counts_verdict (verdict.Fields f) old new same = same
+counts_verdict verdict.Strange old new same = same
+counts_verdict (verdict.Repeated zone number) old new same = same
+counts_verdict (verdict.Conflict zone number) old new same = same
 
 -- a session that was not held ends the command
 pub not_held : (names : Vota) (c d : CabinetTold) (m n : Told) (t : TablesData) (r : RollData) (es : List Event) (e : HoldError) → IsGiven c.files names t r es

@@ -46,7 +46,7 @@ use Rattle.station.proofs.Performing.{tables_setting}
 use Rattle.station.proofs.Casting.{run_counts, run_last}
 use Rattle.station.proofs.RunLaws.{run_exists, run_unique}
 use Rattle.urna_app.specs.Command.{ToVote, Vota, command_of}
-use Rattle.urna_app.specs.Ending.{CommandEnds, carga, no_command, vota}
+use Rattle.urna_app.specs.Ending.{CommandEnds, carga, confere, no_command, vota}
 use Rattle.urna_app.specs.Errors.{port_status, start_status}
 use Rattle.urna_app.specs.FaultLines.{Tells, fault_text}
 use Rattle.urna_app.specs.Headline.{AllAreCounted, KeepsVotes, KeysHaveRun, VotesAreKept, session_lines}
@@ -55,7 +55,7 @@ use Rattle.urna_app.specs.declared.status.Doc.TheVariants as doc
 use Rattle.urna_app.specs.declared.status.Status.{Status}
 use Rattle.urna_app.specs.declared.status.Status.TheVariants as status
 use Rattle.urna_app.proofs.Keeping.{behind_is, found_roll, kept_silent, not_done, not_within, safe_stops, session_kept}
-use Rattle.urna_app.proofs.Once.{refused_or_given, same_bytes}
+use Rattle.urna_app.proofs.Once.{refused_or_given, same_bytes, same_roll, same_tables}
 
 -- ---- a session in which the opening line began, and what else there is behind the two syncs
 
@@ -188,17 +188,12 @@ module _ (t : TablesData) (r : RollData) (s : State) (tables : IsTables t) (sect
 given_once : (files : Files) (names : Vota) (t u : TablesData) (r q : RollData) (es fs : List Event) → IsGiven (Some files) names t r es → IsGiven (Some files) names u q fs
     → (t ≡ u) × (r ≡ q) × (es ≡ fs)
 given_once files names t u r q es fs a b =
-    let one = same_bytes files doc.Tables names.tables a.tables.bytes b.tables.bytes a.tables.taken b.tables.taken in
-    let two = same_bytes files doc.Roll names.roll a.roll.bytes b.roll.bytes a.roll.taken b.roll.taken in
     let three = same_bytes files doc.Keys names.keys a.keys.bytes b.keys.bytes a.keys.taken b.keys.taken in
     let first : events_of b.keys.bytes ≡ Some es = ap events_of (sym three) ∙ a.keys.read in
     let second = b.keys.read in
     let both : Some es ≡ Some fs = sym first ∙ second in
-    let keys : es ≡ fs = cc in (
-      tables_determined b.tables.bytes t u (subst (λ (x : List ℕ). IsReadAs x t) one a.tables.read) b.tables.read,
-      roll_determined b.roll.bytes r q (subst (λ (x : List ℕ). IsRollOf x r) two a.roll.read) b.roll.read,
-      keys,
-    )
+    let keys : es ≡ fs = cc in
+    (same_tables files names.tables t u a.tables b.tables, same_roll files names.roll r q a.roll b.roll, keys)
 
 -- ---- the headline
 
@@ -258,6 +253,7 @@ module _ (names : Vota) (files : Files) (c d : CabinetTold) (told : c.files ≡ 
       let same : other ≡ names = cc in
       subst (λ (x : Vota). VotaEnds x c d m b answer) same h
   command_is words answer is (carga that h) = absurd (cc)
+  command_is words answer is (confere that h) = absurd (cc)
 
   pub command_kept : (words : List (List ℕ)) (answer : Status) → command_of words ≡ Some (ToVote names) → CommandEnds words c d m b answer → Tells (fault_text answer) b n → All
   command_kept words answer is h tells = vota_kept answer (command_is words answer is h) tells

@@ -3,10 +3,10 @@ mod Calls
 mod Days
 mod Endings
 mod Faults
-mod FiveWords
+mod FewWords
 mod Headline
 mod Keeping
 mod Loads
 mod Once
-mod Sessions
 mod Reports
+mod Sessions

@@ -22,21 +22,17 @@ use Rattle.state_store.proofs.Loaded.{rest_found, rest_whole}
 use Rattle.urna_app.specs.Carga.{CargaEnds, HasLoaded, IsSectionAsked, IsGivenLoad, load_no_cabinet, load_no_memory, load_refused, loaded, loaded_line, no_section, not_loaded, not_told}
 use Rattle.urna_app.specs.Documents.{IsFirstFault}
 use Rattle.urna_app.specs.Command.{Carga, ToLoad, command_of}
-use Rattle.urna_app.specs.Ending.{CommandEnds, carga, vota}
+use Rattle.urna_app.specs.Ending.{CommandEnds, carga, confere, vota}
 use Rattle.urna_app.specs.Errors.{load_status}
 use Rattle.urna_app.specs.Headline.{LoadBeginsDay}
 use Rattle.urna_app.specs.declared.status.Doc.TheVariants as doc
 use Rattle.urna_app.specs.declared.status.Status.{Status}
 use Rattle.urna_app.specs.declared.status.Status.TheVariants as status
-use Rattle.urna_app.proofs.Once.{refused_or_given_load, same_bytes}
+use Rattle.urna_app.proofs.Once.{refused_or_given_load, same_roll, same_tables}
 
 load_given_once : (files : Files) (names : Carga) (t u : TablesData) (r q : RollData) → IsGivenLoad (Some files) names t r → IsGivenLoad (Some files) names u q → (t ≡ u) × (r ≡ q)
 load_given_once files names t u r q a b =
-    let one = same_bytes files doc.Tables names.tables a.tables.bytes b.tables.bytes a.tables.taken b.tables.taken in
-    let two = same_bytes files doc.Roll names.roll a.roll.bytes b.roll.bytes a.roll.taken b.roll.taken in (
-      tables_determined b.tables.bytes t u (subst (λ (x : List ℕ). IsReadAs x t) one a.tables.read) b.tables.read,
-      roll_determined b.roll.bytes r q (subst (λ (x : List ℕ). IsRollOf x r) two a.roll.read) b.roll.read,
-    )
+    (same_tables files names.tables t u a.tables b.tables, same_roll files names.roll r q a.roll b.roll)
 
 error_not_done : (e : LoadError) → load_status e ≡ status.Done → ⊥
 error_not_done load.Memory is = absurd (cc)
@@ -62,7 +58,7 @@ module _ (files : Files) (names : Carga) (c d : CabinetTold) (told : c.files ≡
 
   carga_begins : (answer : Status) → answer ≡ status.Done → CargaEnds names c d m b answer → Begins
   carga_begins answer ok (load_refused bad taken un) =
-      absurd (refused_or_given_load files names answer t r (subst (λ (o : Option Files). IsFirstFault o names.tables names.roll answer) told bad) given)
+      absurd (refused_or_given_load files names answer t r (subst (λ (o : Option Files). IsFirstFault o names.tables doc.Roll names.roll answer) told bad) given)
   carga_begins _ ok (load_no_memory taken un) = absurd (cc)
   carga_begins _ ok (load_no_cabinet taken un) = absurd (cc)
   carga_begins _ ok (no_section also none taken un) = absurd (cc)
@@ -78,6 +74,7 @@ module _ (files : Files) (names : Carga) (c d : CabinetTold) (told : c.files ≡
 
   pub command_begins : (words : List (List ℕ)) → command_of words ≡ Some (ToLoad names) → CommandEnds words c d m b status.Done → Begins
   command_begins words is (vota that h) = absurd (cc)
+  command_begins words is (confere that h) = absurd (cc)
   command_begins words is (carga {names = other} that h) =
       let same : other ≡ names = cc in
       carga_begins status.Done refl (subst (λ (x : Carga). CargaEnds x c d m b status.Done) same h)

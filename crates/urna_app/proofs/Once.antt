@@ -1,5 +1,5 @@
 -- What is wrong with files is determined by them
-use Rattle.std.proofs.Common.{◌≡◌, ◌≤◌, ◌<◌, ℕ, List, length, Option, Some, None, refl, sym, ap, subst, arith, IsSomeAnd}
+use Rattle.std.proofs.Common.{◌≡◌, ◌≤◌, ◌<◌, ◌^◌, ℕ, List, length, Option, Some, None, refl, sym, ap, subst, arith, IsSomeAnd}
 use Rattle.std.specs.Option.{ForSome}
 use Rattle.std.specs.Prelude.{IsSome, MatchOption}
 use Rattle.toml.specs.Data.{Members}
@@ -12,14 +12,19 @@ use Rattle.key_script.specs.Script.{events_of, first_bad}
 use Rattle.key_script.proofs.ScriptLaws.{events_or_bad}
 use Rattle.key_script.specs.declared.keys.Event.{Event}
 use Rattle.urna_app.specs.Carga.{IsGivenLoad}
-use Rattle.urna_app.specs.Command.{Carga, Vota}
-use Rattle.urna_app.specs.Documents.{IsTaken, IsBad, IsFault, IsFirstFault, HasTables, HasRoll, HasKeys, first_tables, first_roll, limit_of, lacks, longer, bad, no_document, rule, count, roll_line, line}
+use Rattle.section_intake.specs.Verdict.{IsVerdict}
+use Rattle.section_intake.specs.declared.verdict.Verdict.{Verdict}
+use Rattle.urna_app.specs.Command.{Carga, Confere, Vota}
+use Rattle.urna_app.specs.Confere.{HasVerdict}
+use Rattle.urna_app.specs.Documents.{IsTaken, IsBad, IsFault, IsFirstFault, HasTables, HasRoll, HasKeys, first_tables, first_other, limit_of, lacks, longer, bad, no_document, rule, count, roll_line, line}
 use Rattle.urna_app.specs.Vota.{IsGiven, IsRefused, documents, keys}
 use Rattle.urna_app.specs.declared.status.Doc.{Doc}
 use Rattle.urna_app.specs.declared.status.Doc.TheVariants as doc
 use Rattle.urna_app.specs.declared.status.Status.{Status}
 use Rattle.urna_app.specs.declared.status.Status.TheVariants as status
+use Rattle.election_tables.proofs.Determined.{roll_determined, tables_determined}
 use Rattle.election_tables.proofs.Reading.{one_document}
+use Rattle.section_intake.proofs.VerdictLaws.{one_verdict}
 
 -- The documents of the same bytes
 
@@ -61,10 +66,22 @@ bad_roll bytes s t (roll_line {k} h) (roll_line {k = n} i) =
 bad_keys : (bytes : List ℕ) (s t : Status) → IsBad doc.Keys bytes s → IsBad doc.Keys bytes t → s ≡ t
 bad_keys bytes s t (line {k} h) (line {k = n} i) = let same : k ≡ n = cc in ap status.Line same
 
+-- the bytes of a report are tried by their verdict alone
+no_bad_report : (d : Doc) (bytes : List ℕ) (s : Status) → IsBad d bytes s → d ≡ doc.Report → ⊥
+no_bad_report d bytes s (no_document h) e = absurd (cc)
+no_bad_report d bytes s (rule h) e = absurd (cc)
+no_bad_report d bytes s (count h) e = absurd (cc)
+no_bad_report d bytes s (roll_line h) e = absurd (cc)
+no_bad_report d bytes s (line h) e = absurd (cc)
+
+report_not_bad : (bytes : List ℕ) (s : Status) → IsBad doc.Report bytes s → ⊥
+report_not_bad bytes s h = no_bad_report doc.Report bytes s h refl
+
 bad_once : (d : Doc) (bytes : List ℕ) (s t : Status) → IsBad d bytes s → IsBad d bytes t → s ≡ t
 bad_once doc.Tables bytes s t h i = bad_tables bytes s t h i
 bad_once doc.Roll bytes s t h i = bad_roll bytes s t h i
 bad_once doc.Keys bytes s t h i = bad_keys bytes s t h i
+bad_once doc.Report bytes s t h i = absurd (report_not_bad bytes s h)
 
 -- A file of a name
 
@@ -141,20 +158,21 @@ keys_not_fault files name s es (bad {bytes} taken (line {k} h)) has =
 
 -- The files of some names
 
-pub first_once : (files : Files) (tables roll : List ℕ) (s u : Status) → IsFirstFault (Some files) tables roll s → IsFirstFault (Some files) tables roll u → s ≡ u
-first_once files a b s u (first_tables h) (first_tables i) = fault_once files a doc.Tables s u h i
-first_once files a b s u (first_tables h) (first_roll {t} has i) = absurd (tables_not_fault files a s t h has)
-first_once files a b s u (first_roll {t} has h) (first_tables i) = absurd (tables_not_fault files a u t i has)
-first_once files a b s u (first_roll has h) (first_roll also i) = fault_once files b doc.Roll s u h i
+pub first_once : (files : Files) (tables : List ℕ) (d : Doc) (name : List ℕ) (s u : Status) → IsFirstFault (Some files) tables d name s
+    → IsFirstFault (Some files) tables d name u → s ≡ u
+first_once files a d b s u (first_tables h) (first_tables i) = fault_once files a doc.Tables s u h i
+first_once files a d b s u (first_tables h) (first_other {t} has i) = absurd (tables_not_fault files a s t h has)
+first_once files a d b s u (first_other {t} has h) (first_tables i) = absurd (tables_not_fault files a u t i has)
+first_once files a d b s u (first_other has h) (first_other also i) = fault_once files b d s u h i
 
 -- tables and a roll that are at fault are not there
-first_not_there : (files : Files) (tables roll : List ℕ) (s : Status) (t : TablesData) (r : RollData) → IsFirstFault (Some files) tables roll s
+first_not_there : (files : Files) (tables roll : List ℕ) (s : Status) (t : TablesData) (r : RollData) → IsFirstFault (Some files) tables doc.Roll roll s
     → HasTables (Some files) tables t → HasRoll (Some files) roll r → ⊥
 first_not_there files a b s t r (first_tables h) has read = tables_not_fault files a s t h has
-first_not_there files a b s t r (first_roll _ h) has read = roll_not_fault files b s r h read
+first_not_there files a b s t r (first_other _ h) has read = roll_not_fault files b s r h read
 
 pub refused_once : (files : Files) (names : Vota) (s u : Status) → IsRefused (Some files) names s → IsRefused (Some files) names u → s ≡ u
-refused_once files a s u (documents h) (documents i) = first_once files a.tables a.roll s u h i
+refused_once files a s u (documents h) (documents i) = first_once files a.tables doc.Roll a.roll s u h i
 refused_once files a s u (documents h) (keys {t} {r} has read i) = absurd (first_not_there files a.tables a.roll s t r h has read)
 refused_once files a s u (keys {t} {r} has read h) (documents i) = absurd (first_not_there files a.tables a.roll u t r i has read)
 refused_once files a s u (keys has read h) (keys also seen i) = fault_once files a.keys doc.Keys s u h i
@@ -164,6 +182,40 @@ pub refused_or_given : (files : Files) (names : Vota) (s : Status) (t : TablesDa
 refused_or_given files a s t r es (documents h) given = first_not_there files a.tables a.roll s t r h given.tables given.roll
 refused_or_given files a s t r es (keys has read h) given = keys_not_fault files a.keys s es h given.keys
 
-pub refused_or_given_load : (files : Files) (names : Carga) (s : Status) (t : TablesData) (r : RollData) → IsFirstFault (Some files) names.tables names.roll s
+pub refused_or_given_load : (files : Files) (names : Carga) (s : Status) (t : TablesData) (r : RollData) → IsFirstFault (Some files) names.tables doc.Roll names.roll s
     → IsGivenLoad (Some files) names t r → ⊥
 refused_or_given_load files a s t r h given = first_not_there files a.tables a.roll s t r h given.tables given.roll
+
+-- The tables and the report of some names
+
+report_not_fault : (files : Files) (name bytes : List ℕ) (s : Status) → IsFault (Some files) name doc.Report s → IsTaken (Some files) doc.Report name bytes → ⊥
+report_not_fault files name bytes s (lacks h) taken = lacks_not_taken files doc.Report name bytes h taken
+report_not_fault files name bytes s (longer h) taken = longer_not_taken files doc.Report name bytes h taken
+report_not_fault files name bytes s (bad {bytes = other} _ h) taken = report_not_bad other s h
+
+pub refused_or_checked : (files : Files) (names : Confere) (s : Status) (v : Verdict) → IsFirstFault (Some files) names.tables doc.Report names.report s
+    → HasVerdict (Some files) names v → ⊥
+refused_or_checked files a s v (first_tables h) given = tables_not_fault files a.tables s given.t h given.tables
+refused_or_checked files a s v (first_other _ h) given = report_not_fault files a.report given.bytes s h given.report
+
+-- a name's file holds the same tables, and the same roll
+pub same_tables : (files : Files) (name : List ℕ) (t u : TablesData) → HasTables (Some files) name t → HasTables (Some files) name u → t ≡ u
+same_tables files name t u h i =
+    let same = same_bytes files doc.Tables name h.bytes i.bytes h.taken i.taken in
+    tables_determined i.bytes t u (subst (λ (b : List ℕ). IsReadAs b t) same h.read) i.read
+
+pub same_roll : (files : Files) (name : List ℕ) (r q : RollData) → HasRoll (Some files) name r → HasRoll (Some files) name q → r ≡ q
+same_roll files name r q h i =
+    let same = same_bytes files doc.Roll name h.bytes i.bytes h.taken i.taken in
+    roll_determined i.bytes r q (subst (λ (b : List ℕ). IsRollOf b r) same h.read) i.read
+
+-- a report is short
+small : (n : ℕ) → n ≤ 1048576 → n < 2 ^ 63
+small n h = omega (arith, h)
+
+pub one_verdict_on : (files : Files) (names : Confere) (v w : Verdict) → HasVerdict (Some files) names v → HasVerdict (Some files) names w → v ≡ w
+one_verdict_on files a v w h i =
+    let tables = same_tables files a.tables h.t i.t h.tables i.tables in
+    let bytes = same_bytes files doc.Report a.report h.bytes i.bytes h.report i.report in
+    one_verdict i.t i.bytes v w (small (length i.bytes) i.report.short)
+    (subst (λ (t : TablesData). IsVerdict t i.bytes v) tables (subst (λ (b : List ℕ). IsVerdict h.t b v) bytes h.verdict)) i.verdict

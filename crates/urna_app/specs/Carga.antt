@@ -19,6 +19,7 @@ use Rattle.urna_app.specs.Command.{Carga}
 use Rattle.urna_app.specs.Documents.{HasTables, HasRoll, IsFirstFault}
 use Rattle.urna_app.specs.Errors.{load_status}
 use Rattle.urna_app.specs.Taking.{HasTaken}
+use Rattle.urna_app.specs.declared.status.Doc.TheVariants as doc
 use Rattle.urna_app.specs.declared.status.Status.{Status}
 use Rattle.urna_app.specs.declared.status.Status.TheVariants as status
 
@@ -51,7 +52,7 @@ pub record HasLoaded (t : TablesData) (r : RollData) (section : Section) (old ne
 
 -- How carga ends, but for the line that tells a fault.
 pub data CargaEnds (names : Carga) (c d : CabinetTold) (m n : Told) : Status → Type 0 where
-  load_refused : {s : Status} → IsFirstFault c.files names.tables names.roll s → HasTaken 2 s c d → IsUntouched m n → CargaEnds names c d m n s
+  load_refused : {s : Status} → IsFirstFault c.files names.tables doc.Roll names.roll s → HasTaken 2 s c d → IsUntouched m n → CargaEnds names c d m n s
   load_no_memory : HasTaken 2 status.Memory c d → IsUntouched m n → CargaEnds names c d m n status.Memory
   load_no_cabinet : HasTaken 2 status.Cabinet c d → IsUntouched m n → CargaEnds names c d m n status.Cabinet
   -- The tables have no such section, or it has another number of voters than the roll.

@@ -19,6 +19,11 @@ pub record Carga : Type 0 where
   pub zone : ℕ
   pub number : ℕ
 
+-- confere TABLES REPORT: the names of the files
+pub record Confere : Type 0 where
+  pub tables : List ℕ
+  pub report : List ℕ
+
 -- five words, the first of which is vota
 abbrev pub vota_of : List (List ℕ) → Option Vota
 vota_of (word ∷ tables ∷ roll ∷ keys ∷ out ∷ []) =
@@ -55,17 +60,27 @@ carga_of (a ∷ b ∷ c ∷ []) = None
 carga_of (a ∷ b ∷ c ∷ d ∷ []) = None
 carga_of (a ∷ b ∷ c ∷ d ∷ e ∷ f ∷ more) = None
 
+-- three words, the first of which is confere
+abbrev pub confere_of : List (List ℕ) → Option Confere
+confere_of (word ∷ tables ∷ report ∷ []) = if bytes_eq word (codes "confere") then Some (record { tables = tables; report = report }) else None
+confere_of [] = None
+confere_of (a ∷ []) = None
+confere_of (a ∷ b ∷ []) = None
+confere_of (a ∷ b ∷ c ∷ d ∷ more) = None
+
 -- a command and its names
 pub data Command : Type 0 where
   ToVote : Vota → Command
   ToLoad : Carga → Command
+  ToCheck : Confere → Command
 
--- the command that the words are, if they are one of the two
-abbrev pub command_in : Option Vota → Option Carga → Option Command
-command_in (Some names) other = Some (ToVote names)
-command_in None (Some names) = Some (ToLoad names)
-command_in None None = None
+-- the command that the words are, if they are one of these
+abbrev pub command_in : Option Vota → Option Carga → Option Confere → Option Command
+command_in (Some names) load check = Some (ToVote names)
+command_in None (Some names) check = Some (ToLoad names)
+command_in None None (Some names) = Some (ToCheck names)
+command_in None None None = None
 
 -- the command of the words, if they are one
 abbrev pub command_of : List (List ℕ) → Option Command
-command_of words = command_in (vota_of words) (carga_of words)
+command_of words = command_in (vota_of words) (carga_of words) (confere_of words)

@@ -18,6 +18,7 @@ abbrev pub limit_of : Doc → ℕ
 limit_of doc.Tables = 4194304
 limit_of doc.Roll = 16384
 limit_of doc.Keys = 16777216
+limit_of doc.Report = 1048576
 
 -- These are the bytes of the file of that name, where the cabinet tells its files, and they are no more than the document may have.
 pub record IsTaken (files : Option Files) (d : Doc) (name bytes : List ℕ) : Type 0 where
@@ -57,7 +58,7 @@ pub record HasKeys (files : Option Files) (name : List ℕ) (es : List Event) : 
   pub taken : IsTaken files doc.Keys name bytes
   pub read : events_of bytes ≡ Some es
 
--- The tables or the roll are at fault, and this status says it: the tables are tried first.
-pub data IsFirstFault (files : Option Files) (tables roll : List ℕ) : Status → Type 0 where
-  first_tables : {s : Status} → IsFault files tables doc.Tables s → IsFirstFault files tables roll s
-  first_roll : {t : TablesData} {s : Status} → HasTables files tables t → IsFault files roll doc.Roll s → IsFirstFault files tables roll s
+-- The tables or another document of this name are at fault, and this status says it: the tables are tried first.
+pub data IsFirstFault (files : Option Files) (tables : List ℕ) (d : Doc) (name : List ℕ) : Status → Type 0 where
+  first_tables : {s : Status} → IsFault files tables doc.Tables s → IsFirstFault files tables d name s
+  first_other : {t : TablesData} {s : Status} → HasTables files tables t → IsFault files name d s → IsFirstFault files tables d name s

@@ -1,4 +1,5 @@
 -- The statuses of errors
+use Rattle.urna_base.specs.declared.memory.Memory.{Memory}
 use Rattle.urna_outside.specs.Told.{port_of}
 use Rattle.urna_outside.specs.declared.cabinet.CabinetError.{CabinetError}
 use Rattle.urna_outside.specs.declared.cabinet.CabinetError.TheVariants as take
@@ -17,17 +18,24 @@ use Rattle.urna_app.specs.declared.status.Doc.{Doc}
 use Rattle.urna_app.specs.declared.status.Status.{Status}
 use Rattle.urna_app.specs.declared.status.Status.TheVariants as status
 
+-- want of memory, as a status
+abbrev pub memory_status : Memory → Status
+memory_status e = status.Memory
+
+-- a file that was not taken, as a status
 abbrev pub take_status : Doc → CabinetError → Status
 take_status d take.Memory = status.Memory
 take_status d take.Failed = status.Cabinet
 take_status d take.Missing = status.Missing d
 take_status d take.TooLong = status.TooLong d
 
+-- tables that were not read, as a status
 abbrev pub tables_status : TablesError → Status
 tables_status tables.Memory = status.Memory
 tables_status tables.NotToml = status.TablesNotToml
 tables_status (tables.Rule k) = status.TablesRule k
 
+-- a roll that was not read, as a status
 abbrev pub roll_status : RollError → Status
 roll_status roll.Memory = status.Memory
 roll_status roll.Count = status.RollCount

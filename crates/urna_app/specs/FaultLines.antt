@@ -15,6 +15,7 @@ abbrev pub doc_word : Doc → List ℕ
 doc_word doc.Tables = codes "TABELAS"
 doc_word doc.Roll = codes "ROL"
 doc_word doc.Keys = codes "TECLAS"
+doc_word doc.Report = codes "BOLETIM"
 
 -- how a fault line names a flash
 abbrev pub device_word : Dev → List ℕ
@@ -33,6 +34,7 @@ fault_text (status.RollLine k) = Some (codes "ROL LINHA " ++ decimal k)
 fault_text (status.Line k) = Some (codes "LINHA " ++ decimal k)
 fault_text (status.TooLong d) = Some (codes "TAMANHO " ++ doc_word d)
 fault_text (status.Missing d) = Some (codes "FALTA " ++ doc_word d)
+fault_text (status.ReportRefused v) = None
 fault_text status.Cabinet = None
 fault_text status.InternalFlash = None
 fault_text status.ExternalFlash = None

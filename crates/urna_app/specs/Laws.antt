@@ -5,21 +5,29 @@ use Rattle.election_tables.specs.Roll.{RollData}
 use Rattle.election_tables.specs.TablesData.{TablesData}
 use Rattle.key_script.specs.declared.keys.Event.{Event}
 use Rattle.urna_app.specs.Carga.{IsGivenLoad}
-use Rattle.urna_app.specs.Command.{Carga, Vota}
+use Rattle.section_intake.specs.declared.verdict.Verdict.{Verdict}
+use Rattle.urna_app.specs.Command.{Carga, Confere, Vota}
+use Rattle.urna_app.specs.Confere.{HasVerdict}
 use Rattle.urna_app.specs.Documents.{IsFirstFault}
 use Rattle.urna_app.specs.Vota.{IsGiven, IsRefused}
+use Rattle.urna_app.specs.declared.status.Doc.{Doc}
+use Rattle.urna_app.specs.declared.status.Doc.TheVariants as doc
 use Rattle.urna_app.specs.declared.status.Status.{Status}
 
--- files are refused with one status
+-- files are refused with one status, and there is one verdict on a report
 abbrev pub RefusedOnce : Type 0
 RefusedOnce =
     ((files : Files) (names : Vota) (s t : Status) → IsRefused (Some files) names s → IsRefused (Some files) names t → s ≡ t)
-    × ((files : Files) (tables roll : List ℕ) (s t : Status) → IsFirstFault (Some files) tables roll s → IsFirstFault (Some files) tables roll t → s ≡ t)
+    × ((files : Files) (tables : List ℕ) (d : Doc) (name : List ℕ) (s t : Status) → IsFirstFault (Some files) tables d name s
+    → IsFirstFault (Some files) tables d name t → s ≡ t)
+    × ((files : Files) (names : Confere) (v w : Verdict) → HasVerdict (Some files) names v → HasVerdict (Some files) names w → v ≡ w)
 
--- and then they give neither a session nor a load
+-- and then they give no session, no load and no verdict
 abbrev pub RefusedOrGiven : Type 0
 RefusedOrGiven =
     ((files : Files) (names : Vota) (s : Status) (t : TablesData) (r : RollData) (es : List Event)
     → IsRefused (Some files) names s → IsGiven (Some files) names t r es → ⊥)
     × ((files : Files) (names : Carga) (s : Status) (t : TablesData) (r : RollData)
-    → IsFirstFault (Some files) names.tables names.roll s → IsGivenLoad (Some files) names t r → ⊥)
+    → IsFirstFault (Some files) names.tables doc.Roll names.roll s → IsGivenLoad (Some files) names t r → ⊥)
+    × ((files : Files) (names : Confere) (s : Status) (v : Verdict) → IsFirstFault (Some files) names.tables doc.Report names.report s
+    → HasVerdict (Some files) names v → ⊥)

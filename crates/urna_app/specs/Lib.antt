@@ -1,6 +1,7 @@
 pub mod Carga
 pub mod Codes
 pub mod Command
+pub mod Confere
 pub mod Documents
 pub mod Ending
 pub mod Errors
@@ -9,5 +10,6 @@ pub mod Headline
 pub mod Holding
 pub mod Laws
 pub mod Taking
+pub mod Verdicts
 pub mod Vota
 pub mod Reports

@@ -26,6 +26,7 @@ CountsFor (status.Foreign d) old new = new ≡ old
 CountsFor status.NoImage old new = new ≡ old
 CountsFor (status.Busy d) old new = new ≡ old
 CountsFor status.NoSection old new = new ≡ old
+CountsFor (status.ReportRefused v) old new = new ≡ old
 
 -- the count of calls after so many more
 abbrev pub calls_made : ℕ → Option ℕ → Option ℕ

@@ -35,7 +35,7 @@ pub record IsGiven (files : Option Files) (names : Vota) (t : TablesData) (r : R
 -- A document is at fault, and this status says it: the documents are tried in the order of the words, and the first that is at
 -- fault gives the status.
 pub data IsRefused (files : Option Files) (names : Vota) : Status → Type 0 where
-  documents : {s : Status} → IsFirstFault files names.tables names.roll s → IsRefused files names s
+  documents : {s : Status} → IsFirstFault files names.tables doc.Roll names.roll s → IsRefused files names s
   keys : {t : TablesData} {r : RollData} {s : Status} → HasTables files names.tables t → HasRoll files names.roll r
       → IsFault files names.keys doc.Keys s → IsRefused files names s
 

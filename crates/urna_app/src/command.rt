@@ -1,6 +1,6 @@
 //! The words of a command.
 ghost use Rattle.std.specs.Prelude.{◌≡◌, IfNone, IfSome, List, None, Some, map, string_bytes, ℕ};
-ghost use Rattle.urna_app.specs.Command.{carga_of, named_number, vota_of};
+ghost use Rattle.urna_app.specs.Command.{carga_of, confere_of, named_number, vota_of};
 
 use election_tables::GREATEST_SECTION;
 use urna_base::decimal;
@@ -20,6 +20,13 @@ pub(crate) struct CargaNames<'a> {
     pub roll: &'a str,
     pub zone: u32,
     pub number: u32,
+}
+
+/// The names of the files of `confere`.
+#[derive(Clone, Copy)]
+pub(crate) struct ConfereNames<'a> {
+    pub tables: &'a str,
+    pub report: &'a str,
 }
 
 /// `vota TABLES ROLL KEYS OUT`. The last word is not used.
@@ -60,6 +67,23 @@ pub(crate) fn carga_words(words: &[String]) -> Option<CargaNames<'_>>
         roll: roll.as_str(),
         zone,
         number,
+    })
+}
+
+/// `confere TABLES REPORT`.
+pub(crate) fn confere_words(words: &[String]) -> Option<ConfereNames<'_>>
+    ensures names { IfSome result (λ n. confere_of (map string_bytes words.now) ≡ Some (record { tables = n.tables.now; report = n.report.now })) }
+    ensures none { IfNone result (confere_of (map string_bytes words.now) ≡ None) }
+{
+    let [command, tables, report] = words else {
+        return None;
+    };
+    if command.as_str() != "confere" {
+        return None;
+    }
+    Some(ConfereNames {
+        tables: tables.as_str(),
+        report: report.as_str(),
     })
 }
 

@@ -17,6 +17,8 @@ const ROLL_LIMIT: u32 = 16_384;
 
 const KEYS_LIMIT: u32 = 16_777_216;
 
+const REPORT_LIMIT: u32 = 1_048_576;
+
 /// The most bytes that a document may have.
 fn limit(doc: Doc) -> u32
     ensures { result ≡ limit_of doc }
@@ -25,6 +27,7 @@ fn limit(doc: Doc) -> u32
         Doc::Tables => TABLES_LIMIT,
         Doc::Roll => ROLL_LIMIT,
         Doc::Keys => KEYS_LIMIT,
+        Doc::Report => REPORT_LIMIT,
     }
 }
 
@@ -70,7 +73,7 @@ pub(crate) fn take_documents<C: Cabinet>(
 ) -> Result<(Tables, Roll), Status>
     ensures tables { IfOk result (λ both. HasTables (C.told cabinet.old).files tables.now both.0) }
     ensures roll { IfOk result (λ both. HasRoll (C.told cabinet.old).files roll.now both.1) }
-    ensures fault { IfErr result (λ s. s ≢ Status.Memory → s ≢ Status.Cabinet → IsFirstFault (C.told cabinet.old).files tables.now roll.now s) }
+    ensures fault { IfErr result (λ s. s ≢ Status.Memory → s ≢ Status.Cabinet → IsFirstFault (C.told cabinet.old).files tables.now Doc.Roll roll.now s) }
     ensures taken { HasTaken 2 (status_in result) (C.told cabinet.old) (C.told cabinet.new) }
 {
     let tables = take_tables(alloc, cabinet, tables)?;
@@ -90,4 +93,22 @@ pub(crate) fn take_keys<C: Cabinet>(
     let bytes = take(alloc, cabinet, name, Doc::Keys)?;
     let script = Script::read(bytes)?;
     Ok(script)
+}
+
+/// The tables of a command, and the bytes of a report.
+pub(crate) fn take_report<C: Cabinet>(
+    alloc: Global,
+    cabinet: &mut C,
+    tables: &str,
+    report: &str,
+) -> Result<(Tables, Vec<u8>), Status>
+    ensures tables { IfOk result (λ both. HasTables (C.told cabinet.old).files tables.now both.0) }
+    ensures valid { IfOk result (λ both. IsTables both.0) }
+    ensures report { IfOk result (λ both. IsTaken (C.told cabinet.old).files Doc.Report report.now both.1.items) }
+    ensures fault { IfErr result (λ s. s ≢ Status.Memory → s ≢ Status.Cabinet → IsFirstFault (C.told cabinet.old).files tables.now Doc.Report report.now s) }
+    ensures taken { HasTaken 2 (status_in result) (C.told cabinet.old) (C.told cabinet.new) }
+{
+    let tables = take_tables(alloc, cabinet, tables)?;
+    let bytes = take(alloc, cabinet, report, Doc::Report)?;
+    Ok((tables, bytes))
 }

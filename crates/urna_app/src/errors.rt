@@ -1,6 +1,6 @@
 //! The statuses of errors (`specs/Errors.antt`): a `?` gives them, but for a file that was not taken.
 ghost use Rattle.std.specs.Prelude.{◌≡◌};
-ghost use Rattle.urna_app.specs.Errors.{line_status, load_status, port_status, roll_status, tables_status, take_status};
+ghost use Rattle.urna_app.specs.Errors.{line_status, load_status, memory_status, port_status, roll_status, tables_status, take_status};
 ghost use Rattle.urna_app.specs.Holding.{hold_status};
 
 use crate::status::{Doc, Status};
@@ -9,6 +9,7 @@ use election_tables::{RollError, TablesError};
 use key_script::LineError;
 use state_store::LoadError;
 use station::StartError;
+use urna_base::Memory;
 use urna_outside::{CabinetError, Port};
 
 /// The status of a file that was not taken. It names the document, which the error doesn't.
@@ -20,6 +21,15 @@ pub(crate) fn not_taken(error: CabinetError, doc: Doc) -> Status
         CabinetError::Failed => Status::Cabinet,
         CabinetError::Missing => Status::Missing(doc),
         CabinetError::TooLong => Status::TooLong(doc),
+    }
+}
+
+/// Want of memory in a step that has no other error.
+impl From<Memory> for Status {
+    ghost from_gives = { λ memory status. status ≡ memory_status memory };
+
+    fn from(_memory: Memory) -> Status {
+        Status::Memory
     }
 }
 

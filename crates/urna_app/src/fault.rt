@@ -32,6 +32,7 @@ fn fault_line(status: &Status) -> Option<LineBuffer>
         Status::Line(line) => Some(numbered(b"LINHA ", u64::from(*line))),
         Status::TooLong(doc) => Some(worded(b"TAMANHO ", doc_word(*doc))),
         Status::Missing(doc) => Some(worded(b"FALTA ", doc_word(*doc))),
+        Status::ReportRefused(_) => None,
         Status::Cabinet => None,
         Status::InternalFlash => None,
         Status::ExternalFlash => None,
@@ -51,6 +52,7 @@ fn doc_word(doc: Doc) -> &'static [u8]
         Doc::Tables => b"TABELAS",
         Doc::Roll => b"ROL",
         Doc::Keys => b"TECLAS",
+        Doc::Report => b"BOLETIM",
     }
 }
 

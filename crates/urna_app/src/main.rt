@@ -1,7 +1,7 @@
 //! The program `urna`: its words name a command and its files, and its status says how the command ended.
 //!
 //! `urna` is the call by which the program does its command. What it says of the files, of the text that is shown and of each status stands in
-//! `specs/Ending.antt`, and by command in `specs/Vota.antt` and `specs/Carga.antt` (docs/RULES.md, "The run"; docs/FORMATS.md, "Statuses").
+//! `specs/Ending.antt`, and by command in `specs/Vota.antt`, `specs/Carga.antt` and `specs/Confere.antt` (docs/RULES.md, "The run"; docs/FORMATS.md, "Statuses").
 #![tactic(auto)]
 
 ghost use Rattle.std.specs.Prelude.{map, string_bytes};
@@ -11,6 +11,7 @@ ghost use Rattle.urna_app.specs.Taking.{status_in};
 
 mod carga;
 mod command;
+mod confere;
 mod documents;
 mod errors;
 mod fault;
@@ -22,11 +23,13 @@ mod status;
 mod stops;
 #[cfg(test)]
 mod tests;
+mod verdict;
 mod vota;
 mod words;
 
 use carga::carga;
-use command::{carga_words, vota_words};
+use command::{carga_words, confere_words, vota_words};
+use confere::confere;
 use fault::tell_fault;
 use state_store::DEVICE_SIZE;
 use status::Status;
@@ -42,8 +45,8 @@ const NO_WORDS: u8 = 40;
 /// One command: the words after the program's name, over a machine with two flashes of DEVICE_SIZE bytes and a cabinet.
 ///
 /// `carga TABLES ROLL ZONE SECTION` loads both flashes for a section of the tables. `vota TABLES ROLL KEYS OUT` takes the three files,
-/// recovers the poll that the flashes hold, and runs the session of the keys over it; the word OUT is not used. Where the command was
-/// refused, a line tells why.
+/// recovers the poll that the flashes hold, and runs the session of the keys over it; the word OUT is not used. `confere TABLES REPORT`
+/// tells whether the file of a report is whole and fits the tables. Where the command was refused, a line tells why.
 pub fn urna<M: Machine, C: Cabinet>(
     alloc: Global,
     words: &[String],
@@ -76,6 +79,9 @@ fn run_command<M: Machine, C: Cabinet>(
     }
     if let Some(names) = carga_words(words) {
         return carga(alloc, names, machine, cabinet);
+    }
+    if let Some(names) = confere_words(words) {
+        return confere(alloc, names, machine, cabinet);
     }
     Err(Status::Usage)
 }

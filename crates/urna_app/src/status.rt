@@ -1,6 +1,7 @@
 ghost use Rattle.std.specs.Prelude.{◌≡◌};
 ghost use Rattle.urna_app.specs.Codes.{code_of};
 
+use section_intake::Verdict;
 use urna_outside::Dev;
 
 /// A file that a command takes.
@@ -9,6 +10,7 @@ pub enum Doc {
     Tables,
     Roll,
     Keys,
+    Report,
 }
 
 /// What a command answers (docs/FORMATS.md, "Statuses").
@@ -32,6 +34,8 @@ pub enum Status {
     Line(u32),
     /// The file is longer than its limit.
     TooLong(Doc),
+    /// The verdict on the report is another than that it is accepted.
+    ReportRefused(Verdict),
     /// The file isn't there.
     Missing(Doc),
     /// The cabinet failed.
@@ -67,6 +71,7 @@ impl Status {
             | Status::RollLine(_) => 3,
             Status::Line(_) => 4,
             Status::TooLong(_) => 5,
+            Status::ReportRefused(_) => 7,
             Status::Missing(_) => 12,
             Status::Cabinet => 20,
             Status::InternalFlash => 21,

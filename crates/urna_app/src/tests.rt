@@ -5,6 +5,9 @@ ghost use Rattle.state_store.specs.Store.{AreDevices};
 
 use crate::status::{Doc, Status};
 use crate::{run_program, urna};
+use hash_chain::PartFault;
+use qr_text::FieldFault;
+use section_intake::Verdict;
 use std::process::{Abort, ExitCode};
 use std::str;
 use std::test::Fail;
@@ -106,6 +109,7 @@ pub(crate) struct Given<'a> {
     pub tables: Option<&'a [u8]>,
     pub roll: Option<&'static [u8]>,
     pub keys: Option<&'a [u8]>,
+    pub report: Option<&'a [u8]>,
     pub failing: &'static [u32],
     pub failing_takes: &'static [u32],
 }
@@ -115,6 +119,7 @@ pub(crate) const CARGA: Given = Given {
     tables: Some(TABLES),
     roll: Some(ROLL),
     keys: None,
+    report: None,
     failing: &[],
     failing_takes: &[],
 };
@@ -219,6 +224,7 @@ pub(crate) fn run_failing(
     place(&mut shelf, "t", given.tables)?;
     place(&mut shelf, "r", given.roll)?;
     place(&mut shelf, "k", given.keys)?;
+    place(&mut shelf, "b", given.report)?;
     let mut m = machine(rt, images, failing)?;
     let status = urna(alloc, &words, &mut m, &mut shelf);
     Ok((status, m))
@@ -316,7 +322,7 @@ fn statuses_and_what_is_shown(rt: HostRuntime) -> Result<(), Fail> {
 
 #[test]
 fn words_that_are_no_command(rt: HostRuntime) -> Result<(), Fail> {
-    let rows: [Given; 5] = [
+    let rows: [Given; 7] = [
         Given { words: &[], ..ON },
         Given {
             words: &["vota", "t", "r", "k"],
@@ -324,6 +330,14 @@ fn words_that_are_no_command(rt: HostRuntime) -> Result<(), Fail> {
         },
         Given {
             words: &["carga", "t", "r", "01", "42"],
+            ..ON
+        },
+        Given {
+            words: &["confere", "t"],
+            ..ON
+        },
+        Given {
+            words: &["confere", "t", "b", "b"],
             ..ON
         },
         Given {
@@ -565,6 +579,131 @@ fn a_body_holds_the_marks_and_the_bags(rt: HostRuntime) -> Result<(), Fail> {
         assert!(rt; content.get(1_121..1_131) == Some(BAG));
         assert!(rt; content.get(67_072..67_095) == Some(OPENED));
         assert!(rt; content.get(67_169..67_179) == Some(BAG));
+    }
+    Ok(())
+}
+
+/// The report of a poll of two offices, in which three voters came.
+const REPORT: &[u8] =
+    b"QRBU:1:1 VRQR:U1 ORIG:VOTA PROC:7 DTPL:20261004 TURN:1 ZONA:1 SECA:42 APTO:3 COMP:3 FALT:0 \
+    DTAB:20261004 HRAB:080000 DTFC:20261004 HRFC:170000 \
+    CARG:13 TIPO:1 PART:13 13001:1 LEGP:0 TOTP:1 PART:45 LEGP:1 TOTP:1 APTA:3 NOMI:1 LEGC:1 BRAN:1 NULO:0 TOTC:3 \
+    CARG:11 TIPO:0 13:1 45:1 APTA:3 NOMI:2 BRAN:0 NULO:1 TOTC:3 \
+    HASH:5CEA4D84175045B78DB1BCA0CD7EC51CF887BAB15A69C651FA25BCA56FB707B8\
+    3F87FFD8536B2BC3C78FFF8131F61E4229286351072C944106F0163A1A02EAD5\n";
+
+/// The same with another sum at field 28, and its hash.
+const OTHER_SUM: &[u8] =
+    b"QRBU:1:1 VRQR:U1 ORIG:VOTA PROC:7 DTPL:20261004 TURN:1 ZONA:1 SECA:42 APTO:3 COMP:3 FALT:0 \
+    DTAB:20261004 HRAB:080000 DTFC:20261004 HRFC:170000 \
+    CARG:13 TIPO:1 PART:13 13001:1 LEGP:0 TOTP:1 PART:45 LEGP:1 TOTP:1 APTA:3 NOMI:1 LEGC:1 BRAN:1 NULO:0 TOTC:4 \
+    CARG:11 TIPO:0 13:1 45:1 APTA:3 NOMI:2 BRAN:0 NULO:1 TOTC:3 \
+    HASH:15265157B9D14CFFFA50528427725FCBCDC616E2D0747B8C9D1FBF110587AAA8\
+    0FCC1DEFDF21723DF9B5E77E0B99E4D1C598BA8231E74D6B4CD508B484DDC249\n";
+
+/// The same with a number that no field may have.
+const OTHER_FIELD: &[u8] =
+    b"QRBU:1:1 VRQR:U1 ORIG:VOTA PROC:7 DTPL:20261004 TURN:1 ZONA:1 SECA:42 APTO:3 COMP:3 FALT:0 \
+    DTAB:20261004 HRAB:080000 DTFC:20261004 HRFC:170000 \
+    CARG:13 TIPO:1 PART:13 13001:1 LEGP:0 TOTP:1 PART:45 LEGP:1 TOTP:1 APTA:3 NOMI:1 LEGC:1 BRAN:1 NULO:00 TOTC:3 \
+    CARG:11 TIPO:0 13:1 45:1 APTA:3 NOMI:2 BRAN:0 NULO:1 TOTC:3 \
+    HASH:57E3261CA6D30331FF363B4B49AD462933344970E961631BB064A01335FFB4FA\
+    1B3CD6458461BF28759F78558BB563ECC855B7D3EC1F0A547D8B4848C8D0F254\n";
+
+/// The check of a report by tables of two offices.
+const CONFERE: Given = Given {
+    words: &["confere", "t", "b"],
+    report: Some(REPORT),
+    ..LOAD
+};
+
+#[test]
+fn reports_are_checked(rt: HostRuntime) -> Result<(), Fail> {
+    let long = vec![in rt.alloc(); b'Q'; 1_048_577]?;
+    let sum = FieldFault::Sum {
+        field: 28,
+        sum: 3,
+        said: 4,
+    };
+    let rows: [(Given, Status, u8, &[u8]); 9] = [
+        (CONFERE, Status::Done, 0, b"ACEITO 1 42\n"),
+        (
+            Given {
+                report: Some(OTHER_SUM),
+                ..CONFERE
+            },
+            Status::ReportRefused(Verdict::Fields(sum)),
+            7,
+            b"SOMA 28 3 4\n",
+        ),
+        (
+            Given {
+                report: Some(OTHER_FIELD),
+                ..CONFERE
+            },
+            Status::ReportRefused(Verdict::Fields(FieldFault::Field(27))),
+            7,
+            b"CAMPO 27\n",
+        ),
+        (
+            Given {
+                report: Some(b"QRBU:1:1 VRQR:V2 ORIG:VOTA\n"),
+                ..CONFERE
+            },
+            Status::ReportRefused(Verdict::Part(PartFault::Form(1))),
+            7,
+            b"PARTE FORMA 1\n",
+        ),
+        (
+            Given {
+                tables: Some(TABLES),
+                ..CONFERE
+            },
+            Status::ReportRefused(Verdict::Strange),
+            7,
+            b"ESTRANHO\n",
+        ),
+        (
+            Given {
+                report: None,
+                ..CONFERE
+            },
+            Status::Missing(Doc::Report),
+            12,
+            b"ERRO FALTA BOLETIM\n",
+        ),
+        (
+            Given {
+                report: Some(&long),
+                ..CONFERE
+            },
+            Status::TooLong(Doc::Report),
+            5,
+            b"ERRO TAMANHO BOLETIM\n",
+        ),
+        (
+            Given {
+                failing_takes: &[1],
+                ..CONFERE
+            },
+            Status::Cabinet,
+            20,
+            b"",
+        ),
+        (
+            Given {
+                failing: &[0],
+                ..CONFERE
+            },
+            Status::Display,
+            23,
+            b"ACEITO",
+        ),
+    ];
+    for (given, status, code, shown) in rows {
+        let left = step(&rt, given, blank(&rt)?, status, code, shown)?;
+        assert!(rt; left.internal.iter().all(|byte| *byte == 0));
+        assert!(rt; left.external.iter().all(|byte| *byte == 0));
     }
     Ok(())
 }

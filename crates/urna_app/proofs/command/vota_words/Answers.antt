@@ -2,7 +2,7 @@ use Rattle.std.proofs.Common.{◌≡◌, ℕ, List, get_or, Some, true, string_b
 use Rattle.std.specs.Prelude.{codes}
 use Rattle.std.specs.Str.{bytes_eq}
 use Rattle.urna_app.specs.Command.{Vota}
-use Rattle.urna_app.proofs.FiveWords.{five_words, not_false}
+use Rattle.urna_app.proofs.FewWords.{five_words, not_false}
 use Rattle.urna_app.proofs.command.vota_words.Goals as goal
 
 pub returns-clause-names : goal.returns-clause-names

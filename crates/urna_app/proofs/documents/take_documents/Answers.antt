@@ -1,7 +1,7 @@
 use Rattle.std.proofs.Common.{Option, subst}
 use Rattle.std.proofs.lemmas.Result.{err_from_is_err_and}
 use Rattle.urna_outside.specs.Cabinet.{Files}
-use Rattle.urna_app.specs.Documents.{IsFault, first_roll, first_tables}
+use Rattle.urna_app.specs.Documents.{IsFault, first_other, first_tables}
 use Rattle.urna_app.specs.Taking.{HasTaken}
 use Rattle.urna_app.specs.declared.status.Doc.TheVariants as doc
 use Rattle.urna_app.specs.declared.status.Status.TheVariants as status
@@ -18,7 +18,7 @@ returns-in_err-roll-clause-fault g c =
     let p = err_from_is_err_and c.from_residual-in_err-roll.result c.from_residual-in_err-roll.ensures.1 in
     let s = c.in_err-roll.field-0.0 in
     let first : HasTaken 1 status.Done (g.C.Cabinet.told c.args.cabinet.now) (g.C.Cabinet.told c.take_tables.new.cabinet) = c.in_ok-tables.ensures.taken in
-    rw (p.1, p.2) (λ memory failed. first_roll c.in_ok-tables.ensures.tables
+    rw (p.1, p.2) (λ memory failed. first_other c.in_ok-tables.ensures.tables
     (subst (λ (fs : Option Files). IsFault fs c.args.roll.now doc.Roll s) first.files (c.in_err-roll.ensures.fault memory failed)))
 
 pub returns-in_err-roll-clause-taken : goal.returns-in_err-roll-clause-taken

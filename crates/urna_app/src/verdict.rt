@@ -1,0 +1,111 @@
+//! The line that tells the verdict on a report, and the status that it gives.
+ghost use Rattle.std.specs.Prelude.{◌≡◌, ◌+◌, ◌++◌, ◌≤◌, length};
+ghost use Rattle.std.specs.Fmt.{decimal};
+ghost use Rattle.urna_app.specs.Taking.{status_in};
+ghost use Rattle.urna_app.specs.Verdicts.{field_text, part_text, section_text, verdict_line, verdict_status, verdict_text};
+
+use crate::status::Status;
+use hash_chain::PartFault;
+use qr_text::FieldFault;
+use section_intake::Verdict;
+use urna_base::LineBuffer;
+
+/// The line of a verdict, with its line feed.
+pub(crate) fn verdict_line(verdict: Verdict) -> LineBuffer
+    ensures { result ≡ verdict_line verdict }
+{
+    let mut line = LineBuffer::new();
+    push_verdict(&mut line, verdict);
+    line.push_text(b"\n");
+    line
+}
+
+/// How a command ends by a verdict: a report that is not accepted is refused.
+pub(crate) fn accepted(verdict: Verdict) -> Result<(), Status>
+    ensures { status_in result ≡ verdict_status verdict }
+{
+    match verdict {
+        Verdict::Accepted { .. } => Ok(()),
+        refused => Err(Status::ReportRefused(refused)),
+    }
+}
+
+/// Appends the text of a verdict.
+fn push_verdict(line: &mut LineBuffer, verdict: Verdict)
+    requires { length line.old ≤ 30 }
+    ensures text { line.new ≡ line.old ++ verdict_text verdict }
+    ensures short { length line.new ≤ 127 }
+{
+    match verdict {
+        Verdict::Accepted { zone, section } => push_section(line, b"ACEITO ", zone, section),
+        Verdict::Part(fault) => push_part(line, fault),
+        Verdict::Fields(fault) => push_field(line, fault),
+        Verdict::Strange => line.push_text(b"ESTRANHO"),
+        Verdict::Repeated { zone, section } => push_section(line, b"REPETIDO ", zone, section),
+        Verdict::Conflict { zone, section } => push_section(line, b"CONFLITO ", zone, section),
+    }
+}
+
+/// Appends a word and a section.
+#[tactic(auto, using(urna_base::proofs::DecimalLaws::line_lengths))]
+fn push_section(line: &mut LineBuffer, word: &[u8], zone: u32, section: u32)
+    requires room { length line.old ≤ 30 }
+    requires word { length word.now ≤ 20 }
+    ensures text { line.new ≡ line.old ++ section_text word.now zone section }
+    ensures short { length line.new ≤ 127 }
+{
+    line.push_text(word);
+    line.push_decimal(u64::from(zone));
+    line.push_text(b" ");
+    line.push_decimal(u64::from(section));
+}
+
+/// Appends a word and a number.
+#[tactic(auto, using(urna_base::proofs::DecimalLaws::line_lengths))]
+fn push_numbered(line: &mut LineBuffer, word: &[u8], number: u64)
+    requires room { length line.old ≤ 85 }
+    requires word { length word.now ≤ 20 }
+    ensures text { line.new ≡ line.old ++ (word.now ++ decimal number) }
+    ensures short { length line.new ≤ length line.old + length word.now + 20 }
+{
+    line.push_text(word);
+    line.push_decimal(number);
+}
+
+/// Appends the fault of a part.
+fn push_part(line: &mut LineBuffer, fault: PartFault)
+    requires { length line.old ≤ 30 }
+    ensures text { line.new ≡ line.old ++ part_text fault }
+    ensures short { length line.new ≤ 127 }
+{
+    match fault {
+        PartFault::Form(part) => push_numbered(line, b"PARTE FORMA ", u64::from(part)),
+        PartFault::Version(part) => push_numbered(line, b"PARTE VERSAO ", u64::from(part)),
+        PartFault::Number(part) => push_numbered(line, b"PARTE NUMERO ", u64::from(part)),
+        PartFault::Hash(part) => push_numbered(line, b"PARTE HASH ", u64::from(part)),
+        PartFault::Cut(part) => push_numbered(line, b"PARTE CORTE ", u64::from(part)),
+    }
+}
+
+/// Appends the fault of a field.
+fn push_field(line: &mut LineBuffer, fault: FieldFault)
+    requires { length line.old ≤ 30 }
+    ensures text { line.new ≡ line.old ++ field_text fault }
+    ensures short { length line.new ≤ 127 }
+{
+    match fault {
+        FieldFault::Field(field) => push_numbered(line, b"CAMPO ", u64::from(field)),
+        FieldFault::Sum { field, sum, said } => push_sum(line, field, sum, said),
+    }
+}
+
+/// Appends a sum that is said otherwise.
+fn push_sum(line: &mut LineBuffer, field: u32, sum: u64, said: u64)
+    requires { length line.old ≤ 30 }
+    ensures text { line.new ≡ line.old ++ field_text (FieldFault.Sum field sum said) }
+    ensures short { length line.new ≤ 127 }
+{
+    push_numbered(line, b"SOMA ", u64::from(field));
+    push_numbered(line, b" ", sum);
+    push_numbered(line, b" ", said);
+}
