@@ -1,10 +1,14 @@
-//! The tests of nine parts: what each answers to values from outside, and each of its public calls once on its happy path.
+//! The tests of eleven parts: what each answers to values from outside, and each of its public calls once on its happy path.
 //! They stand in a crate of their own because a crate with tests is proved twice, with them and without them; here nothing
-//! but the tests is. One module has the tests of one crate, and `reports` has those of two.
+//! but the tests is. One module has the tests of one crate, and `reports` and `files` have those of two each.
 #![tactic(auto)]
 
 #[cfg(test)]
+mod changes;
+#[cfg(test)]
 mod codec;
+#[cfg(test)]
+mod files;
 #[cfg(test)]
 mod marks;
 #[cfg(test)]

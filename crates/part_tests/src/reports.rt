@@ -3,46 +3,21 @@ ghost use Rattle.std.specs.Prelude.{◌<◌, ◌^◌, length};
 ghost use Rattle.std.specs.List.{Contains};
 ghost use Rattle.image_codec.specs.Encoding.{IsStateOf};
 
+use crate::changes::{changed, row_count};
 use crate::codec::body_of;
 use election_tables::{Section, Tables};
 use image_codec::{State, decode};
 use poll_report::{Count, OfficeCount, Report};
 use qr_text::{FieldError, FieldFault, read_fields, write_fields};
-use std::alloc::{AllocError, Global};
+use std::alloc::Global;
 use std::test::Fail;
 use turnout::Phase;
 use urna_base::Memory;
 
 mod texts;
 
-use texts::{FAULTS, GOOD, TWO_OFFICES};
-
-/// What a cell of a table stands for.
-fn cell_text(alloc: Global, cell: &str) -> Result<String, AllocError> {
-    let spaced = cell.replace(alloc, "_", " ")?;
-    spaced.as_str().replace(alloc, "¶", "\n")
-}
-
-/// A text with one change, up to the first mark of its end; nothing where the change has no place or more than one.
-fn changed(alloc: Global, good: &str, change: &str) -> Result<Option<String>, AllocError> {
-    let Some((old, new)) = change.split_once(" => ") else {
-        return Ok(None);
-    };
-    let old = cell_text(alloc, old)?;
-    let new = cell_text(alloc, new)?;
-    let marked = format!(in alloc; "{good}@")?;
-    let Some((front, behind)) = marked.as_str().split_once(old.as_str()) else {
-        return Ok(None);
-    };
-    if behind.contains(old.as_str()) {
-        return Ok(None);
-    }
-    let text = format!(in alloc; "{front}{new}{behind}")?;
-    match text.as_str().split_once("@") {
-        Some((text, _)) => Ok(Some(String::from_str(alloc, text)?)),
-        None => Ok(None),
-    }
-}
+pub(crate) use texts::TWO_OFFICES;
+use texts::{FAULTS, GOOD};
 
 /// The fault of a text as a row says it; nothing where it has none.
 fn fault_of(alloc: Global, text: &str) -> Result<Option<String>, Memory>
@@ -72,10 +47,6 @@ fn has_fault(alloc: Global, good: &str, change: &str, fault: &str) -> Result<boo
         Some(found) => Ok(found.as_str() == fault),
         None => Ok(false),
     }
-}
-
-fn row_count(table: &str) -> usize {
-    table.lines().filter(|row| row.contains(" | ")).count()
 }
 
 /// The first row of a table whose fault is another.
@@ -185,7 +156,7 @@ fn a_text_gives_the_numbers_of_its_report(rt: HostRuntime) -> Result<(), Fail> {
     Ok(())
 }
 
-const TABLES: &[u8] = br#"
+pub(crate) const TABLES: &[u8] = br#"
 processo = 7
 data = 20261004
 turno = 1

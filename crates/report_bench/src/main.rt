@@ -1,16 +1,23 @@
-//! Reads, writes or hashes the field text of a report some times, for `make bench`.
+//! Reads, writes or hashes the field text or the file of a report some times, for `make bench`.
 //!
-//! The words are WORK FILE TIMES. `le` reads the text of the file TIMES times, `escreve` reads it once and writes its report
-//! TIMES times, and `hash` takes the SHA-512 of its bytes TIMES times. It prints a sum over what was made each time.
+//! The words are WORK FILE TIMES, or `confere` FILE TABLES TIMES. `le` reads the text of the file TIMES times, `escreve` reads it once
+//! and writes its report TIMES times, and `hash` takes the SHA-512 of its bytes TIMES times. `junta` joins the parts of the file TIMES
+//! times, `parte` joins them once and makes them TIMES times, and `confere` checks the file by the tables TIMES times. It prints a sum
+//! over what was made each time.
 //!
 //! Its status is 0 where each time went well, 1 where one did not, and 3 where the words are others.
 #![tactic(auto)]
 
 ghost use Rattle.std.specs.Prelude.{◌≡◌, ◌<◌, ◌^◌, Some, codes, length};
+ghost use Rattle.hash_chain.specs.Cut.{pieces};
+ghost use Rattle.hash_chain.specs.Fault.{AreFields};
 ghost use Rattle.poll_report.specs.Report.{IsReport};
 
+use election_tables::Tables;
+use hash_chain::{join_parts, make_parts};
 use poll_report::Report;
 use qr_text::{read_fields, write_fields};
+use section_intake::{Verdict, check};
 use sha2::{Digest, Sha512};
 use std::alloc::Global;
 use std::process::ExitCode;
@@ -20,12 +27,14 @@ use urna_base::decimal;
 /// The longest text that is read.
 const LONGEST_TEXT: usize = 16_777_216;
 
-/// What is done with the text.
+/// What is done with the text, or with the parts of a file.
 #[derive(Clone, Copy, Debug, PartialEq, Eq)]
 enum Work {
     Read,
     Write,
     Hash,
+    Join,
+    Make,
 }
 
 /// The work that a word names.
@@ -33,11 +42,15 @@ fn work_of(word: &str) -> Option<Work>
     ensures read { result ≡ Some Work.Read → word.now ≡ codes "le" }
     ensures write { result ≡ Some Work.Write → word.now ≡ codes "escreve" }
     ensures hash { result ≡ Some Work.Hash → word.now ≡ codes "hash" }
+    ensures join { result ≡ Some Work.Join → word.now ≡ codes "junta" }
+    ensures make { result ≡ Some Work.Make → word.now ≡ codes "parte" }
 {
     match word {
         "le" => Some(Work::Read),
         "escreve" => Some(Work::Write),
         "hash" => Some(Work::Hash),
+        "junta" => Some(Work::Join),
+        "parte" => Some(Work::Make),
         _ => None,
     }
 }
@@ -75,6 +88,45 @@ fn hash_all(bytes: &[u8], times: u64) -> u64 {
     sum
 }
 
+/// The bytes of all times, if each time gave a text.
+fn join_all(alloc: Global, bytes: &[u8], times: u64) -> Option<u64>
+    requires { length bytes.now < 2 ^ 31 }
+{
+    let mut sum = 0u64;
+    for _ in 0..times {
+        let text = join_parts(alloc, bytes).ok()?;
+        sum = sum.wrapping_add(text.len() as u64);
+    }
+    Some(sum)
+}
+
+/// The bytes of all times, if each time gave a file.
+fn make_all(alloc: Global, text: &[u8], times: u64) -> Option<u64>
+    requires { AreFields (pieces text.now) }
+{
+    let mut sum = 0u64;
+    for _ in 0..times {
+        let file = make_parts(alloc, text).ok()?;
+        sum = sum.wrapping_add(file.len() as u64);
+    }
+    Some(sum)
+}
+
+/// How often a file was accepted, if it was each time.
+fn check_all(alloc: Global, tables: &Tables, bytes: &[u8], times: u64) -> Option<u64> {
+    if bytes.len() > LONGEST_TEXT {
+        return None;
+    }
+    let mut sum = 0u64;
+    for _ in 0..times {
+        let Ok(Verdict::Accepted { .. }) = check(alloc, tables, bytes) else {
+            return None;
+        };
+        sum = sum.wrapping_add(1);
+    }
+    Some(sum)
+}
+
 /// The sum of a work, if each time went well.
 fn sum_of(alloc: Global, work: Work, bytes: &[u8], times: u64) -> Option<u64> {
     if bytes.len() > LONGEST_TEXT {
@@ -89,24 +141,60 @@ fn sum_of(alloc: Global, work: Work, bytes: &[u8], times: u64) -> Option<u64> {
             write_all(alloc, &report, times)
         }
         Work::Hash => Some(hash_all(bytes, times)),
+        Work::Join => join_all(alloc, bytes, times),
+        Work::Make => {
+            let Ok(text) = join_parts(alloc, bytes) else {
+                return None;
+            };
+            make_all(alloc, &text, times)
+        }
     }
 }
 
-fn status(rt: &HostRuntime) -> io::Result<u8> {
-    let mut words = env::args(rt)?.skip(1);
-    let (Some(work), Some(name), Some(times)) = (words.next(), words.next(), words.next()) else {
-        return Ok(3);
-    };
-    let (Some(work), Some(times)) = (work_of(work.as_str()), decimal(times.as_bytes())) else {
-        return Ok(3);
-    };
-    let bytes = fs::read(rt, name.as_str())?;
-    match sum_of(rt.alloc(), work, &bytes, times) {
+/// Prints the sum of a work, and answers the status that tells whether each time went well.
+fn told(rt: &HostRuntime, sum: Option<u64>) -> io::Result<u8> {
+    match sum {
         Some(sum) => {
             println!(rt; "SUM {}", sum)?;
             Ok(0)
         }
         None => Ok(1),
+    }
+}
+
+/// The file of this name is checked by the tables of the other one.
+fn check_status(rt: &HostRuntime, name: &str, tables: &str, times: &str) -> io::Result<u8> {
+    let Some(times) = decimal(times.as_bytes()) else {
+        return Ok(3);
+    };
+    let bytes = fs::read(rt, name)?;
+    let tables = fs::read(rt, tables)?;
+    match Tables::read(rt.alloc(), &tables) {
+        Ok(tables) => told(rt, check_all(rt.alloc(), &tables, &bytes, times)),
+        Err(_) => Ok(1),
+    }
+}
+
+/// The work of this name is done with the file.
+fn work_status(rt: &HostRuntime, work: &str, name: &str, times: &str) -> io::Result<u8> {
+    let (Some(work), Some(times)) = (work_of(work), decimal(times.as_bytes())) else {
+        return Ok(3);
+    };
+    let bytes = fs::read(rt, name)?;
+    told(rt, sum_of(rt.alloc(), work, &bytes, times))
+}
+
+fn status(rt: &HostRuntime) -> io::Result<u8> {
+    let mut words = env::args(rt)?.skip(1);
+    let (Some(work), Some(name), Some(third)) = (words.next(), words.next(), words.next()) else {
+        return Ok(3);
+    };
+    match words.next() {
+        Some(times) if work.as_str() == "confere" => {
+            check_status(rt, name.as_str(), third.as_str(), times.as_str())
+        }
+        Some(_) => Ok(3),
+        None => work_status(rt, work.as_str(), name.as_str(), third.as_str()),
     }
 }
 
