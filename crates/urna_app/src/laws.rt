@@ -1,7 +1,7 @@
 //! Laws of endings (`specs/Laws.antt`), of reports (`specs/Reports.antt`), and the headline (`specs/Headline.antt`).
 ghost use Rattle.urna_app.specs.Headline.{AllAreCounted, DayKeepsVotes, KeysHaveRun, LoadBeginsDay, VotesAreKept};
 ghost use Rattle.urna_app.specs.Laws.{RefusedOnce, RefusedOrGiven};
-ghost use Rattle.urna_app.specs.Reports.{SealedHasReport, SealedHasText};
+ghost use Rattle.urna_app.specs.Reports.{SealedHasReport, SealedHasText, SealedIsAccepted};
 
 /// Where the cabinet tells its files, the words and the files determine whether they are refused, and with which status.
 pub fn one_ending()
@@ -21,8 +21,9 @@ pub fn votes_are_kept()
     ensures run { KeysHaveRun }
 {}
 
-/// Each sealed poll of a section of the tables has a report, and the report a text that spells it.
+/// Each sealed poll of a section of the tables has a report, the report a text that spells it, and the text a file that is accepted.
 pub fn reports()
     ensures report { SealedHasReport }
     ensures text { SealedHasText }
+    ensures accepted { SealedIsAccepted }
 {}
