@@ -24,7 +24,7 @@ use Rattle.image_codec.specs.Encoding.{IsEncoding, encode}
 use Rattle.image_codec.specs.State.{State, rank_of}
 use Rattle.image_codec.proofs.Decoding.{decoded_back}
 use Rattle.image_codec.specs.Layout.{body_size}
-use Rattle.state_store.specs.Calls.{FailsToRecover, IsRecovery, IsSynced, KeepFrames, Recovers, both_synced}
+use Rattle.state_store.specs.Calls.{AreFound, FailsToPeek, FailsToRecover, IsRecovery, IsSynced, KeepFrames, Recovers, both_synced}
 use Rattle.state_store.specs.Finding.{EndsFinding}
 use Rattle.state_store.specs.Held.{AreLoaded, HeldByBoth, HeldByNone, IsForeign, bodies_of_both}
 use Rattle.state_store.specs.Load.{IsSectionOf, load_of}
@@ -69,6 +69,14 @@ fails_finding t r a b c store.NoImage synced done ends = (
   ),
 )
 
+-- the same of a look at the flashes
+pub fails_peeking : (t : TablesData) (r : RollData) (a b c : Told) (error : StoreError) → IsSynced a b → Does [] b c → EndsFinding t r b c error → FailsToPeek t r a c error
+fails_peeking t r a b c store.Memory synced done ends = absurd ends
+fails_peeking t r a b c (store.Flash d) synced done ends =
+    (ends_later (port_of d) a b c synced.fine ends, (both_synced, does-append both_synced [] a b c synced.does done, inr refl))
+fails_peeking t r a b c (store.Foreign d) synced done ends = fails_finding t r a b c (store.Foreign d) synced done ends
+fails_peeking t r a b c store.NoImage synced done ends = fails_finding t r a b c store.NoImage synced done ends
+
 -- bytes with a rank are a state
 pub ranked_state : (t : TablesData) (voters : ℕ) (body : List ℕ) → IsSome (rank_in t voters body) → (s : State) × (decoded t voters body ≡ Some s)
 ranked_state t voters body ranked = go (decoded t voters body) refl ranked
@@ -87,6 +95,14 @@ module _ (t : TablesData) (r : RollData) (section : Section) (tables : IsTables 
       → HeldByBoth t (length r.titles) internal external s
   held_state internal external is =
       found_held t (length r.titles) tables few (bodies_of_both internal external) _ (both_ranked t (length r.titles) internal external) body s is known
+
+  -- what is found behind the syncs was there before them
+  pub found_before : (a b : Told) → Does both_synced a b → ForSome b.flashes (λ fs. AreLoaded t r section fs.internal.content fs.external.content)
+      → ForSome b.flashes (HoldsBody (rank_in t (length r.titles)) body_size body) → ForSome a.flashes (AreFound t r section s)
+  found_before a b synced loaded held start told =
+      let mid = after both_synced start in
+      let told_b = told_after both_synced a b start synced told in
+      record { loaded = loaded mid told_b; held = held_state mid.internal.content mid.external.content (held mid told_b) }
 
   module _ (a b c d : Told) (synced : Does both_synced a b) (done : Does [] b c)
       (loaded : ForSome b.flashes (λ fs. AreLoaded t r section fs.internal.content fs.external.content))

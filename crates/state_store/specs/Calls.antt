@@ -101,6 +101,17 @@ FailsToRecover t r old new store.NoImage =
     × ForSome old.flashes (λ flashes. AreLoaded t r section flashes.internal.content flashes.external.content
     × HeldByNone t (length r.titles) flashes.internal.content flashes.external.content))
 
+-- of the two opening syncs none, the first or both were done, and nothing else
+abbrev pub IsFrontOfSyncs : List Op → Type 0
+IsFrontOfSyncs ops = IsWithinSyncs ops ⊎ (ops ≡ both_synced)
+
+-- what there is where a look at the flashes fails: as where a recovery does, and nothing is written
+abbrev pub FailsToPeek : TablesData → RollData → Told → Told → StoreError → Type 0
+FailsToPeek t r old new store.Memory = IsUntouched old new
+FailsToPeek t r old new (store.Flash d) = EndsAt (port_of d) old new × Runs IsFrontOfSyncs old new
+FailsToPeek t r old new (store.Foreign d) = FailsToRecover t r old new (store.Foreign d)
+FailsToPeek t r old new store.NoImage = FailsToRecover t r old new store.NoImage
+
 -- the device is in use, and it is the first that is
 abbrev pub IsBusy : Dev → Flashes → Type 0
 IsBusy Internal flashes = IsInUse flashes.internal.content

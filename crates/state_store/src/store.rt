@@ -8,7 +8,7 @@ ghost use Rattle.gate_slot.specs.Front.{RunsUpTo};
 ghost use Rattle.image_codec.specs.Encoding.{IsEncoding, IsStateOf, encode};
 ghost use Rattle.image_codec.specs.State.{State};
 ghost use Rattle.image_codec.specs.Valid.{ready_state};
-ghost use Rattle.state_store.specs.Calls.{Commits, FailsToLoad, FailsToRecover, IsRecovery, Loads, Recovers, both_synced};
+ghost use Rattle.state_store.specs.Calls.{AreFound, Commits, FailsToLoad, FailsToPeek, FailsToRecover, IsRecovery, IsSynced, Loads, Recovers, both_synced};
 ghost use Rattle.state_store.specs.Load.{IsSectionOf, load_of};
 ghost use Rattle.state_store.specs.Order.{IsCommit, IsLoad};
 ghost use Rattle.state_store.specs.Rest.{AreAtRest};
@@ -164,6 +164,41 @@ impl Store {
         prove!(loaded);
         let load = Load::of(tables, roll, section);
         Ok((Store { load, level, next }, state))
+    }
+
+    /// The section whose poll the flashes hold, and its state: the held state of both. It takes its memory, syncs both devices, looks
+    /// at the frames and the slots, and writes nothing: slots that don't stand are left as they are.
+    ///
+    /// The caller owes that both devices have the size of a flash. The errors come as those of `recover`.
+    pub fn peek<M: Machine>(
+        alloc: Global,
+        tables: &Tables,
+        roll: &Roll,
+        m: &mut M,
+    ) -> Result<(Section, State), StoreError>
+        requires devices { AreDevices (M.told m.old).sizes }
+        ensures section { IfOk result (λ found. IsSectionOf tables.now roll.now found.0) }
+        ensures state { IfOk result (λ found. IsStateOf tables.now found.0.voters found.1) }
+        ensures found { IfOk result (λ found. ForSome (M.told m.old).flashes (AreFound tables.now roll.now found.0 found.1)) }
+        ensures synced { OnOk result (IsSynced (M.told m.old) (M.told m.new)) }
+        ensures fails { IfErr result (FailsToPeek tables.now roll.now (M.told m.old) (M.told m.new)) }
+    {
+        let Ok(room) = Room::new(alloc, tables, roll.len()) else {
+            return Err(StoreError::Memory);
+        };
+        if let Err(dev) = sync_both(m) {
+            return Err(StoreError::Flash(dev));
+        }
+        let Room {
+            twin,
+            mut state,
+            ..
+        } = room;
+        let (section, found) = find(tables, roll, twin, m)?;
+        // it has a rank, so it is the encoding of a state
+        let loaded = state.load(tables, found.body());
+        prove!(loaded);
+        Ok((section, state))
     }
 
     /// Brings both flashes to a state of greater rank. At each stop both flashes, and each alone, hold the old state or the
