@@ -4,6 +4,7 @@ mod file_machine;
 mod flash_file;
 mod flash_files;
 mod folder_cabinet;
+mod new_file;
 
 pub use file_lock::FileLock;
 pub use file_machine::FileMachine;

@@ -1,6 +1,7 @@
 //! A flash device as a file of the working folder.
 use crate::Dev;
 use crate::files::file_lock::{FileLock, above_streams, check_name, lock_named};
+use crate::files::new_file::{create, fill, sync_folder};
 use std::fs::{OpenFile, OpenOptions};
 use std::io::{ErrorKind, Read, Seek, SeekFrom, Write};
 use std::rt::Files;
@@ -28,47 +29,11 @@ fn unfinished_name(dev: Dev) -> &'static str {
     }
 }
 
-/// Removes what a run that was cut off has left under the other name. A link is removed, and not what it leads to; a file
-/// only where it isn't the one that another run makes, which has it locked.
-fn remove_leftover<R: Files>(rt: &R, name: &str) -> io::Result<()>
-where
-    R::File: FileLock,
-{
-    if fs::symlink_metadata(rt, name)?.is_file() {
-        let leftover = fs::open(rt, name)?;
-        lock_named(rt, &leftover, name)?;
-        // Before the lock is given back.
-        fs::remove_file(rt, name)
-    } else {
-        fs::remove_file(rt, name)
-    }
-}
-
-/// A new file under the other name, which is this run's alone.
-fn create<R: Files>(rt: &R, name: &str) -> io::Result<R::File>
-where
-    R::File: FileLock,
-{
-    let mut how = OpenOptions::new();
-    how.read(true).write(true).create_new(true);
-    let created = match how.open(rt, name) {
-        Err(error) if error.kind() == ErrorKind::AlreadyExists => {
-            remove_leftover(rt, name)?;
-            how.open(rt, name)?
-        }
-        created => created?,
-    };
-    lock_named(rt, &created, name)?;
-    Ok(created)
-}
-
 /// Fills a new file with zeros and gives it the flash's name. The zeros are written, since a file that was only made
 /// long would show a full disk later. A name can't be given where something has it: a file that came meanwhile stays,
 /// and so does a link that leads nowhere.
 fn fill_and_name<R: Files>(rt: &R, created: R::File, dev: Dev, size: u32) -> io::Result<R::File> {
-    let mut file = above_streams(created)?;
-    io::copy(&mut io::repeat(0).take(u64::from(size)), &mut file)?;
-    file.sync_all()?;
+    let file = fill(created, &mut io::repeat(0).take(u64::from(size)))?;
     fs::hard_link(rt, unfinished_name(dev), file_name(dev))?;
     // Where a link stood under the other name, a second run may have removed this file in its place.
     check_name(rt, &file, file_name(dev))?;
@@ -142,7 +107,7 @@ impl<F: Read + Write + Seek + OpenFile + FileLock + Drop> FlashFile<F> {
     pub(crate) fn sync<R: Files<File = F>>(&mut self, rt: &R) -> io::Result<()> {
         self.file.sync_data()?;
         if !self.is_listed {
-            fs::open(rt, ".")?.sync_all()?;
+            sync_folder(rt, ".")?;
             self.is_listed = true;
         }
         Ok(())
