@@ -1,8 +1,16 @@
--- Worked rows of what bags are
-use Rattle.std.proofs.Common.{◌≡◌, true, false, [], ◌∷◌, refl}
+-- Worked rows of what bags are, and of a record's text
+use Rattle.std.proofs.Common.{◌≡◌, ℕ, true, false, List, [], ◌∷◌, ◌++◌, codes, refl}
+use Rattle.std.specs.List.{flat_map}
+use Rattle.std.specs.Fmt.{digits}
+use Rattle.urna_base.specs.Digits.{padded}
+use Rattle.election_tables.specs.TablesData.{TablesData}
+use Rattle.election_tables.specs.declared.office.Kind.TheVariants as kind
+use Rattle.election_tables.specs.declared.tables.panels.Panel.{Panel}
+use Rattle.election_tables.specs.declared.tables.sections.Section.{Section}
 use Rattle.vote_kinds.specs.declared.choice.Choice.TheVariants as choice
 use Rattle.vote_kinds.specs.Choice.{choice_le}
 use Rattle.vote_record.specs.Bag.{count_of, with_choice, with_vote}
+use Rattle.vote_record.specs.RecordText.{election_words, heading, panel_text, record_text, section_words}
 
 -- nominal rising, party rising, blank, null
 numbers_rise : choice_le (choice.Nominal 13001) (choice.Nominal 45001) ≡ true
@@ -20,3 +28,38 @@ twice = refl
 
 second_panel : with_vote 1 choice.Null ((choice.Blank ∷ []) ∷ (choice.Blank ∷ []) ∷ []) ≡ (choice.Blank ∷ []) ∷ (choice.Blank ∷ choice.Null ∷ []) ∷ []
 second_panel = refl
+
+-- ---- the text
+
+abbrev councillors : Panel
+councillors = record { office = record { code = 13; digits = 5; kind = kind.Proportional; seats = 5 }; candidates = [] }
+
+abbrev mayor : Panel
+mayor = record { office = record { code = 11; digits = 2; kind = kind.Absolute; seats = 1 }; candidates = [] }
+
+abbrev tables_of : List Panel → TablesData
+tables_of panels = record { process = 7; date = 20261004; turn = 1; panels = panels; parties = []; sections = []; digest = [] }
+
+abbrev section_of : ℕ → Section
+section_of voters = record { zone = 1; number = 42; voters = voters }
+
+abbrev text : List (List ℕ) → List ℕ
+text lines = flat_map (λ line. line ++ 10 ∷ []) lines
+
+one_vote : record_text (tables_of (mayor ∷ [])) (section_of 1) ((choice.Nominal 13 ∷ []) ∷ [])
+    ≡ text (codes "RDV U1" ∷ codes "PROC 7 DTPL 20261004 TURN 1 ZONA 1 SECA 42" ∷ codes "CARG 11 1" ∷ codes "N 13" ∷ codes "FIM" ∷ [])
+unfolding record_text heading election_words section_words panel_text digits padded
+one_vote = refl
+
+two_panels : record_text (tables_of (councillors ∷ mayor ∷ [])) (section_of 3)
+    ((choice.Nominal 13001 ∷ choice.Party 45 ∷ choice.Blank ∷ []) ∷ (choice.Nominal 13 ∷ choice.Nominal 45 ∷ choice.Null ∷ []) ∷ [])
+    ≡ text (codes "RDV U1" ∷ codes "PROC 7 DTPL 20261004 TURN 1 ZONA 1 SECA 42"
+    ∷ codes "CARG 13 3" ∷ codes "N 13001" ∷ codes "L 45" ∷ codes "B"
+    ∷ codes "CARG 11 3" ∷ codes "N 13" ∷ codes "N 45" ∷ codes "X" ∷ codes "FIM" ∷ [])
+unfolding record_text heading election_words section_words panel_text digits padded
+two_panels = refl
+
+nobody_voted : record_text (tables_of (mayor ∷ [])) (section_of 1) ([] ∷ [])
+    ≡ text (codes "RDV U1" ∷ codes "PROC 7 DTPL 20261004 TURN 1 ZONA 1 SECA 42" ∷ codes "CARG 11 0" ∷ codes "FIM" ∷ [])
+unfolding record_text heading election_words section_words panel_text digits padded
+nobody_voted = refl

@@ -1,4 +1,5 @@
 pub mod Bag
 pub mod BagData
 pub mod RdvData
+pub mod RecordText
 pub mod Laws
