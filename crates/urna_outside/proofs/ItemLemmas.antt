@@ -1,98 +1,125 @@
--- Files of a shelf: the first of a name, one in the stead of another, and one at the end.
-use Rattle.std.proofs.Common.{◌≡◌, ◌≢◌, ℕ, zero, suc, ◌<◌, Bool, true, false, if◌then◌else◌, Option, Some, None, List, [], ◌∷◌, ◌++◌, length, get_or, set, string_bytes, refl, sym, ap, ◌∙◌, arith}
+-- Files of a shelf: the first of a name, one in the stead of another, and one before all others.
+use Rattle.std.proofs.Common.{◌≡◌, ◌≢◌, ℕ, zero, suc, ◌+◌, ◌-◌, ◌<◌, ◌≤◌, true, false, if◌then◌else◌, Some, List, [], ◌∷◌, ◌++◌, All, length, get_or, set, take, drop, refl, sym, ap, ◌∙◌, arith, append_assoc, append-nil, length-append, length-drop}
+use Rattle.std.specs.List.{slice_range}
 use Rattle.std.specs.Str.{bytes_eq}
 use Rattle.std.proofs.lemmas.Bool.{false_from_ne_true}
+use Rattle.std.proofs.lemmas.List.{drop-append-le, take-append-le}
+use Rattle.std.proofs.lemmas.List.Elements.{All-head, All-tail}
 use Rattle.std.proofs.lemmas.Slice.Eq.{bytes_eq-Decides}
+use Rattle.std.proofs.Math.Seq.{drop-append_seam, take-append_seam}
 use Rattle.urna_outside.specs.Cabinet.{Holds, IsPut, Lacks, file_at}
-use Rattle.urna_outside.specs.Items.{files_of, is_named, IsFirstNamed}
-use Rattle.urna_outside.specs.declared.memory.items.Item.{Item}
+use Rattle.urna_outside.specs.Item.{end_in_row, entry_of, files_of, is_named, IsFirstNamed}
+use Rattle.urna_outside.specs.declared.memory.item.Item.{Item}
+use Rattle.urna_outside.specs.declared.memory.item.Item.TheVariants.{Placed, Put}
 
 -- where no item has the name there is no file of it
-pub lacks_unnamed : (name : List ℕ) (items : List Item) → ((k : ℕ) (d : Item) → k < length items → is_named name (get_or items k d) ≡ false) → Lacks name (files_of items)
-lacks_unnamed name [] none = refl
-lacks_unnamed name (x ∷ xs) none =
-    ap (λ t. if t then Some (x.bytes.items) else file_at name (files_of xs)) (none zero x (omega arith))
-    ∙ lacks_unnamed name xs (λ k d below. none (suc k) d (omega (arith, below)))
+pub lacks_unnamed : (row name : List ℕ) (items : List Item) → ((k : ℕ) (d : Item) → k < length items → is_named row name (get_or items k d) ≡ false) → Lacks name (files_of row items)
+lacks_unnamed row name [] none = refl
+lacks_unnamed row name (x ∷ xs) none =
+    ap (λ t. if t then Some (entry_of row x).bytes else file_at name (files_of row xs)) (none zero x (omega arith))
+    ∙ lacks_unnamed row name xs (λ k d below. none (suc k) d (omega (arith, below)))
 
 -- the first item of a name is the name's file
-there : (name : List ℕ) (items : List Item) (at : ℕ) (item : Item) → at < length items → get_or items at item ≡ item → is_named name item ≡ true
-    → ((k : ℕ) → k < at → is_named name (get_or items k item) ≡ false) → Holds name (item.bytes.items) (files_of items)
-there name [] at item within is named before = absurd (omega (arith, within))
-there name (x ∷ xs) zero item within is named before =
-    ap (λ (y : Item). if is_named name y then Some (y.bytes.items) else file_at name (files_of xs)) is
-    ∙ ap (λ t. if t then Some (item.bytes.items) else file_at name (files_of xs)) named
-there name (x ∷ xs) (suc at) item within is named before =
-    ap (λ t. if t then Some (x.bytes.items) else file_at name (files_of xs)) (before zero (omega arith))
-    ∙ there name xs at item (omega (arith, within)) is named (λ k below. before (suc k) (omega (arith, below)))
+there : (row name : List ℕ) (items : List Item) (at : ℕ) (item : Item) → at < length items → get_or items at item ≡ item → is_named row name item ≡ true
+    → ((k : ℕ) → k < at → is_named row name (get_or items k item) ≡ false) → Holds name (entry_of row item).bytes (files_of row items)
+there row name [] at item within is named before = absurd (omega (arith, within))
+there row name (x ∷ xs) zero item within is named before =
+    ap (λ (y : Item). if is_named row name y then Some (entry_of row y).bytes else file_at name (files_of row xs)) is
+    ∙ ap (λ t. if t then Some (entry_of row item).bytes else file_at name (files_of row xs)) named
+there row name (x ∷ xs) (suc at) item within is named before =
+    ap (λ t. if t then Some (entry_of row x).bytes else file_at name (files_of row xs)) (before zero (omega arith))
+    ∙ there row name xs at item (omega (arith, within)) is named (λ k below. before (suc k) (omega (arith, below)))
 
-pub holds_first : (name : List ℕ) (items : List Item) (at : ℕ) (item : Item) → IsFirstNamed name items at → item ≡ get_or items at item → Holds name (item.bytes.items) (files_of items)
-holds_first name items at item first is =
-    there name items at item first.within (sym is) (ap (is_named name) is ∙ first.named item) (λ k below. first.before k item below)
+pub holds_first : (row name : List ℕ) (items : List Item) (at : ℕ) (item : Item) → IsFirstNamed row name items at → item ≡ get_or items at item → Holds name (entry_of row item).bytes (files_of row items)
+holds_first row name items at item first is =
+    there row name items at item first.within (sym is) (ap (is_named row name) is ∙ first.named item) (λ k below. first.before k item below)
 
 -- an item in the stead of another
-there_set : (name : List ℕ) (items : List Item) (at : ℕ) (new : Item) → at < length items → ((k : ℕ) → k < at → is_named name (get_or items k new) ≡ false) → is_named name new ≡ true
-    → Holds name (new.bytes.items) (files_of (set items at new))
-there_set name [] at new within before named = absurd (omega (arith, within))
-there_set name (x ∷ xs) zero new within before named =
-    ap (λ t. if t then Some (new.bytes.items) else file_at name (files_of xs)) named
-there_set name (x ∷ xs) (suc at) new within before named =
-    ap (λ t. if t then Some (x.bytes.items) else file_at name (files_of (set xs at new))) (before zero (omega arith))
-    ∙ there_set name xs at new (omega (arith, within)) (λ k below. before (suc k) (omega (arith, below))) named
+there_set : (row name : List ℕ) (items : List Item) (at : ℕ) (new : Item) → at < length items → ((k : ℕ) → k < at → is_named row name (get_or items k new) ≡ false) → is_named row name new ≡ true
+    → Holds name (entry_of row new).bytes (files_of row (set items at new))
+there_set row name [] at new within before named = absurd (omega (arith, within))
+there_set row name (x ∷ xs) zero new within before named =
+    ap (λ t. if t then Some (entry_of row new).bytes else file_at name (files_of row xs)) named
+there_set row name (x ∷ xs) (suc at) new within before named =
+    ap (λ t. if t then Some (entry_of row x).bytes else file_at name (files_of row (set xs at new))) (before zero (omega arith))
+    ∙ there_set row name xs at new (omega (arith, within)) (λ k below. before (suc k) (omega (arith, below))) named
 
-others_set : (other : List ℕ) (items : List Item) (at : ℕ) (new d : Item) → is_named other new ≡ false → is_named other (get_or items at d) ≡ false
-    → file_at other (files_of (set items at new)) ≡ file_at other (files_of items)
-others_set other [] at new d unnamed was = refl
-others_set other (x ∷ xs) zero new d unnamed was =
-    ap (λ t. if t then Some (new.bytes.items) else file_at other (files_of xs)) unnamed
-    ∙ sym (ap (λ t. if t then Some (x.bytes.items) else file_at other (files_of xs)) was)
-others_set other (x ∷ xs) (suc at) new d unnamed was =
-    ap (λ r. if is_named other x then Some (x.bytes.items) else r) (others_set other xs at new d unnamed was)
+others_set : (row other : List ℕ) (items : List Item) (at : ℕ) (new d : Item) → is_named row other new ≡ false → is_named row other (get_or items at d) ≡ false
+    → file_at other (files_of row (set items at new)) ≡ file_at other (files_of row items)
+others_set row other [] at new d unnamed was = refl
+others_set row other (x ∷ xs) zero new d unnamed was =
+    ap (λ t. if t then Some (entry_of row new).bytes else file_at other (files_of row xs)) unnamed
+    ∙ sym (ap (λ t. if t then Some (entry_of row x).bytes else file_at other (files_of row xs)) was)
+others_set row other (x ∷ xs) (suc at) new d unnamed was =
+    ap (λ r. if is_named row other x then Some (entry_of row x).bytes else r) (others_set row other xs at new d unnamed was)
 
--- an item that has one name has no other
-named_once : (name other : List ℕ) (item : Item) → other ≢ name → is_named name item ≡ true → is_named other item ≡ false
-named_once name other item differ named =
-    let own : string_bytes item.name ≡ name = (bytes_eq-Decides (string_bytes item.name) name).0 named in
-    false_from_ne_true (is_named other item) (λ same. differ (sym ((bytes_eq-Decides (string_bytes item.name) other).0 same) ∙ own))
+-- what has one name has no other
+named_once : (own name other : List ℕ) → other ≢ name → bytes_eq own name ≡ true → bytes_eq own other ≡ false
+named_once own name other differ named =
+    let is : own ≡ name = (bytes_eq-Decides own name).0 named in
+    false_from_ne_true (bytes_eq own other) (λ same. differ (sym ((bytes_eq-Decides own other).0 same) ∙ is))
 
-is_named_same : (name : List ℕ) (old new : Item) → new.name ≡ old.name → is_named name new ≡ is_named name old
-is_named_same name old new same = ap (λ n. bytes_eq (string_bytes n) name) same
+named_by : (own name : List ℕ) → own ≡ name → bytes_eq own name ≡ true
+named_by own name is = (bytes_eq-Decides own name).1 is
 
-pub replaced_there : (name bytes : List ℕ) (items : List Item) (at : ℕ) (old new : Item) → IsFirstNamed name items at → old ≡ get_or items at old → new.name ≡ old.name → new.bytes.items ≡ bytes
-    → Holds name bytes (files_of (set items at new))
-replaced_there name bytes items at old new first is same kept =
-    let named : is_named name new ≡ true = is_named_same name old new same ∙ ap (is_named name) is ∙ first.named old in
-    there_set name items at new first.within (λ k below. first.before k new below) named ∙ ap (λ b. Some b) kept
+pub replaced_there : (row name bytes : List ℕ) (items : List Item) (at : ℕ) (new : Item) → IsFirstNamed row name items at → (entry_of row new).name ≡ name → (entry_of row new).bytes ≡ bytes
+    → Holds name bytes (files_of row (set items at new))
+replaced_there row name bytes items at new first named kept =
+    there_set row name items at new first.within (λ k below. first.before k new below) (named_by (entry_of row new).name name named) ∙ ap (λ b. Some b) kept
 
-pub replaced_others : (name : List ℕ) (items : List Item) (at : ℕ) (old new : Item) → IsFirstNamed name items at → old ≡ get_or items at old → new.name ≡ old.name
-    → IsPut name (files_of items) (files_of (set items at new))
-replaced_others name items at old new first is same other differ =
-    let was : is_named name (get_or items at old) ≡ true = first.named old in
-    let named : is_named name new ≡ true = is_named_same name old new same ∙ ap (is_named name) is ∙ was in
-    others_set other items at new old (named_once name other new differ named) (named_once name other (get_or items at old) differ was)
+pub replaced_others : (row name : List ℕ) (items : List Item) (at : ℕ) (new : Item) → IsFirstNamed row name items at → (entry_of row new).name ≡ name
+    → IsPut name (files_of row items) (files_of row (set items at new))
+replaced_others row name items at new first named other differ =
+    others_set row other items at new new (named_once (entry_of row new).name name other differ (named_by (entry_of row new).name name named))
+    (named_once (entry_of row (get_or items at new)).name name other differ (first.named new))
 
--- an item at the end
-first_or : (t : Bool) (one : List ℕ) (rest later : Option (List ℕ)) (bytes : List ℕ) → (if t then Some one else rest) ≡ None → (rest ≡ None → later ≡ Some bytes) → (if t then Some one else later) ≡ Some bytes
-first_or true one rest later bytes none ends = absurd (cc)
-first_or false one rest later bytes none ends = ends none
+-- what stood in the row still stands there when more comes behind it
+part_stays : (row more : List ℕ) (from n : ℕ) → from + n ≤ length row → slice_range (row ++ more) from (from + n) ≡ slice_range row from (from + n)
+part_stays row more from n within =
+    ap (take (from + n - from)) (drop-append-le from row more (omega (arith, within)))
+    ∙ take-append-le (from + n - from) (drop from row) more (omega (arith, within, length-drop from row))
 
-there_push : (name : List ℕ) (items : List Item) (new : Item) → Lacks name (files_of items) → is_named name new ≡ true → Holds name (new.bytes.items) (files_of (items ++ new ∷ []))
-there_push name [] new lacks named = ap (λ t. if t then Some (new.bytes.items) else None) named
-there_push name (x ∷ xs) new lacks named =
-    first_or (is_named name x) (x.bytes.items) (file_at name (files_of xs)) (file_at name (files_of (xs ++ new ∷ []))) (new.bytes.items) lacks (λ rest. there_push name xs new rest named)
+entry_stays : (row more : List ℕ) (item : Item) → end_in_row item ≤ length row → entry_of (row ++ more) item ≡ entry_of row item
+entry_stays row more (Placed name bytes) within = refl
+entry_stays row more (Put start name bytes) within =
+    let named = part_stays row more start name (omega (arith, within)) in
+    let kept = part_stays row more (start + name) bytes within in
+    ap (λ n. record { name = n; bytes = slice_range (row ++ more) (start + name) (start + name + bytes) }) named
+    ∙ ap (λ b. record { name = slice_range row start (start + name); bytes = b }) kept
 
-others_push : (other : List ℕ) (items : List Item) (new : Item) → is_named other new ≡ false → file_at other (files_of (items ++ new ∷ [])) ≡ file_at other (files_of items)
-others_push other [] new unnamed = ap (λ t. if t then Some (new.bytes.items) else None) unnamed
-others_push other (x ∷ xs) new unnamed =
-    ap (λ r. if is_named other x then Some (x.bytes.items) else r) (others_push other xs new unnamed)
+files_stay : (row more : List ℕ) (items : List Item) → All (λ item. end_in_row item ≤ length row) items → files_of (row ++ more) items ≡ files_of row items
+files_stay row more [] within = refl
+files_stay row more (x ∷ xs) within =
+    ap (λ e. e ∷ files_of (row ++ more) xs) (entry_stays row more x (All-head (λ item. end_in_row item ≤ length row) x xs within))
+    ∙ ap (λ es. entry_of row x ∷ es) (files_stay row more xs (All-tail (λ item. end_in_row item ≤ length row) x xs within))
 
-named_by : (name : List ℕ) (item : Item) → string_bytes item.name ≡ name → is_named name item ≡ true
-named_by name item is = (bytes_eq-Decides (string_bytes item.name) name).1 is
+-- and what came stands behind it
+part_came : (row more rest : List ℕ) → slice_range (row ++ more ++ rest) (length row) (length row + length more) ≡ more
+part_came row more rest =
+    ap (λ l. take (length row + length more - length row) (drop (length row) l)) (append_assoc row more rest)
+    ∙ ap (take (length row + length more - length row)) (drop-append_seam row (more ++ rest))
+    ∙ ap (λ n. take n (more ++ rest)) (omega arith)
+    ∙ take-append_seam more rest
 
-pub pushed_there : (name bytes : List ℕ) (items later : List Item) (new : Item) → Lacks name (files_of items) → later ≡ items ++ new ∷ [] → string_bytes new.name ≡ name → new.bytes.items ≡ bytes
-    → Holds name bytes (files_of later)
-pushed_there name bytes items later new lacks is named kept =
-    ap (λ l. file_at name (files_of l)) is ∙ there_push name items new lacks (named_by name new named) ∙ ap (λ b. Some b) kept
+last_came : (row more : List ℕ) (n : ℕ) → n ≡ length row → slice_range (row ++ more) n (n + length more) ≡ more
+last_came row more n is =
+    ap (λ k. slice_range (row ++ more) k (k + length more)) is
+    ∙ ap (λ l. slice_range l (length row) (length row + length more)) (sym (append-nil (row ++ more)))
+    ∙ part_came row more []
 
-pub pushed_others : (name : List ℕ) (items later : List Item) (new : Item) → later ≡ items ++ new ∷ [] → string_bytes new.name ≡ name → IsPut name (files_of items) (files_of later)
-pushed_others name items later new is named other differ =
-    ap (λ l. file_at other (files_of l)) is ∙ others_push other items new (named_once name other new differ (named_by name new named))
+entry_came : (row name bytes : List ℕ) → entry_of (row ++ name ++ bytes) (Put (length row) (length name) (length bytes)) ≡ record { name = name; bytes = bytes }
+entry_came row name bytes =
+    let all = row ++ name ++ bytes in
+    let end = length row + length name in
+    ap (λ n. record { name = n; bytes = slice_range all end (end + length bytes) }) (part_came row name bytes)
+    ∙ ap (λ b. record { name = name; bytes = b }) (last_came (row ++ name) bytes end (sym (length-append row name)))
+
+pub put_first : (row name bytes later : List ℕ) (items now : List Item) → All (λ item. end_in_row item ≤ length row) items
+    → later ≡ row ++ name ++ bytes → now ≡ Put (length row) (length name) (length bytes) ∷ items → files_of later now ≡ record { name = name; bytes = bytes } ∷ files_of row items
+put_first row name bytes later items now within longer before =
+    let all = row ++ name ++ bytes in
+    let old : files_of all items ≡ files_of row items = ap (λ l. files_of l items) (append_assoc row name bytes) ∙ files_stay row (name ++ bytes) items within in
+    ap (λ l. files_of l now) longer
+    ∙ ap (files_of all) before
+    ∙ ap (λ e. e ∷ files_of all items) (entry_came row name bytes)
+    ∙ ap (λ fs. record { name = name; bytes = bytes } ∷ fs) old

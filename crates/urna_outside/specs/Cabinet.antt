@@ -1,5 +1,5 @@
 -- What a cabinet of files tells, and what its calls do to that.
-use Rattle.std.specs.Prelude.{◌≡◌, ◌≢◌, ℕ, ◌<◌, ◌≤◌, List, [], ◌∷◌, Option, Some, None, if◌then◌else◌, length, IsSomeAnd}
+use Rattle.std.specs.Prelude.{◌≡◌, ◌≢◌, ℕ, ◌<◌, ◌≤◌, List, [], ◌∷◌, Option, Some, None, if◌then◌else◌, length, IsSomeAnd, MatchOption}
 use Rattle.std.specs.Str.{bytes_eq}
 use Rattle.urna_outside.specs.Told.{Rose}
 
@@ -67,3 +67,7 @@ HoldsLonger name limit files = IsSomeAnd (file_at name files) (λ bytes. limit <
 -- what a put of this name leaves whatever its answer: all other names stay
 abbrev pub IsPut : List ℕ → Files → Files → Type 0
 IsPut name old new = (other : List ℕ) → other ≢ name → file_at other new ≡ file_at other old
+
+-- What a put of this name does to the files, where they are told, whatever its answer: all other names stay. Whether they are told stays, too.
+abbrev pub PutsInto : List ℕ → Option Files → Option Files → Type 0
+PutsInto name old new = MatchOption old (new ≡ None) (λ files. IsSomeAnd new (IsPut name files))

@@ -7,6 +7,7 @@ pub mod Faults
 pub mod FileMachine
 pub mod Flash
 pub mod FolderCabinet
+pub mod Item
 pub mod Items
 pub mod Kept
 pub mod MachineLaws

@@ -23,6 +23,10 @@ HasRoom room n = (0 < room.ops) × (n ≤ room.bytes)
 abbrev pub room_after : List Op → Room → Room
 room_after ops room = record { ops = room.ops - length ops; bytes = room.bytes - count_bytes ops }
 
+-- the room that is left after one operation with so many bytes
+abbrev pub room_after_one : ℕ → Room → Room
+room_after_one n room = record { ops = room.ops - 1; bytes = room.bytes - n }
+
 -- the put of these bytes, and no operation where there are none
 abbrev pub put_of : Dev → ℕ → List ℕ → List Op
 put_of dev at [] = []

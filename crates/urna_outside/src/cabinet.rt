@@ -1,8 +1,9 @@
-ghost use Rattle.std.specs.Prelude.{◌≡◌, ◌≤◌, IfOk, OnOk, IsErrOf, vec_len};
+ghost use Rattle.std.specs.Prelude.{◌≡◌, ◌≤◌, IfOk, OnOk, OnErr, IsErrOf, vec_len};
 ghost use Rattle.std.specs.Option.{ForSome, option_map};
 ghost use Rattle.urna_outside.specs.Told.{one_more};
-ghost use Rattle.urna_outside.specs.Cabinet.{CabinetTold, CountsFault, CountsMissing, CountsTooLong, Holds, HoldsLonger, Lacks};
+ghost use Rattle.urna_outside.specs.Cabinet.{CabinetTold, CountsFault, CountsMissing, CountsTooLong, Holds, HoldsLonger, Lacks, PutsInto};
 
+use crate::Failed;
 use std::alloc::Global;
 
 /// Why a file was not taken.
@@ -52,5 +53,18 @@ pub trait Cabinet {
             ForSome (told self.old).files (HoldsLonger name.now limit) }
 
         ensures files { (told self.new).files ≡ (told self.old).files }
+        ensures calls { (told self.new).calls ≡ option_map one_more (told self.old).calls };
+
+    /// Puts a file, in the stead of one of the same name. It takes no memory of the caller's.
+    ///
+    /// After Ok the name has these bytes, and the three counts are as they were. After Failed the count of faults has risen,
+    /// the name may hold anything or be missing, and the two other counts are as they were. All other names stay, and whether
+    /// files and calls are told doesn't change.
+    fn put(&mut self, name: &str, bytes: &[u8]) -> Result<(), Failed>
+        ensures ok { OnOk result ((told self.new).tally ≡ (told self.old).tally) }
+        ensures failed { OnErr result (CountsFault (told self.old).tally (told self.new).tally) }
+
+        ensures there { OnOk result (ForSome (told self.new).files (Holds name.now bytes.now)) }
+        ensures others { PutsInto name.now (told self.old).files (told self.new).files }
         ensures calls { (told self.new).calls ≡ option_map one_more (told self.old).calls };
 }

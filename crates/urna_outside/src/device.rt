@@ -28,6 +28,6 @@ impl From<Dev> for Port {
     }
 }
 
-/// A call to the outside failed, and the count of faults of its port rose.
+/// A call to the outside failed, and the count of faults rose: of a machine that of its port, of a cabinet its only one.
 #[derive(Clone, Copy, Debug, PartialEq, Eq)]
 pub struct Failed;

@@ -5,6 +5,7 @@ mod flash_file;
 mod flash_files;
 mod folder_cabinet;
 mod new_file;
+mod put_file;
 
 pub use file_lock::FileLock;
 pub use file_machine::FileMachine;

@@ -6,8 +6,8 @@
 //! `specs/Faults.antt`.
 //!
 //! `files` has those of a real run, `FileMachine` and `FolderCabinet`. `memory` has those of tests and benchmarks:
-//! `Recorder` and `Shelf` tell everything and fail where they are told to; a `Recorder` also gives the image of a
-//! device at any stop. `Steady` never fails. What both folders need stands beside them.
+//! `Recorder` and `Shelf` tell everything, and fail where they are told to or find no room; a `Recorder` also gives
+//! the image of a device at any stop. `Steady` never fails. What both folders need stands beside them.
 #![tactic(auto)]
 
 mod cabinet;

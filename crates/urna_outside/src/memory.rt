@@ -1,6 +1,7 @@
 //! Machines and a cabinet in memory, which serve tests and benchmarks. No real election runs them.
 mod chip;
 mod chips;
+mod item;
 mod items;
 mod recorder;
 mod replay;

@@ -24,7 +24,7 @@ impl TakeCounts {
         }
     }
 
-    /// Counts why a file was not taken. Want of memory isn't counted.
+    /// Counts why a file was not taken or put. Want of memory isn't counted.
     pub(crate) fn count(&mut self, error: CabinetError)
         ensures memory { error ≡ CabinetError.Memory → tally_of self.new ≡ tally_of self.old }
         ensures failed { error ≡ CabinetError.Failed →

@@ -1,8 +1,9 @@
 ghost use Rattle.std.specs.Prelude.{◌≡◌, ◌≢◌, ◌↔◌, ◌≤◌, IfOk, None, IsErrOf, vec_len};
 
-use crate::files::file_lock::above_streams;
+use crate::files::file_lock::{FileLock, above_streams};
+use crate::files::put_file::put_file;
 use crate::take_counts::TakeCounts;
-use crate::{Cabinet, CabinetError};
+use crate::{Cabinet, CabinetError, Failed};
 use std::alloc::Global;
 use std::fs;
 use std::io::{ErrorKind, Read};
@@ -11,8 +12,14 @@ use std::rt::Files;
 /// The cabinet of a real run: files of the working folder, or of the path that a name gives. It tells nothing but
 /// its three counts. What the file system does is trusted.
 ///
-/// Missing is exactly where the open says that there is no such file or folder: an absent file, an absent folder
+/// `take`: Missing is exactly where the open says that there is no such file or folder: an absent file, an absent folder
 /// on its path, the empty name. Every other refusal of the system is Failed.
+///
+/// `put`: a file is never put half. It is made as `NAME.new` beside the name, where what an earlier run left is removed and
+/// no link is followed, and takes its name when it is on the disk; then the folder is synced. A link of that name is
+/// replaced. Every refusal of the system is Failed, want of memory too: a folder of that name, an absent folder on its
+/// path, a `NAME.new` that another run makes, a path that is too long with `.new`. A put that fails removes `NAME.new`
+/// again, unless it could not lock it: that may be another run's, and if it isn't, the next put removes it.
 #[derive(Drop)]
 pub struct FolderCabinet<'a, R> {
     rt: &'a R,
@@ -85,7 +92,10 @@ fn read_file<R: Files>(
     Ok(bytes)
 }
 
-impl<'a, R: Files> Cabinet for FolderCabinet<'a, R> {
+impl<'a, R: Files> Cabinet for FolderCabinet<'a, R>
+where
+    R::File: FileLock,
+{
     ghost use Rattle.urna_outside.specs.FolderCabinet.{folder_told};
 
     ghost told = { λ cabinet. folder_told cabinet };
@@ -96,6 +106,16 @@ impl<'a, R: Files> Cabinet for FolderCabinet<'a, R> {
             Err(error) => {
                 self.counts.count(error);
                 Err(error)
+            }
+        }
+    }
+
+    fn put(&mut self, name: &str, bytes: &[u8]) -> Result<(), Failed> {
+        match put_file(self.rt, name, bytes) {
+            Ok(()) => Ok(()),
+            Err(_) => {
+                self.counts.count(CabinetError::Failed);
+                Err(Failed)
             }
         }
     }
