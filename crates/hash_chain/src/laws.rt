@@ -10,7 +10,7 @@ pub fn parts()
     ensures few { FewBytes }
 {}
 
-/// A file has one fault, or it is the parts of one field text, and never both.
+/// A file that is shorter than 2^63 bytes has one fault, or it is the parts of one field text, and never both.
 pub fn files()
     ensures one_of_both { OneOfBoth }
     ensures never_both { NeverBoth }

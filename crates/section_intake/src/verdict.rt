@@ -5,7 +5,7 @@ use qr_text::FieldFault;
 /// The verdict on the file of a report (docs/FORMATS.md, "Verdicts").
 #[derive(Clone, Copy, Debug, PartialEq, Eq)]
 pub enum Verdict {
-    /// It is the report of this section of the tables.
+    /// Its report fits the tables, and is of this section.
     Accepted { zone: u32, section: u32 },
     /// It is no parts of a field text.
     Part(PartFault),

@@ -16,13 +16,16 @@ use Rattle.section_intake.specs.declared.verdict.Verdict.TheVariants as verdict
 use Rattle.state_store.specs.Calls.{IsUntouched}
 use Rattle.state_store.specs.declared.store.LoadError.{LoadError}
 use Rattle.state_store.specs.declared.store.LoadError.TheVariants as load
+use Rattle.state_store.specs.declared.store.StoreError.{StoreError}
+use Rattle.state_store.specs.declared.store.StoreError.TheVariants as store
 use Rattle.station.specs.declared.station.StartError.{StartError}
 use Rattle.station.specs.declared.station.StartError.TheVariants as start
 use Rattle.urna_app.specs.Carga.{CargaEnds, load_no_cabinet, load_no_memory, load_refused}
-use Rattle.urna_app.specs.Command.{Carga, Confere, Vota}
+use Rattle.urna_app.specs.Command.{Carga, Confere, Emite, Vota}
 use Rattle.urna_app.specs.Confere.{ConfereEnds, check_no_cabinet, check_no_memory, check_refused}
 use Rattle.urna_app.specs.Documents.{HasKeys, HasRoll, HasTables, IsFirstFault}
-use Rattle.urna_app.specs.Errors.{load_status, port_status, start_status}
+use Rattle.urna_app.specs.Emite.{EmiteEnds, emit_no_cabinet, emit_no_memory, emit_refused}
+use Rattle.urna_app.specs.Errors.{load_status, port_status, start_status, store_status}
 use Rattle.urna_app.specs.Holding.{FailsToHold, hold_status}
 use Rattle.urna_app.specs.Taking.{CountsFor, HasTaken, status_in}
 use Rattle.urna_app.specs.Vota.{IsGiven, IsRefused, VotaEnds, cut, no_cabinet, no_memory, not_started, refused}
@@ -63,6 +66,7 @@ which (status.Foreign d) = inr (inr (λ e. absurd (cc), λ e. absurd (cc)))
 which status.NoImage = inr (inr (λ e. absurd (cc), λ e. absurd (cc)))
 which (status.Busy d) = inr (inr (λ e. absurd (cc), λ e. absurd (cc)))
 which (status.ReportRefused v) = inr (inr (λ e. absurd (cc), λ e. absurd (cc)))
+which status.NotSealed = inr (inr (λ e. absurd (cc), λ e. absurd (cc)))
 which status.NoSection = inr (inr (λ e. absurd (cc), λ e. absurd (cc)))
 
 -- the keys are taken behind the tables and the roll
@@ -108,6 +112,18 @@ check_fault_ends names c d m s found taken = ends s (which s) found taken
         subst (ConfereEnds names c d m m) (sym failed) (check_no_cabinet (subst (λ (v : Status). HasTaken 2 v c d) failed taken) (untouched m))
     ends u (inr (inr (memory, failed))) found taken = check_refused (found memory failed) taken (untouched m)
 
+pub emit_fault_ends : (names : Emite) (c d : CabinetTold) (m : Told) (s : Status)
+    → (s ≢ status.Memory → s ≢ status.Cabinet → IsFirstFault c.files names.tables doc.Roll names.roll s) → HasTaken 2 s c d → EmiteEnds names c d m m s
+emit_fault_ends names c d m s found taken = ends s (which s) found taken
+  where
+    ends : (u : Status) → (u ≡ status.Memory) ⊎ (u ≡ status.Cabinet) ⊎ ((u ≢ status.Memory) × (u ≢ status.Cabinet))
+        → (u ≢ status.Memory → u ≢ status.Cabinet → IsFirstFault c.files names.tables doc.Roll names.roll u) → HasTaken 2 u c d → EmiteEnds names c d m m u
+    ends u (inl memory) found taken =
+        subst (EmiteEnds names c d m m) (sym memory) (emit_no_memory (subst (λ (v : Status). HasTaken 2 v c d) memory taken) (untouched m))
+    ends u (inr (inl failed)) found taken =
+        subst (EmiteEnds names c d m m) (sym failed) (emit_no_cabinet (subst (λ (v : Status). HasTaken 2 v c d) failed taken) (untouched m))
+    ends u (inr (inr (memory, failed))) found taken = emit_refused (found memory failed) taken (untouched m)
+
 counts_port : (p : Port) (old new : Tally) → new ≡ old → CountsFor (port_status p) old new
 counts_port port.Internal old new same = same
 counts_port port.External old new same = same
@@ -118,6 +134,13 @@ counts_start start.Memory old new same = same
 counts_start (start.Port p) old new same = counts_port p old new same
 counts_start (start.Foreign d) old new same = same
 counts_start start.NoImage old new same = same
+
+pub counts_store : (e : StoreError) (old new : Tally) → new ≡ old → CountsFor (store_status e) old new
+counts_store store.Memory old new same = same
+counts_store (store.Flash dev.Internal) old new same = same
+counts_store (store.Flash dev.External) old new same = same
+counts_store (store.Foreign d) old new same = same
+counts_store store.NoImage old new same = same
 
 pub counts_load : (e : LoadError) (old new : Tally) → new ≡ old → CountsFor (load_status e) old new
 counts_load load.Memory old new same = same

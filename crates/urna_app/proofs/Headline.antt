@@ -46,7 +46,7 @@ use Rattle.station.proofs.Performing.{tables_setting}
 use Rattle.station.proofs.Casting.{run_counts, run_last}
 use Rattle.station.proofs.RunLaws.{run_exists, run_unique}
 use Rattle.urna_app.specs.Command.{ToVote, Vota, command_of}
-use Rattle.urna_app.specs.Ending.{CommandEnds, carga, confere, no_command, vota}
+use Rattle.urna_app.specs.Ending.{CommandEnds, carga, confere, emite, no_command, vota}
 use Rattle.urna_app.specs.Errors.{port_status, start_status}
 use Rattle.urna_app.specs.FaultLines.{Tells, fault_text}
 use Rattle.urna_app.specs.Headline.{AllAreCounted, KeepsVotes, KeysHaveRun, VotesAreKept, session_lines}
@@ -253,6 +253,7 @@ module _ (names : Vota) (files : Files) (c d : CabinetTold) (told : c.files ≡ 
       let same : other ≡ names = cc in
       subst (λ (x : Vota). VotaEnds x c d m b answer) same h
   command_is words answer is (carga that h) = absurd (cc)
+  command_is words answer is (emite that h) = absurd (cc)
   command_is words answer is (confere that h) = absurd (cc)
 
   pub command_kept : (words : List (List ℕ)) (answer : Status) → command_of words ≡ Some (ToVote names) → CommandEnds words c d m b answer → Tells (fault_text answer) b n → All

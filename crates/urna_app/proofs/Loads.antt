@@ -22,7 +22,7 @@ use Rattle.state_store.proofs.Loaded.{rest_found, rest_whole}
 use Rattle.urna_app.specs.Carga.{CargaEnds, HasLoaded, IsSectionAsked, IsGivenLoad, load_no_cabinet, load_no_memory, load_refused, loaded, loaded_line, no_section, not_loaded, not_told}
 use Rattle.urna_app.specs.Documents.{IsFirstFault}
 use Rattle.urna_app.specs.Command.{Carga, ToLoad, command_of}
-use Rattle.urna_app.specs.Ending.{CommandEnds, carga, confere, vota}
+use Rattle.urna_app.specs.Ending.{CommandEnds, carga, confere, emite, vota}
 use Rattle.urna_app.specs.Errors.{load_status}
 use Rattle.urna_app.specs.Headline.{LoadBeginsDay}
 use Rattle.urna_app.specs.declared.status.Doc.TheVariants as doc
@@ -74,6 +74,7 @@ module _ (files : Files) (names : Carga) (c d : CabinetTold) (told : c.files ≡
 
   pub command_begins : (words : List (List ℕ)) → command_of words ≡ Some (ToLoad names) → CommandEnds words c d m b status.Done → Begins
   command_begins words is (vota that h) = absurd (cc)
+  command_begins words is (emite that h) = absurd (cc)
   command_begins words is (confere that h) = absurd (cc)
   command_begins words is (carga {names = other} that h) =
       let same : other ≡ names = cc in

@@ -22,4 +22,5 @@ code_of status.Display = 23
 code_of (status.Foreign d) = 30
 code_of status.NoImage = 31
 code_of (status.Busy d) = 32
+code_of status.NotSealed = 33
 code_of status.NoSection = 34

@@ -19,6 +19,12 @@ pub record Carga : Type 0 where
   pub zone : ℕ
   pub number : ℕ
 
+-- emite TABLES ROLL OUT: the names of the files
+pub record Emite : Type 0 where
+  pub tables : List ℕ
+  pub roll : List ℕ
+  pub out : List ℕ
+
 -- confere TABLES REPORT: the names of the files
 pub record Confere : Type 0 where
   pub tables : List ℕ
@@ -60,6 +66,15 @@ carga_of (a ∷ b ∷ c ∷ []) = None
 carga_of (a ∷ b ∷ c ∷ d ∷ []) = None
 carga_of (a ∷ b ∷ c ∷ d ∷ e ∷ f ∷ more) = None
 
+-- four words, the first of which is emite
+abbrev pub emite_of : List (List ℕ) → Option Emite
+emite_of (word ∷ tables ∷ roll ∷ out ∷ []) = if bytes_eq word (codes "emite") then Some (record { tables = tables; roll = roll; out = out }) else None
+emite_of [] = None
+emite_of (a ∷ []) = None
+emite_of (a ∷ b ∷ []) = None
+emite_of (a ∷ b ∷ c ∷ []) = None
+emite_of (a ∷ b ∷ c ∷ d ∷ e ∷ more) = None
+
 -- three words, the first of which is confere
 abbrev pub confere_of : List (List ℕ) → Option Confere
 confere_of (word ∷ tables ∷ report ∷ []) = if bytes_eq word (codes "confere") then Some (record { tables = tables; report = report }) else None
@@ -72,15 +87,17 @@ confere_of (a ∷ b ∷ c ∷ d ∷ more) = None
 pub data Command : Type 0 where
   ToVote : Vota → Command
   ToLoad : Carga → Command
+  ToEmit : Emite → Command
   ToCheck : Confere → Command
 
 -- the command that the words are, if they are one of these
-abbrev pub command_in : Option Vota → Option Carga → Option Confere → Option Command
-command_in (Some names) load check = Some (ToVote names)
-command_in None (Some names) check = Some (ToLoad names)
-command_in None None (Some names) = Some (ToCheck names)
-command_in None None None = None
+abbrev pub command_in : Option Vota → Option Carga → Option Emite → Option Confere → Option Command
+command_in (Some names) load emit check = Some (ToVote names)
+command_in None (Some names) emit check = Some (ToLoad names)
+command_in None None (Some names) check = Some (ToEmit names)
+command_in None None None (Some names) = Some (ToCheck names)
+command_in None None None None = None
 
 -- the command of the words, if they are one
 abbrev pub command_of : List (List ℕ) → Option Command
-command_of words = command_in (vota_of words) (carga_of words) (confere_of words)
+command_of words = command_in (vota_of words) (carga_of words) (emite_of words) (confere_of words)

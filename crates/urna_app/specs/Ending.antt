@@ -4,8 +4,9 @@ use Rattle.urna_outside.specs.Cabinet.{CabinetTold}
 use Rattle.urna_outside.specs.Told.{Told}
 use Rattle.state_store.specs.Calls.{IsUntouched}
 use Rattle.urna_app.specs.Carga.{CargaEnds}
-use Rattle.urna_app.specs.Command.{Carga, Confere, ToCheck, ToLoad, ToVote, Vota, command_of}
+use Rattle.urna_app.specs.Command.{Carga, Confere, Emite, ToCheck, ToEmit, ToLoad, ToVote, Vota, command_of}
 use Rattle.urna_app.specs.Confere.{ConfereEnds}
+use Rattle.urna_app.specs.Emite.{EmiteEnds}
 use Rattle.urna_app.specs.FaultLines.{Tells, fault_text}
 use Rattle.urna_app.specs.Taking.{HasTaken}
 use Rattle.urna_app.specs.Vota.{VotaEnds}
@@ -17,6 +18,7 @@ pub data CommandEnds (words : List (List ℕ)) (c d : CabinetTold) (m n : Told) 
   no_command : command_of words ≡ None → HasTaken 0 status.Usage c d → IsUntouched m n → CommandEnds words c d m n status.Usage
   vota : {names : Vota} {s : Status} → command_of words ≡ Some (ToVote names) → VotaEnds names c d m n s → CommandEnds words c d m n s
   carga : {names : Carga} {s : Status} → command_of words ≡ Some (ToLoad names) → CargaEnds names c d m n s → CommandEnds words c d m n s
+  emite : {names : Emite} {s : Status} → command_of words ≡ Some (ToEmit names) → EmiteEnds names c d m n s → CommandEnds words c d m n s
   confere : {names : Confere} {s : Status} → command_of words ≡ Some (ToCheck names) → ConfereEnds names c d m n s → CommandEnds words c d m n s
 
 -- How a call of the program ends, by what the cabinet and the machine told before and after: as its command, and then the line

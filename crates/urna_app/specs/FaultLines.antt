@@ -42,6 +42,7 @@ fault_text status.Display = None
 fault_text (status.Foreign d) = Some (codes "OUTRA CARGA " ++ device_word d)
 fault_text status.NoImage = Some (codes "SEM IMAGEM")
 fault_text (status.Busy d) = Some (codes "EM USO " ++ device_word d)
+fault_text status.NotSealed = Some (codes "NAO LACRADA")
 fault_text status.NoSection = Some (codes "SECAO")
 
 -- a fault line with its line feed

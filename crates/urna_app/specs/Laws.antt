@@ -6,9 +6,10 @@ use Rattle.election_tables.specs.TablesData.{TablesData}
 use Rattle.key_script.specs.declared.keys.Event.{Event}
 use Rattle.urna_app.specs.Carga.{IsGivenLoad}
 use Rattle.section_intake.specs.declared.verdict.Verdict.{Verdict}
-use Rattle.urna_app.specs.Command.{Carga, Confere, Vota}
+use Rattle.urna_app.specs.Command.{Carga, Confere, Emite, Vota}
 use Rattle.urna_app.specs.Confere.{HasVerdict}
 use Rattle.urna_app.specs.Documents.{IsFirstFault}
+use Rattle.urna_app.specs.Emite.{IsGivenPoll}
 use Rattle.urna_app.specs.Vota.{IsGiven, IsRefused}
 use Rattle.urna_app.specs.declared.status.Doc.{Doc}
 use Rattle.urna_app.specs.declared.status.Doc.TheVariants as doc
@@ -22,7 +23,7 @@ RefusedOnce =
     → IsFirstFault (Some files) tables d name t → s ≡ t)
     × ((files : Files) (names : Confere) (v w : Verdict) → HasVerdict (Some files) names v → HasVerdict (Some files) names w → v ≡ w)
 
--- and then they give no session, no load and no verdict
+-- and then they give no session, no load, no poll and no verdict
 abbrev pub RefusedOrGiven : Type 0
 RefusedOrGiven =
     ((files : Files) (names : Vota) (s : Status) (t : TablesData) (r : RollData) (es : List Event)
@@ -31,3 +32,5 @@ RefusedOrGiven =
     → IsFirstFault (Some files) names.tables doc.Roll names.roll s → IsGivenLoad (Some files) names t r → ⊥)
     × ((files : Files) (names : Confere) (s : Status) (v : Verdict) → IsFirstFault (Some files) names.tables doc.Report names.report s
     → HasVerdict (Some files) names v → ⊥)
+    × ((files : Files) (names : Emite) (s : Status) (t : TablesData) (r : RollData) → IsFirstFault (Some files) names.tables doc.Roll names.roll s
+    → IsGivenPoll (Some files) names t r → ⊥)

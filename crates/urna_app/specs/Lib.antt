@@ -3,12 +3,15 @@ pub mod Codes
 pub mod Command
 pub mod Confere
 pub mod Documents
+pub mod Emite
 pub mod Ending
 pub mod Errors
 pub mod FaultLines
 pub mod Headline
 pub mod Holding
 pub mod Laws
+pub mod Putting
+pub mod Results
 pub mod Taking
 pub mod Verdicts
 pub mod Vota

@@ -25,6 +25,7 @@ CountsFor status.Display old new = new ≡ old
 CountsFor (status.Foreign d) old new = new ≡ old
 CountsFor status.NoImage old new = new ≡ old
 CountsFor (status.Busy d) old new = new ≡ old
+CountsFor status.NotSealed old new = new ≡ old
 CountsFor status.NoSection old new = new ≡ old
 CountsFor (status.ReportRefused v) old new = new ≡ old
 

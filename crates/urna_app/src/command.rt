@@ -1,6 +1,6 @@
 //! The words of a command.
 ghost use Rattle.std.specs.Prelude.{◌≡◌, IfNone, IfSome, List, None, Some, map, string_bytes, ℕ};
-ghost use Rattle.urna_app.specs.Command.{carga_of, confere_of, named_number, vota_of};
+ghost use Rattle.urna_app.specs.Command.{carga_of, confere_of, emite_of, named_number, vota_of};
 
 use election_tables::GREATEST_SECTION;
 use urna_base::decimal;
@@ -20,6 +20,14 @@ pub(crate) struct CargaNames<'a> {
     pub roll: &'a str,
     pub zone: u32,
     pub number: u32,
+}
+
+/// The names of the files of `emite`.
+#[derive(Clone, Copy)]
+pub(crate) struct EmiteNames<'a> {
+    pub tables: &'a str,
+    pub roll: &'a str,
+    pub out: &'a str,
 }
 
 /// The names of the files of `confere`.
@@ -67,6 +75,25 @@ pub(crate) fn carga_words(words: &[String]) -> Option<CargaNames<'_>>
         roll: roll.as_str(),
         zone,
         number,
+    })
+}
+
+/// `emite TABLES ROLL OUT`.
+pub(crate) fn emite_words(words: &[String]) -> Option<EmiteNames<'_>>
+    ensures names { IfSome result (λ n. emite_of (map string_bytes words.now)
+        ≡ Some (record { tables = n.tables.now; roll = n.roll.now; out = n.out.now })) }
+    ensures none { IfNone result (emite_of (map string_bytes words.now) ≡ None) }
+{
+    let [command, tables, roll, out] = words else {
+        return None;
+    };
+    if command.as_str() != "emite" {
+        return None;
+    }
+    Some(EmiteNames {
+        tables: tables.as_str(),
+        roll: roll.as_str(),
+        out: out.as_str(),
     })
 }
 

@@ -1,16 +1,16 @@
 //! The statuses of errors (`specs/Errors.antt`): a `?` gives them, but for a file that was not taken.
 ghost use Rattle.std.specs.Prelude.{◌≡◌};
-ghost use Rattle.urna_app.specs.Errors.{line_status, load_status, memory_status, port_status, roll_status, tables_status, take_status};
+ghost use Rattle.urna_app.specs.Errors.{line_status, load_status, memory_status, port_status, put_status, roll_status, store_status, tables_status, take_status};
 ghost use Rattle.urna_app.specs.Holding.{hold_status};
 
 use crate::status::{Doc, Status};
 use crate::vota::HoldError;
 use election_tables::{RollError, TablesError};
 use key_script::LineError;
-use state_store::LoadError;
+use state_store::{LoadError, StoreError};
 use station::StartError;
 use urna_base::Memory;
-use urna_outside::{CabinetError, Port};
+use urna_outside::{CabinetError, Failed, Port};
 
 /// The status of a file that was not taken. It names the document, which the error doesn't.
 pub(crate) fn not_taken(error: CabinetError, doc: Doc) -> Status
@@ -85,6 +85,28 @@ impl From<LoadError> for Status {
             LoadError::Flash(dev) => port_status(Port::from(dev)),
             LoadError::Busy(dev) => Status::Busy(dev),
         }
+    }
+}
+
+impl From<StoreError> for Status {
+    ghost from_gives = { λ error status. status ≡ store_status error };
+
+    fn from(error: StoreError) -> Status {
+        match error {
+            StoreError::Memory => Status::Memory,
+            StoreError::Flash(dev) => port_status(Port::from(dev)),
+            StoreError::Foreign(dev) => Status::Foreign(dev),
+            StoreError::NoImage => Status::NoImage,
+        }
+    }
+}
+
+/// A file that was not put.
+impl From<Failed> for Status {
+    ghost from_gives = { λ failed status. status ≡ put_status failed };
+
+    fn from(_failed: Failed) -> Status {
+        Status::Cabinet
     }
 }
 

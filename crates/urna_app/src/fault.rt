@@ -40,6 +40,7 @@ fn fault_line(status: &Status) -> Option<LineBuffer>
         Status::Foreign(dev) => Some(worded(b"OUTRA CARGA ", device_word(*dev))),
         Status::NoImage => Some(bare(b"SEM IMAGEM")),
         Status::Busy(dev) => Some(worded(b"EM USO ", device_word(*dev))),
+        Status::NotSealed => Some(bare(b"NAO LACRADA")),
         Status::NoSection => Some(bare(b"SECAO")),
     }
 }

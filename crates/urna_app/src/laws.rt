@@ -3,7 +3,8 @@ ghost use Rattle.urna_app.specs.Headline.{AllAreCounted, DayKeepsVotes, KeysHave
 ghost use Rattle.urna_app.specs.Laws.{RefusedOnce, RefusedOrGiven};
 ghost use Rattle.urna_app.specs.Reports.{SealedHasReport, SealedHasText, SealedIsAccepted};
 
-/// Where the cabinet tells its files, the words and the files determine whether they are refused, and with which status.
+/// Where the cabinet tells its files, the words and the files determine whether they are refused, with which status, and which verdict
+/// `confere` gives.
 pub fn one_ending()
     ensures once { RefusedOnce }
     ensures either { RefusedOrGiven }

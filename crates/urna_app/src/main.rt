@@ -1,7 +1,8 @@
 //! The program `urna`: its words name a command and its files, and its status says how the command ended.
 //!
-//! `urna` is the call by which the program does its command. What it says of the files, of the text that is shown and of each status stands in
-//! `specs/Ending.antt`, and by command in `specs/Vota.antt`, `specs/Carga.antt` and `specs/Confere.antt` (docs/RULES.md, "The run"; docs/FORMATS.md, "Statuses").
+//! `urna` is the call by which the program does its command. What it says of the files, of the text that is shown and of each
+//! status stands in `specs/Ending.antt`, and by command in `specs/Vota.antt`, `specs/Carga.antt`, `specs/Emite.antt` and
+//! `specs/Confere.antt` (docs/RULES.md, "The run"; docs/FORMATS.md, "Statuses").
 #![tactic(auto)]
 
 ghost use Rattle.std.specs.Prelude.{map, string_bytes};
@@ -13,9 +14,11 @@ mod carga;
 mod command;
 mod confere;
 mod documents;
+mod emite;
 mod errors;
 mod fault;
 mod laws;
+mod results;
 #[cfg(test)]
 mod scripts;
 mod status;
@@ -28,8 +31,9 @@ mod vota;
 mod words;
 
 use carga::carga;
-use command::{carga_words, confere_words, vota_words};
+use command::{carga_words, confere_words, emite_words, vota_words};
 use confere::confere;
+use emite::emite;
 use fault::tell_fault;
 use state_store::DEVICE_SIZE;
 use status::Status;
@@ -79,6 +83,9 @@ fn run_command<M: Machine, C: Cabinet>(
     }
     if let Some(names) = carga_words(words) {
         return carga(alloc, names, machine, cabinet);
+    }
+    if let Some(names) = emite_words(words) {
+        return emite(alloc, names, machine, cabinet);
     }
     if let Some(names) = confere_words(words) {
         return confere(alloc, names, machine, cabinet);

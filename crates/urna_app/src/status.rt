@@ -52,6 +52,8 @@ pub enum Status {
     NoImage,
     /// The flash is in use.
     Busy(Dev),
+    /// The poll that the flashes hold isn't sealed.
+    NotSealed,
     /// The tables have no such section, or it has another number of voters than the roll.
     NoSection,
 }
@@ -80,6 +82,7 @@ impl Status {
             Status::Foreign(_) => 30,
             Status::NoImage => 31,
             Status::Busy(_) => 32,
+            Status::NotSealed => 33,
             Status::NoSection => 34,
         }
     }

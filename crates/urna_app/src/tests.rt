@@ -215,19 +215,35 @@ pub(crate) fn run_failing(
     images: Images,
     failing: &[u32],
 ) -> Result<(Status, Recorder), Fail> {
+    run_on(rt, given, &mut shelf_of(rt, given)?, images, failing)
+}
+
+/// The same over these files.
+fn run_on(
+    rt: &(impl Abort + AllocGlobal),
+    given: Given<'_>,
+    shelf: &mut Shelf,
+    images: Images,
+    failing: &[u32],
+) -> Result<(Status, Recorder), Fail> {
     let alloc = rt.alloc();
     let mut words = Vec::new(alloc);
     for word in given.words {
         words.push(String::from_str(alloc, word)?)?;
     }
-    let mut shelf = Shelf::new(alloc, 32_768, given.failing_takes)?;
+    let mut m = machine(rt, images, failing)?;
+    let status = urna(alloc, &words, &mut m, shelf);
+    Ok((status, m))
+}
+
+/// The files that a command is given.
+fn shelf_of(rt: &impl AllocGlobal, given: Given<'_>) -> Result<Shelf, Memory> {
+    let mut shelf = Shelf::new(rt.alloc(), 32_768, given.failing_takes)?;
     place(&mut shelf, "t", given.tables)?;
     place(&mut shelf, "r", given.roll)?;
     place(&mut shelf, "k", given.keys)?;
     place(&mut shelf, "b", given.report)?;
-    let mut m = machine(rt, images, failing)?;
-    let status = urna(alloc, &words, &mut m, &mut shelf);
-    Ok((status, m))
+    Ok(shelf)
 }
 
 /// What a command leaves, which has to end with this status and number and show this text.
@@ -705,6 +721,90 @@ fn reports_are_checked(rt: HostRuntime) -> Result<(), Fail> {
         assert!(rt; left.internal.iter().all(|byte| *byte == 0));
         assert!(rt; left.external.iter().all(|byte| *byte == 0));
     }
+    Ok(())
+}
+
+const EMITE: Given = Given {
+    words: &["emite", "t", "r", "o"],
+    ..CARGA
+};
+
+/// The files of the poll of one voter who votes for 13.
+const ONE_VOTE_REPORT: &[u8] =
+    b"QRBU:1:1 VRQR:U1 ORIG:VOTA PROC:7 DTPL:20261004 TURN:1 ZONA:1 SECA:42\
+\x20APTO:1 COMP:1 FALT:0 DTAB:20261004 HRAB:080000\
+\x20DTFC:20261004 HRFC:170000 CARG:11 TIPO:0 13:1 APTA:1 NOMI:1 BRAN:0 NULO:0 TOTC:1\
+\x20HASH:2A3D85A2BA41332ADDB47827018F3D90E29081FCDAFABFC9700AA14520F17AD1\
+99FE64DD0D6F72E8785590B0679C7D3357581BF548154C4D254619924146876C\n";
+const ONE_VOTE_RECORD: &[u8] = b"RDV U1
+PROC 7 DTPL 20261004 TURN 1 ZONA 1 SECA 42
+CARG 11 1
+N 13
+FIM
+";
+
+/// What `emite` answers over these images, which it leaves as they were, and its files.
+fn emitted(
+    rt: &(impl Abort + AllocGlobal),
+    given: Given<'_>,
+    images: &Images,
+    status: Status,
+    shown: &[u8],
+) -> Result<Shelf, Fail> {
+    let mut shelf = shelf_of(rt, given)?;
+    let (answered, m) = run_on(rt, given, &mut shelf, copied(rt, images)?, given.failing)?;
+    assert_eq!(rt; answered, status);
+    assert_eq!(rt; m.shown(), shown);
+    assert_eq!(rt; m.content(Dev::Internal), images.internal.as_slice());
+    assert_eq!(rt; m.content(Dev::External), images.external.as_slice());
+    Ok(shelf)
+}
+
+/// A poll that isn't sealed has no files of results.
+#[test]
+fn results_are_of_a_sealed_poll(rt: HostRuntime) -> Result<(), Fail> {
+    let opening = Given {
+        keys: Some(b"M ABRE 20261004080000\n"),
+        ..VOTA
+    };
+    let ready = loaded(&rt, CARGA)?;
+    let (_, m) = run(&rt, opening, copied(&rt, &ready)?)?;
+    for flashes in [ready, left(&rt, &m)?] {
+        let shelf = emitted(
+            &rt,
+            EMITE,
+            &flashes,
+            Status::NotSealed,
+            b"ERRO NAO LACRADA\n",
+        )?;
+        assert!(rt; shelf.get("o.bu").is_none());
+        assert!(rt; shelf.get("o.rdv").is_none());
+    }
+    assert_eq!(rt; Status::NotSealed.code(), 33);
+    Ok(())
+}
+
+/// A sealed poll has its report and its record, and a put that fails leaves the flashes and shows nothing.
+#[test]
+fn results_are_put(rt: HostRuntime) -> Result<(), Fail> {
+    let (_, m) = run(&rt, VOTA, loaded(&rt, CARGA)?)?;
+    let sealed = left(&rt, &m)?;
+    let shelf = emitted(&rt, EMITE, &sealed, Status::Done, b"EMITIDO 1 42\n")?;
+    assert_eq!(rt; shelf.get("o.bu"), Some(ONE_VOTE_REPORT));
+    assert_eq!(rt; shelf.get("o.rdv"), Some(ONE_VOTE_RECORD));
+    let no_report = Given {
+        failing_takes: &[2],
+        ..EMITE
+    };
+    let shelf = emitted(&rt, no_report, &sealed, Status::Cabinet, b"")?;
+    assert!(rt; shelf.get("o.bu").is_none());
+    let no_record = Given {
+        failing_takes: &[3],
+        ..EMITE
+    };
+    let shelf = emitted(&rt, no_record, &sealed, Status::Cabinet, b"")?;
+    assert_eq!(rt; shelf.get("o.bu"), Some(ONE_VOTE_REPORT));
+    assert!(rt; shelf.get("o.rdv").is_none());
     Ok(())
 }
 

@@ -1,0 +1,41 @@
+-- Files of results: which they are, and what the cabinet tells when they are put
+use Rattle.std.specs.Prelude.{◌≡◌, ◌⊎◌, ℕ, List, [], ◌∷◌, ◌++◌, codes}
+use Rattle.std.specs.Option.{ForSome, option_map}
+use Rattle.urna_outside.specs.Told.{one_more}
+use Rattle.urna_outside.specs.Cabinet.{CabinetTold, CountsFault, Entry, Holds, PutsInto}
+use Rattle.election_tables.specs.TablesData.{TablesData}
+use Rattle.election_tables.specs.declared.tables.sections.Section.{Section}
+use Rattle.image_codec.specs.State.{State}
+use Rattle.vote_record.specs.RecordText.{record_text}
+use Rattle.urna_app.specs.Reports.{report_file}
+
+-- The files of results of a sealed poll, under the word OUT: the report in parts, and the record. They depend on the tables, the section,
+-- the moments, who came and the bags alone.
+abbrev pub result_files : List ℕ → TablesData → Section → State → ℕ → ℕ → List Entry
+result_files out t section s opened closed =
+    record { name = out ++ codes ".bu"; bytes = report_file t section s opened closed }
+    ∷ record { name = out ++ codes ".rdv"; bytes = record_text t section s.bags }
+    ∷ []
+
+-- A file was put: its name has its bytes, all other names stay, and no count rose.
+pub record HasPut (file : Entry) (old new : CabinetTold) : Type 0 where
+  pub there : ForSome new.files (Holds file.name file.bytes)
+  pub others : PutsInto file.name old.files new.files
+  pub counts : new.tally ≡ old.tally
+  pub calls : new.calls ≡ option_map one_more old.calls
+
+-- A file was not put: its name may have anything, all other names stay, and the count of faults rose.
+pub record FailsToPut (file : Entry) (old new : CabinetTold) : Type 0 where
+  pub others : PutsInto file.name old.files new.files
+  pub counts : CountsFault old.tally new.tally
+  pub calls : new.calls ≡ option_map one_more old.calls
+
+-- these files were put, one after the other
+abbrev pub HavePut : List Entry → CabinetTold → CabinetTold → Type 0
+HavePut [] old new = new ≡ old
+HavePut (file ∷ files) old new = (between : CabinetTold) × HasPut file old between × HavePut files between new
+
+-- one of them was not put; those before it were, and those behind it were not tried
+abbrev pub StopPutting : List Entry → CabinetTold → CabinetTold → Type 0
+StopPutting [] old new = ⊥
+StopPutting (file ∷ files) old new = FailsToPut file old new ⊎ ((between : CabinetTold) × HasPut file old between × StopPutting files between new)

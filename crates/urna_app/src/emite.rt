@@ -1,0 +1,56 @@
+//! The command `emite TABLES ROLL OUT`: writes the files of results of the sealed poll that the flashes hold.
+ghost use Rattle.std.specs.Prelude.{◌≡◌};
+ghost use Rattle.election_tables.specs.declared.tables.sections.Section.{Section};
+ghost use Rattle.state_store.specs.Store.{AreDevices};
+ghost use Rattle.urna_app.specs.Emite.{EmiteEnds, emitted_line};
+ghost use Rattle.urna_app.specs.Taking.{status_in};
+
+use crate::command::EmiteNames;
+use crate::documents::take_documents;
+use crate::results::{put_results, results_of};
+use crate::status::Status;
+use election_tables::Section;
+use state_store::Store;
+use std::alloc::Global;
+use turnout::Phase;
+use urna_base::LineBuffer;
+use urna_outside::{Cabinet, Machine, show_line};
+
+/// The line that tells that the files of a section are put.
+#[tactic(auto, using(urna_base::proofs::DecimalLaws::line_lengths))]
+fn emitted_line(section: Section) -> LineBuffer
+    ensures { result ≡ emitted_line section }
+{
+    let mut line = LineBuffer::new();
+    line.push_text(b"EMITIDO ");
+    line.push_decimal(u64::from(section.zone));
+    line.push_text(b" ");
+    line.push_decimal(u64::from(section.number));
+    line.push_text(b"\n");
+    line
+}
+
+/// The files of results of the poll of these names: the tables and the roll are taken and read, the flashes are looked at, the files
+/// are made and put, and then the line tells it. Nothing is written on a flash.
+pub(crate) fn emite<M: Machine, C: Cabinet>(
+    alloc: Global,
+    names: EmiteNames<'_>,
+    machine: &mut M,
+    cabinet: &mut C,
+) -> Result<(), Status>
+    requires { AreDevices (M.told machine.old).sizes }
+    ensures { EmiteEnds (record { tables = names.entry.tables.now; roll = names.entry.roll.now; out = names.entry.out.now })
+        (C.told cabinet.old) (C.told cabinet.new) (M.told machine.old) (M.told machine.new) (status_in result) }
+{
+    let (tables, roll) = take_documents(alloc, cabinet, names.tables, names.roll)?;
+    let (section, state) = Store::peek(alloc, &tables, &roll, machine)?;
+    let Phase::Sealed { opened, closed } = state.phase() else {
+        return Err(Status::NotSealed);
+    };
+    let results = results_of(alloc, names.out, &tables, section, &state, opened, closed)?;
+    put_results(cabinet, &results)?;
+    match show_line(machine, emitted_line(section).as_bytes()) {
+        Ok(()) => Ok(()),
+        Err(_) => Err(Status::Display),
+    }
+}

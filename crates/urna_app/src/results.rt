@@ -1,0 +1,81 @@
+//! The files of results of a sealed poll: the report in parts, and the record.
+ghost use Rattle.std.specs.Prelude.{◌≡◌, ◌++◌, IfOk, IfErr, OnOk, codes, string_bytes};
+ghost use Rattle.std.specs.List.{Contains};
+ghost use Rattle.election_tables.specs.TablesData.{IsTables};
+ghost use Rattle.turnout.specs.declared.phase.Phase.TheVariants as phase;
+ghost use Rattle.image_codec.specs.Encoding.{IsStateOf};
+ghost use Rattle.urna_app.specs.Putting.{HavePut, StopPutting, result_files};
+ghost use Rattle.urna_app.specs.Results.{entries_of};
+
+use crate::status::Status;
+use election_tables::{Section, Tables};
+use hash_chain::make_parts;
+use image_codec::State;
+use poll_report::Report;
+use qr_text::write_fields;
+use std::alloc::Global;
+use urna_base::Memory;
+use urna_outside::Cabinet;
+use vote_record::rdv_text;
+
+/// The files of results, made before the first is put, so that want of memory leaves the cabinet as it was.
+#[derive(Drop)]
+pub(crate) struct Results {
+    report_name: String,
+    report: Vec<u8>,
+    record_name: String,
+    record: Vec<u8>,
+}
+
+/// The files of the sealed poll of a section, opened and closed at these moments, under the word OUT.
+pub(crate) fn results_of(
+    alloc: Global,
+    out: &str,
+    tables: &Tables,
+    section: Section,
+    state: &State,
+    opened: u64,
+    closed: u64,
+) -> Result<Results, Memory>
+    requires valid { IsTables tables.now }
+    requires section { Contains tables.now.sections section }
+    requires state { IsStateOf tables.now section.voters state.now }
+    requires sealed { state.now.phase ≡ phase.Sealed opened closed }
+    ensures { IfOk result (λ r. entries_of r ≡ result_files out.now tables.now section state.now opened closed) }
+{
+    let report = Report::of(
+        alloc,
+        tables,
+        section,
+        state.votes(),
+        state.turnout(),
+        opened,
+        closed,
+    )?;
+    let fields = write_fields(alloc, &report)?;
+    Ok(Results {
+        report_name: named(alloc, out, ".bu")?,
+        report: make_parts(alloc, &fields)?,
+        record_name: named(alloc, out, ".rdv")?,
+        record: rdv_text(alloc, tables, section, state.votes())?,
+    })
+}
+
+/// The word OUT and an ending.
+fn named(alloc: Global, out: &str, ending: &str) -> Result<String, Memory>
+    ensures { IfOk result (λ name. string_bytes name ≡ out.now ++ ending.now) }
+{
+    let mut name = String::from_str(alloc, out)?;
+    name.push_str(ending)?;
+    Ok(name)
+}
+
+/// Puts both files, the report first.
+pub(crate) fn put_results<C: Cabinet>(cabinet: &mut C, results: &Results) -> Result<(), Status>
+    ensures ok { OnOk result (HavePut (entries_of results.now) (C.told cabinet.old) (C.told cabinet.new)) }
+    ensures err { IfErr result (λ s. (s ≡ Status.Cabinet) × StopPutting (entries_of results.now) (C.told cabinet.old) (C.told cabinet.new)) }
+{
+    cabinet.put(results.report_name.as_str(), &results.report)?;
+    cabinet.put(results.record_name.as_str(), &results.record)?;
+    Ok(())
+}
