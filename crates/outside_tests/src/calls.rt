@@ -78,3 +78,15 @@ pub(crate) fn check_take<C: Cabinet>(
         Err(error) => assert_eq!(rt; Err(error), taken, "at {name:?} {limit}"),
     }
 }
+
+/// Puts a file, which ends well or not.
+pub(crate) fn check_put<C: Cabinet>(
+    rt: &impl Abort,
+    cabinet: &mut C,
+    name: &str,
+    bytes: &[u8],
+    is_ok: bool,
+) {
+    let answer = cabinet.put(name, bytes);
+    assert_eq!(rt; answer.is_ok(), is_ok, "at {name:?}");
+}

@@ -1,5 +1,5 @@
 //! What is done to real files, and what is left of them.
-use crate::calls::{Call, check_take, make_all};
+use crate::calls::{Call, check_put, check_take, make_all};
 use crate::watched::{Fault, Step, Watch, Watched};
 use std::alloc::Global;
 use std::fs;
@@ -447,5 +447,98 @@ fn a_folder_gives_a_file_up_to_the_limit(rt: HostRuntime) -> Result<(), Fail> {
         check_take(&rt, rt.alloc(), &mut folder, name, limit, taken);
     }
     fs::remove_file(&rt, name)?;
+    Ok(())
+}
+
+/// Puts a file in the stead of another, where this fails. The other name is gone then.
+fn check_watched_put(
+    abort: &impl Abort,
+    rt: &HostRuntime,
+    watch: &Watch,
+    is_ok: bool,
+    left: &[u8],
+) {
+    place(abort, rt, "put.tmp", b"1");
+    let watched = Watched { rt, watch };
+    let mut folder = FolderCabinet::new(&watched);
+    check_put(abort, &mut folder, "put.tmp", b"23", is_ok);
+    check_left(abort, rt, "put.tmp", left);
+    assert!(abort; !is_there(rt, "put.tmp.new"));
+    let _ = fs::remove_file(rt, "put.tmp");
+}
+
+#[test]
+fn a_put_is_whole_on_the_disk_before_it_has_its_name(rt: HostRuntime) {
+    let watch = Watch::new(rt.alloc(), Fault::Nothing);
+    check_watched_put(&rt, &rt, &watch, true, b"23");
+    let steps = [
+        Step::Create,
+        Step::Lock,
+        Step::Duplicate,
+        Step::Write,
+        Step::SyncAll,
+        Step::Rename,
+        Step::OpenFolder,
+        Step::SyncFolder,
+    ];
+    check_steps(&rt, rt.alloc(), &watch, &steps);
+}
+
+#[test]
+fn a_put_that_fails_leaves_the_old_file_or_the_new_one(rt: HostRuntime) {
+    for (step, left) in [
+        (Step::Create, b"1".as_slice()),
+        (Step::Duplicate, b"1"),
+        (Step::Write, b"1"),
+        (Step::SyncAll, b"1"),
+        (Step::Rename, b"1"),
+        (Step::OpenFolder, b"23"),
+        (Step::SyncFolder, b"23"),
+    ] {
+        let watch = Watch::new(rt.alloc(), Fault::Kind(step));
+        check_watched_put(&rt, &rt, &watch, false, left);
+    }
+}
+
+/// Over links, which aren't followed, and over what an earlier run left.
+#[test]
+fn a_folder_puts_files(rt: HostRuntime) -> Result<(), Fail> {
+    place(&rt, &rt, "other.tmp", b"other");
+    place(&rt, &rt, "put.tmp.new", b"left over");
+    symlink(&rt, "other.tmp", "linked.tmp")?;
+    symlink(&rt, "other.tmp", "linked.tmp.new")?;
+    fs::create_dir(&rt, "folder.tmp")?;
+    let mut folder = FolderCabinet::new(&rt);
+    for (name, bytes, is_ok) in [
+        ("put.tmp", b"1".as_slice(), true),
+        ("put.tmp", b"", true),
+        ("linked.tmp", b"23", true),
+        ("folder.tmp/put.tmp", b"4", true),
+        ("folder.tmp", b"5", false),
+        ("no/such/file", b"6", false),
+        ("put.tmp/x", b"7", false),
+        ("", b"8", false),
+        ("a\0b", b"9", false),
+    ] {
+        check_put(&rt, &mut folder, name, bytes, is_ok);
+        if is_ok {
+            check_take(&rt, rt.alloc(), &mut folder, name, 9, Ok(bytes));
+        }
+    }
+    check_left(&rt, &rt, "other.tmp", b"other");
+    for name in [
+        "put.tmp",
+        "linked.tmp",
+        "folder.tmp",
+        "folder.tmp/put.tmp",
+        "",
+    ] {
+        let unfinished = format!(in rt.alloc(); "{name}.new")?;
+        assert!(rt; !is_there(&rt, unfinished.as_str()), "{name}");
+    }
+    for name in ["other.tmp", "put.tmp", "linked.tmp", "folder.tmp/put.tmp"] {
+        fs::remove_file(&rt, name)?;
+    }
+    fs::remove_dir(&rt, "folder.tmp")?;
     Ok(())
 }

@@ -1,5 +1,5 @@
 //! Machines and a cabinet in memory.
-use crate::calls::{Call, check_take, make_all};
+use crate::calls::{Call, check_put, check_take, make_all};
 use std::alloc::Global;
 use std::process::Abort;
 use std::test::Fail;
@@ -255,6 +255,51 @@ fn a_shelf_gives_what_was_placed_last(rt: HostRuntime) -> Result<(), Fail> {
         ("rol", 3, Ok(b"234".as_slice())),
     ] {
         check_take(&rt, rt.alloc(), &mut shelf, name, limit, taken);
+    }
+    Ok(())
+}
+
+#[test]
+fn a_shelf_puts_in_its_room_and_fails_where_it_is_told_to(rt: HostRuntime) -> Result<(), Fail> {
+    let mut shelf = Shelf::new(rt.alloc(), 12, &[2])?;
+    shelf.place("rol", b"1")?;
+    shelf.place("teclas", b"M ABRE")?;
+    for (name, bytes, is_ok, left) in [
+        // 12 bytes of room, then 7 and 5.
+        ("rol", b"23".as_slice(), true, Some(b"23".as_slice())),
+        ("bu", b"", true, Some(b"".as_slice())),
+        ("rol", b"4", false, Some(b"23".as_slice())),
+        ("ro", b"1234", false, None),
+        ("rol", b"56", true, Some(b"56".as_slice())),
+        // Without room.
+        ("", b"7", false, None),
+        ("", b"", true, Some(b"".as_slice())),
+        ("teclas", b"", false, Some(b"M ABRE".as_slice())),
+    ] {
+        check_put(&rt, &mut shelf, name, bytes, is_ok);
+        assert_eq!(rt; shelf.get(name), left, "at {name:?}");
+    }
+    shelf.place("rol", b"789")?;
+    for (name, limit, taken) in [
+        ("rol", 9, Ok(b"789".as_slice())),
+        ("bu", 0, Ok(b"".as_slice())),
+        ("ro", 9, Err(CabinetError::Missing)),
+    ] {
+        check_take(&rt, rt.alloc(), &mut shelf, name, limit, taken);
+    }
+    Ok(())
+}
+
+#[test]
+fn a_shelf_has_room_for_64_puts(rt: HostRuntime) -> Result<(), Fail> {
+    let mut shelf = Shelf::new(rt.alloc(), 1000, &[])?;
+    for _ in 0..64 {
+        check_put(&rt, &mut shelf, "bu", b"1", true);
+    }
+    check_put(&rt, &mut shelf, "", b"", false);
+    shelf.place("rol", b"2")?;
+    for (name, left) in [("rol", b"2".as_slice()), ("bu", b"1")] {
+        assert_eq!(rt; shelf.get(name), Some(left), "at {name:?}");
     }
     Ok(())
 }

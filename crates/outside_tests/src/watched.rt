@@ -20,6 +20,7 @@ pub(crate) enum Step {
     SyncAll,
     SyncFolder,
     Link,
+    Rename,
     Remove,
     Show,
 }
@@ -129,8 +130,9 @@ impl<'a> Files for Watched<'a> {
         Err(io::Error::from(ErrorKind::Unsupported))
     }
 
-    fn rename(&self, _from: &str, _to: &str) -> io::Result<()> {
-        Err(io::Error::from(ErrorKind::Unsupported))
+    fn rename(&self, from: &str, to: &str) -> io::Result<()> {
+        self.watch.note(Step::Rename)?;
+        self.rt.rename(from, to)
     }
 
     fn remove_file(&self, path: &str) -> io::Result<()> {
