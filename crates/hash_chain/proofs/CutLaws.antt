@@ -97,18 +97,19 @@ takes g part [] ((f ∷ fs) ∷ rest) fits full =
     let test : nat_le (length (joined (g ∷ part)) + 1 + length f) part_size ≡ false = grind (arith, nat_tests) in
     rw test (ap (λ (l : List (List ℕ)). l ∷ cut_after (f ∷ []) (fs ++ flat_map (λ p. p) rest)) (sym same))
 
+-- what stands behind a part is as full as it can be
+pub rest_full : (p : List (List ℕ)) (qs : List (List (List ℕ))) → IsFull p qs → AreFull qs
+rest_full p [] h = tt
+rest_full p ([] ∷ qs) h = h
+rest_full p ((f ∷ fs) ∷ qs) h = h.1
+
 one_way : (parts : List (List (List ℕ))) → AllByRecursion (λ part. length (joined part) ≤ part_size) parts → AreFull parts → cut (flat_map (λ p. p) parts) ≡ parts
 unfolding cut
 one_way [] within full = refl
 one_way ([] ∷ parts) within full = absurd full
 one_way ((g ∷ part) ∷ parts) within full =
-    let rest : cut (flat_map (λ p. p) parts) ≡ parts = one_way parts within.1 (full_rest (g ∷ part) parts full) in
+    let rest : cut (flat_map (λ p. p) parts) ≡ parts = one_way parts within.1 (rest_full (g ∷ part) parts full) in
     takes g [] part parts within.0 full ∙ ap (λ (l : List (List (List ℕ))). (g ∷ part) ∷ l) rest
-  where
-    full_rest : (p : List (List ℕ)) (qs : List (List (List ℕ))) → IsFull p qs → AreFull qs
-    full_rest p [] h = tt
-    full_rest p ([] ∷ qs) h = h
-    full_rest p ((f ∷ fs) ∷ qs) h = h.1
 
 pub one_cut : OneCut
 unfolding cut
@@ -123,11 +124,6 @@ part_bytes parts = sum_by (λ p. length (joined p)) parts
 first_within : (f : List ℕ) (fs : List (List ℕ)) → length f ≤ length (joined (f ∷ fs))
 first_within f [] = omega arith
 first_within f (g ∷ fs) = omega (arith, length-append {A = ℕ})
-
-rest_full : (p : List (List ℕ)) (qs : List (List (List ℕ))) → IsFull p qs → AreFull qs
-rest_full p [] h = tt
-rest_full p ([] ∷ qs) h = h
-rest_full p ((f ∷ fs) ∷ qs) h = h.1
 
 pub few_parts : (parts : List (List (List ℕ))) → AreFull parts → 500 * length parts ≤ part_bytes parts + 500
 few_parts [] full = omega arith

@@ -8,15 +8,16 @@ use Rattle.std.proofs.lemmas.List.Splits.{length-slice_split, join_with_byte-sli
 use Rattle.std.proofs.lemmas.Slice.Eq.{bytes_eq-Decides}
 use Rattle.std.proofs.lemmas.Bool.Decides.{nat_tests}
 use Rattle.urna_base.proofs.DigitLaws.{both_from_and}
-use Rattle.hash_chain.specs.Chain.{Line, part_text, line_text, part_line, lines_from, lines_text, parts_text}
-use Rattle.hash_chain.specs.Cut.{pieces, joined, part_size, IsFull, AreFull, cut}
-use Rattle.hash_chain.specs.Lines.{IsLine, is_word, is_field, line_of, feeds_in}
+use Rattle.urna_base.proofs.WordLaws.{same_byte}
+use Rattle.hash_chain.specs.Chain.{Link, hashed_text, link_text, link_of, links_from, links_text, parts_text}
+use Rattle.hash_chain.specs.Cut.{joined, part_size, IsFull, AreFull, cut}
+use Rattle.hash_chain.specs.Lines.{IsLink, is_word, is_field, link_in, feeds_in}
 use Rattle.hash_chain.specs.Hash.{hash_text}
-use Rattle.hash_chain.specs.Fault.{failing, hash_before, fits_before, AreFields}
+use Rattle.hash_chain.specs.Fault.{failing_link, hash_before, fits_before, AreFields}
 use Rattle.hash_chain.proofs.Reading.{read_from, lines_read, text_of_lines}
-use Rattle.urna_base.specs.Words.{after_word}
+use Rattle.urna_base.specs.Words.{after_word, pieces}
 use Rattle.hash_chain.proofs.HashLaws.{hashes}
-use Rattle.hash_chain.proofs.CutLaws.{one_cut}
+use Rattle.hash_chain.proofs.CutLaws.{one_cut, rest_full}
 use Rattle.hash_chain.proofs.LineLaws.{other, all_append, decimal_other, word_other, hash_other, split_at, lines_are_read}
 
 abbrev pub Few : List (List ℕ) → Type 0
@@ -36,9 +37,9 @@ joined_other [] h = refl
 joined_other (f ∷ []) h = word_other 10 f (lit< tt) (is_word_of f h.0)
 joined_other (f ∷ g ∷ fs) h = all_append (other 10) f (32 ∷ joined (g ∷ fs)) (word_other 10 f (lit< tt) (is_word_of f h.0)) (joined_other (g ∷ fs) h.1)
 
-line_other : (l : Line) → IsLine l → l.number < 10 ^ 18 → l.parts < 10 ^ 18 → list_all (other 10) (line_text l) ≡ true
+line_other : (l : Link) → IsLink l → l.number < 10 ^ 18 → l.parts < 10 ^ 18 → list_all (other 10) (link_text l) ≡ true
 line_other l h sa sb =
-    all_append (other 10) (part_text l) (codes " HASH:" ++ l.hash)
+    all_append (other 10) (hashed_text l) (codes " HASH:" ++ l.hash)
     (all_append (other 10) (decimal l.number) (58 ∷ (decimal l.parts ++ (codes " VRQR:" ++ (l.version ++ 32 ∷ joined l.fields)))) (decimal_other 10 l.number (inl (lit< tt)) sa)
     (all_append (other 10) (decimal l.parts) (codes " VRQR:" ++ (l.version ++ 32 ∷ joined l.fields)) (decimal_other 10 l.parts (inl (lit< tt)) sb)
     (all_append (other 10) l.version (32 ∷ joined l.fields) (word_other 10 l.version (lit< tt) h.version) (joined_other l.fields h.fields))))
@@ -46,55 +47,52 @@ line_other l h sa sb =
 
 -- ---- a file is split into its lines
 
-abbrev Lines : List Line → Type 0
-Lines ls = AllByRecursion (λ l. IsLine l × (l.number < 10 ^ 18) × (l.parts < 10 ^ 18)) ls
+abbrev Lines : List Link → Type 0
+Lines ls = AllByRecursion (λ l. IsLink l × (l.number < 10 ^ 18) × (l.parts < 10 ^ 18)) ls
 
-split_file : (ls : List Line) → Lines ls → slice_split (λ b. b == 10) (lines_text ls) ≡ map line_text ls ++ [] ∷ []
+split_file : (ls : List Link) → Lines ls → slice_split (λ b. b == 10) (links_text ls) ≡ map link_text ls ++ [] ∷ []
 split_file [] h = refl
-split_file (l ∷ ls) h = split_at 10 (line_text l) (lines_text ls) (line_other l h.0.0 h.0.1 h.0.2) ∙ ap (λ (x : List (List ℕ)). line_text l ∷ x) (split_file ls h.1)
+split_file (l ∷ ls) h = split_at 10 (link_text l) (links_text ls) (line_other l h.0.0 h.0.1 h.0.2) ∙ ap (λ (x : List (List ℕ)). link_text l ∷ x) (split_file ls h.1)
 
-pub length_lines : (ls : List Line) → length (map line_text ls ++ [] ∷ []) ≡ length ls + 1
+pub length_lines : (ls : List Link) → length (map link_text ls ++ [] ∷ []) ≡ length ls + 1
 length_lines [] = refl
 length_lines (l ∷ ls) = let rest = length_lines ls in omega arith
 
-feeds_of : (ls : List Line) → Lines ls → feeds_in (lines_text ls) ≡ length ls
+feeds_of : (ls : List Link) → Lines ls → feeds_in (links_text ls) ≡ length ls
 feeds_of ls h =
-    let pieces_count = length-slice_split (λ (b : ℕ). b == 10) (lines_text ls) in
+    let pieces_count = length-slice_split (λ (b : ℕ). b == 10) (links_text ls) in
     let parts_count = ap (λ (x : List (List ℕ)). length x) (split_file ls h) ∙ length_lines ls in
     omega arith
 
-length_from : (n i : ℕ) (before : List ℕ) (parts : List (List (List ℕ))) → length (lines_from n i before parts) ≡ length parts
+length_from : (n i : ℕ) (before : List ℕ) (parts : List (List (List ℕ))) → length (links_from n i before parts) ≡ length parts
 length_from n i before [] = refl
-length_from n i before (p ∷ parts) = let rest = length_from n (i + 1) (part_line n i before p).hash parts in omega arith
+length_from n i before (p ∷ parts) = let rest = length_from n (i + 1) (link_of n i before p).hash parts in omega arith
 
 are_lines : (n i : ℕ) (before : List ℕ) (parts : List (List (List ℕ))) → Parts parts → n < 10 ^ 18 → i + length parts ≤ n + 1
-    → Lines (lines_from n i before parts)
+    → Lines (links_from n i before parts)
 are_lines n i before [] h few room = tt
 are_lines n i before (p ∷ parts) h few room =
     let small : i < 10 ^ 18 = omega arith in
     let test_i : nat_lt i (10 ^ 18) ≡ true = grind (arith, nat_tests) in
     let test_n : nat_lt n (10 ^ 18) ≡ true = grind (arith, nat_tests) in (
       (record { number = test_i; parts = test_n; version = refl; some = h.0.0; fields = h.0.1; hash = hashes _ }, small, few),
-      are_lines n (i + 1) (part_line n i before p).hash parts h.1 few (omega arith),
+      are_lines n (i + 1) (link_of n i before p).hash parts h.1 few (omega arith),
     )
 
 -- ---- each line passes the five tests
 
-same_number : (n : ℕ) → (n == n) ≡ true
-same_number n = grind (arith, nat_tests)
-
 same_bytes : (t : List ℕ) → bytes_eq t t ≡ true
 same_bytes t = (bytes_eq-Decides t t).1 refl
 
-no_fault : (n i : ℕ) (before : Option Line) (p : List (List ℕ)) → length (joined p) ≤ part_size → fits_before before p ≡ false
-    → failing n i before (part_line n i (hash_before before) p) ≡ None
-unfolding failing
+no_fault : (n i : ℕ) (before : Option Link) (p : List (List ℕ)) → length (joined p) ≤ part_size → fits_before before p ≡ false
+    → failing_link n i before (link_of n i (hash_before before) p) ≡ None
+unfolding failing_link
 no_fault n i before p within full =
     let long : nat_lt part_size (length (joined p)) ≡ false = grind (arith, nat_tests) in
-    rw (same_number i, same_number n, same_bytes (hash_text (hash_before before ++ part_text (part_line n i (hash_before before) p))), long, full) refl
+    rw (same_byte i, same_byte n, same_bytes (hash_text (hash_before before ++ hashed_text (link_of n i (hash_before before) p))), long, full) refl
 
 -- a line behind a part that is full
-behind : (l : Line) (part : List (List ℕ)) (p : List (List ℕ)) (parts : List (List (List ℕ))) → l.fields ≡ part → IsFull part (p ∷ parts) → fits_before (Some l) p ≡ false
+behind : (l : Link) (part : List (List ℕ)) (p : List (List ℕ)) (parts : List (List (List ℕ))) → l.fields ≡ part → IsFull part (p ∷ parts) → fits_before (Some l) p ≡ false
 behind l part [] parts e h = absurd h
 behind l part (f ∷ fs) parts e h = let over = h.0 in let same = ap (λ (x : List (List ℕ)). length (joined x)) e in grind (arith, nat_tests)
 
@@ -102,45 +100,40 @@ full_of : (p : List (List ℕ)) (parts : List (List (List ℕ))) → AreFull (p 
 full_of [] parts h = absurd h
 full_of (f ∷ fs) parts h = h
 
-rest_of : (p : List (List ℕ)) (parts : List (List (List ℕ))) → IsFull p parts → AreFull parts
-rest_of p [] h = tt
-rest_of p ([] ∷ parts) h = absurd h
-rest_of p ((f ∷ fs) ∷ parts) h = h.1
-
 -- the first part does not fit into the one before
-abbrev FirstFits : Option Line → List (List (List ℕ)) → Type 0
+abbrev FirstFits : Option Link → List (List (List ℕ)) → Type 0
 FirstFits before [] = Unit {0}
 FirstFits before (p ∷ parts) = fits_before before p ≡ false
 
-pub read_step : (n i : ℕ) (before : Option Line) (bytes next : List ℕ) (rest : List (List ℕ)) (l : Line) (ls : List Line)
-    → line_of bytes ≡ Some l → failing n i before l ≡ None → read_from n (i + 1) (Some l) (next ∷ rest) ≡ Ok ls → read_from n i before (bytes ∷ next ∷ rest) ≡ Ok (l ∷ ls)
+pub read_step : (n i : ℕ) (before : Option Link) (bytes next : List ℕ) (rest : List (List ℕ)) (l : Link) (ls : List Link)
+    → link_in bytes ≡ Some l → failing_link n i before l ≡ None → read_from n (i + 1) (Some l) (next ∷ rest) ≡ Ok ls → read_from n i before (bytes ∷ next ∷ rest) ≡ Ok (l ∷ ls)
 unfolding read_from
 read_step n i before bytes next rest l ls h g k = rw (h, g, read_from) (rw k refl)
 
-read_end : (n i : ℕ) (before : Option Line) → nat_lt 1 i ≡ true → read_from n i before ([] ∷ []) ≡ Ok []
+read_end : (n i : ℕ) (before : Option Link) → nat_lt 1 i ≡ true → read_from n i before ([] ∷ []) ≡ Ok []
 unfolding read_from
 read_end n i before test = rw test refl
 
-read_lines : (n i : ℕ) (before : Option Line) (parts : List (List (List ℕ))) → (1 < i) ⊎ (0 < length parts) → AllByRecursion (λ p. length (joined p) ≤ part_size) parts → AreFull parts
-    → Lines (lines_from n i (hash_before before) parts) → FirstFits before parts
-    → 0 < i → read_from n i before (map line_text (lines_from n i (hash_before before) parts) ++ [] ∷ []) ≡ Ok (lines_from n i (hash_before before) parts)
+read_lines : (n i : ℕ) (before : Option Link) (parts : List (List (List ℕ))) → (1 < i) ⊎ (0 < length parts) → AllByRecursion (λ p. length (joined p) ≤ part_size) parts → AreFull parts
+    → Lines (links_from n i (hash_before before) parts) → FirstFits before parts
+    → 0 < i → read_from n i before (map link_text (links_from n i (hash_before before) parts) ++ [] ∷ []) ≡ Ok (links_from n i (hash_before before) parts)
 read_lines n i before [] later within full are first some =
     let test : nat_lt 1 i ≡ true = elim later [ inl l ↦ grind (arith, nat_tests) | inr l ↦ absurd (omega arith) ] in read_end n i before test
 read_lines n i before (p ∷ []) later within full are first some =
-    let line : Line = part_line n i (hash_before before) p in
+    let line : Link = link_of n i (hash_before before) p in
     let test : nat_lt 1 (i + 1) ≡ true = grind (arith, nat_tests) in
-    read_step n i before (line_text line) [] [] line [] (lines_are_read line are.0.0) (no_fault n i before p within.0 first) (read_end n (i + 1) (Some line) test)
+    read_step n i before (link_text line) [] [] line [] (lines_are_read line are.0.0) (no_fault n i before p within.0 first) (read_end n (i + 1) (Some line) test)
 read_lines n i before (p ∷ q ∷ parts) later within full are first some =
-    let line : Line = part_line n i (hash_before before) p in
+    let line : Link = link_of n i (hash_before before) p in
     let here = full_of p (q ∷ parts) full in
-    let rest = read_lines n (i + 1) (Some line) (q ∷ parts) (inr (omega arith)) within.1 (rest_of p (q ∷ parts) here) are.1 (behind line p q parts refl here) (omega arith) in
-    read_step n i before (line_text line) _ _ line _ (lines_are_read line are.0.0) (no_fault n i before p within.0 first) rest
+    let rest = read_lines n (i + 1) (Some line) (q ∷ parts) (inr (omega arith)) within.1 (rest_full p (q ∷ parts) here) are.1 (behind line p q parts refl here) (omega arith) in
+    read_step n i before (link_text line) _ _ line _ (lines_are_read line are.0.0) (no_fault n i before p within.0 first) rest
 
 -- ---- the fields come back
 
-fields_from : (n i : ℕ) (before : List ℕ) (parts : List (List (List ℕ))) → flat_map (λ l. l.fields) (lines_from n i before parts) ≡ flat_map (λ p. p) parts
+fields_from : (n i : ℕ) (before : List ℕ) (parts : List (List (List ℕ))) → flat_map (λ l. l.fields) (links_from n i before parts) ≡ flat_map (λ p. p) parts
 fields_from n i before [] = refl
-fields_from n i before (p ∷ parts) = ap (λ (x : List (List ℕ)). p ++ x) (fields_from n (i + 1) (part_line n i before p).hash parts)
+fields_from n i before (p ∷ parts) = ap (λ (x : List (List ℕ)). p ++ x) (fields_from n (i + 1) (link_of n i before p).hash parts)
 
 -- the parts of fields are parts of fields
 few_left : (a b : List (List ℕ)) → Few (a ++ b) → Few a × Few b
@@ -153,7 +146,7 @@ parts_of_fields ([] ∷ parts) h full = absurd full
 parts_of_fields ((f ∷ fs) ∷ parts) h full =
     let both = few_left (f ∷ fs) (flat_map (λ p. p) parts) h in
     let some : nat_lt 0 (length (f ∷ fs)) ≡ true = grind (arith, nat_tests) in
-    ((some, both.0), parts_of_fields parts both.1 (rest_of (f ∷ fs) parts full))
+    ((some, both.0), parts_of_fields parts both.1 (rest_full (f ∷ fs) parts full))
 
 few_of : (fs : List (List ℕ)) → AllByRecursion (λ f. (is_field f ≡ true) × (length f ≤ part_size)) fs → Few fs
 few_of [] h = tt
@@ -169,7 +162,7 @@ some_parts (p ∷ parts) fs e some = omega arith
 
 -- the lines of a file that was made
 made_lines : (fs : List (List ℕ)) → AreFields fs → length (cut fs) < 10 ^ 18
-    → lines_read (lines_text (lines_from (length (cut fs)) 1 [] (cut fs))) ≡ Ok (lines_from (length (cut fs)) 1 [] (cut fs))
+    → lines_read (links_text (links_from (length (cut fs)) 1 [] (cut fs))) ≡ Ok (links_from (length (cut fs)) 1 [] (cut fs))
 unfolding lines_read
 made_lines fs fields few =
     let c = (one_cut fs fields).0 in
@@ -177,18 +170,18 @@ made_lines fs fields few =
     let parts = parts_of_fields (cut fs) (subst P (sym c.all) (few_of fs fields.1)) c.full in
     let n : ℕ = length (cut fs) in
     let are = are_lines n 1 [] (cut fs) parts few (omega arith) in
-    let feeds : feeds_in (lines_text (lines_from (length (cut fs)) 1 [] (cut fs))) ≡ n = feeds_of (lines_from (length (cut fs)) 1 [] (cut fs)) are ∙ length_from n 1 [] (cut fs) in
-    let split = split_file (lines_from (length (cut fs)) 1 [] (cut fs)) are in
-    ap (λ (k : ℕ). read_from k 1 None (slice_split (λ b. b == 10) (lines_text (lines_from (length (cut fs)) 1 [] (cut fs))))) feeds
+    let feeds : feeds_in (links_text (links_from (length (cut fs)) 1 [] (cut fs))) ≡ n = feeds_of (links_from (length (cut fs)) 1 [] (cut fs)) are ∙ length_from n 1 [] (cut fs) in
+    let split = split_file (links_from (length (cut fs)) 1 [] (cut fs)) are in
+    ap (λ (k : ℕ). read_from k 1 None (slice_split (λ b. b == 10) (links_text (links_from (length (cut fs)) 1 [] (cut fs))))) feeds
     ∙ (ap (λ (x : List (List ℕ)). read_from n 1 None x) split
     ∙ read_lines n 1 None (cut fs) (inr (some_parts (cut fs) fs c.all fields.0)) c.within c.full are (no_first (cut fs)) (lit< tt))
 
 -- the file of a text is read as the lines that it has, and these say the text
 pub rereads : (text : List ℕ) → AreFields (pieces text) → length (cut (pieces text)) < 10 ^ 18
-    → (ls : List Line) × (lines_read (parts_text text) ≡ Ok ls) × (text_of_lines ls ≡ text)
+    → (ls : List Link) × (lines_read (parts_text text) ≡ Ok ls) × (text_of_lines ls ≡ text)
 unfolding parts_text
 rereads text fields few =
-    let ls : List Line = lines_from (length (cut (pieces text))) 1 [] (cut (pieces text)) in
+    let ls : List Link = links_from (length (cut (pieces text))) 1 [] (cut (pieces text)) in
     let c = (one_cut (pieces text) fields).0 in
     let joined_text : joined (flat_map (λ l. l.fields) ls) ≡ text =
     ap (λ (x : List (List ℕ)). joined x) (fields_from (length (cut (pieces text))) 1 [] (cut (pieces text)) ∙ c.all) ∙ join_with_byte-slice_split 32 text in

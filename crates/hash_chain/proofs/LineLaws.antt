@@ -8,13 +8,13 @@ use Rattle.std.proofs.lemmas.List.Elements.{All-nil, All-cons}
 use Rattle.std.proofs.lemmas.Bool.Decides.{nat_tests}
 use Rattle.urna_base.specs.Digits.{is_digit}
 use Rattle.urna_base.specs.Moment.{is_between}
-use Rattle.urna_base.proofs.DecimalLaws.{decimal_value-decimal, decimal_value-some}
+use Rattle.urna_base.proofs.DecimalLaws.{decimal_value-decimal, all_digits}
 use Rattle.urna_base.proofs.DigitLaws.{both_from_and}
-use Rattle.hash_chain.specs.Chain.{Line, line_text}
-use Rattle.hash_chain.specs.Cut.{pieces, joined}
-use Rattle.hash_chain.specs.Lines.{IsLine, is_word, is_field, two_numbers, fields_and_hash, line_of_pieces, line_of}
+use Rattle.hash_chain.specs.Chain.{Link, link_text}
+use Rattle.hash_chain.specs.Cut.{joined}
+use Rattle.hash_chain.specs.Lines.{IsLink, is_word, is_field, two_numbers, fields_and_hash, link_of_pieces, link_in}
 use Rattle.hash_chain.specs.Hash.{is_hash}
-use Rattle.urna_base.specs.Words.{after_word}
+use Rattle.urna_base.specs.Words.{after_word, pieces}
 
 -- ---- bytes that are no separators
 
@@ -44,15 +44,12 @@ pub all_weaker : (p q : ℕ → Bool) → ((x : ℕ) → p x ≡ true → q x �
 all_weaker p q weaker [] h = refl
 all_weaker p q weaker (x ∷ t) h = let both = both_from_and (p x) (list_all p t) h in rw (weaker x both.0, all_weaker p q weaker t both.1) refl
 
-digits_of : (v : ℕ) → v < 10 ^ 18 → list_all is_digit (decimal v) ≡ true
-digits_of v s = (decimal_value-some (decimal v) v (decimal_value-decimal v s)).0.all
-
 digit_other : (c : ℕ) → (c < 48) ⊎ (57 < c) → (x : ℕ) → is_digit x ≡ true → other c x ≡ true
 digit_other c (inl out) x h = grind (arith, nat_tests)
 digit_other c (inr out) x h = grind (arith, nat_tests)
 
 pub decimal_other : (c v : ℕ) → (c < 48) ⊎ (57 < c) → v < 10 ^ 18 → list_all (other c) (decimal v) ≡ true
-decimal_other c v out s = all_weaker is_digit (other c) (digit_other c out) (decimal v) (digits_of v s)
+decimal_other c v out s = all_weaker is_digit (other c) (digit_other c out) (decimal v) (all_digits v s)
 
 printed_other : (c : ℕ) → c < 33 → (x : ℕ) → is_between 33 126 x ≡ true → other c x ≡ true
 printed_other c low x h = grind (arith, nat_tests)
@@ -97,8 +94,8 @@ shape : (q a b w v j h : List ℕ)
     → (q ++ (a ++ 58 ∷ (b ++ (32 ∷ (w ++ (v ++ 32 ∷ j)))))) ++ (32 ∷ h) ≡ (q ++ (a ++ 58 ∷ b)) ++ (32 ∷ ((w ++ v) ++ (32 ∷ (j ++ 32 ∷ h))))
 shape q a b w v j h = simp append_assoc
 
-pub regroup : (l : Line) (f : List ℕ) (fs : List (List ℕ)) → l.fields ≡ f ∷ fs
-    → line_text l ≡ numbers_text l.number l.parts ++ (32 ∷ (version_text l.version ++ (32 ∷ joined ((f ∷ fs) ++ (codes "HASH:" ++ l.hash) ∷ []))))
+pub regroup : (l : Link) (f : List ℕ) (fs : List (List ℕ)) → l.fields ≡ f ∷ fs
+    → link_text l ≡ numbers_text l.number l.parts ++ (32 ∷ (version_text l.version ++ (32 ∷ joined ((f ∷ fs) ++ (codes "HASH:" ++ l.hash) ∷ []))))
 regroup l f fs e =
     let last = joined_more f fs (codes "HASH:" ++ l.hash) in
     let same = ap (λ (x : List (List ℕ)). joined x) e in
@@ -120,11 +117,11 @@ some_fields f fs = grind (arith, nat_tests)
 below_test : (a b : ℕ) → nat_lt a b ≡ true → a < b
 below_test a b h = grind (arith, nat_tests)
 
-pub lines_are_read : (l : Line) → IsLine l → line_of (line_text l) ≡ Some l
-unfolding line_of
+pub lines_are_read : (l : Link) → IsLink l → link_in (link_text l) ≡ Some l
+unfolding link_in
 lines_are_read l h = go l.fields refl
   where
-    go : (fs : List (List ℕ)) → l.fields ≡ fs → line_of_pieces (pieces (line_text l)) ≡ Some l
+    go : (fs : List (List ℕ)) → l.fields ≡ fs → link_of_pieces (pieces (link_text l)) ≡ Some l
     go [] e = let some = h.some in let none = ap (λ (x : List (List ℕ)). nat_lt 0 (length x)) e in absurd (cc)
     go (f ∷ fs) e =
         let sa : l.number < 10 ^ 18 = below_test l.number (10 ^ 18) h.number in
@@ -135,9 +132,9 @@ lines_are_read l h = go l.fields refl
         let first = split_at 32 (numbers_text l.number l.parts) (version_text l.version ++ 32 ∷ joined words) (numbers_other l.number l.parts sa sb) in
         let second = split_at 32 (version_text l.version) (joined words) (word_other 32 l.version (lit< tt) h.version) in
         let third = split_joined 32 f (fs ++ (codes "HASH:" ++ l.hash) ∷ []) (fields_other (f ∷ fs) l.hash fine h.hash) in
-        let all : pieces (line_text l) ≡ numbers_text l.number l.parts ∷ version_text l.version ∷ words =
+        let all : pieces (link_text l) ≡ numbers_text l.number l.parts ∷ version_text l.version ∷ words =
         ap (λ (x : List ℕ). pieces x) (regroup l f fs e) ∙ (first ∙ ap (λ (x : List (List ℕ)). numbers_text l.number l.parts ∷ x) (second ∙ ap (λ (x : List (List ℕ)). version_text l.version ∷ x) third)) in
         let record_same : record { number = l.number; parts = l.parts; version = l.version; fields = f ∷ fs; hash = l.hash } ≡ l =
         ap (λ (x : List (List ℕ)). record { number = l.number; parts = l.parts; version = l.version; fields = x; hash = l.hash }) (sym e) in
-        ap (λ (x : List (List ℕ)). line_of_pieces x) all
-        ∙ (rw (two_read l.number l.parts sa sb, read_fields (f ∷ fs) l.hash fine h.hash, h.version, some_fields f fs) refl ∙ ap (λ (x : Line). Some x) record_same)
+        ap (λ (x : List (List ℕ)). link_of_pieces x) all
+        ∙ (rw (two_read l.number l.parts sa sb, read_fields (f ∷ fs) l.hash fine h.hash, h.version, some_fields f fs) refl ∙ ap (λ (x : Link). Some x) record_same)

@@ -7,20 +7,21 @@ use Rattle.std.proofs.lemmas.Bool.Decides.{nat_tests}
 use Rattle.std.proofs.Math.Seq.{drop-append_seam}
 use Rattle.std.proofs.lemmas.List.Splits.{join_with_byte-slice_split}
 use Rattle.urna_base.specs.Digits.{decimal_value, is_digit}
-use Rattle.urna_base.specs.Words.{after_word}
+use Rattle.urna_base.specs.Words.{after_word, pieces}
 use Rattle.urna_base.proofs.DecimalLaws.{decimal_value-some}
 use Rattle.urna_base.proofs.DigitLaws.{both_from_and}
 use Rattle.urna_base.proofs.WordLaws.{after_word-append}
+use Rattle.urna_base.proofs.Cases.{and_then_some, guard_some, option_cases}
+use Rattle.urna_base.proofs.PieceLaws.{no_split, split_first}
 use Rattle.hash_chain.proofs.LineLaws.{all_weaker, fields_other, joined_more, other, read_fields, split_joined, split_last, word_other}
-use Rattle.hash_chain.proofs.LinesBack.{and_then_some, fields_back, guard_some, line_back}
-use Rattle.hash_chain.proofs.PieceLaws.{joined_pieces, no_split, some_piece, split_first}
-use Rattle.hash_chain.proofs.Remaking.{option_cases}
+use Rattle.hash_chain.proofs.LinesBack.{fields_back, line_back}
+use Rattle.hash_chain.proofs.PieceLaws.{joined_pieces, some_piece}
 use Rattle.hash_chain.proofs.FileLaws.{is_word_of}
 use Rattle.hash_chain.proofs.Sizes.{hash_length}
-use Rattle.hash_chain.specs.Chain.{Line, part_text}
-use Rattle.hash_chain.specs.Cut.{joined, pieces}
+use Rattle.hash_chain.specs.Chain.{Link, hashed_text}
+use Rattle.hash_chain.specs.Cut.{joined}
 use Rattle.hash_chain.specs.Hash.{is_hash}
-use Rattle.hash_chain.specs.Lines.{fields_and_hash, is_field, is_word, line_of, line_of_pieces, only, two_numbers}
+use Rattle.hash_chain.specs.Lines.{fields_and_hash, is_field, is_word, link_in, link_of_pieces, only, two_numbers}
 use Rattle.hash_chain.specs.Reading.{line_by, made, numbers_in, tail_of, version_in}
 
 -- ---- two numbers
@@ -174,19 +175,19 @@ by_three (Some n) None o = refl
 by_three (Some n) (Some w) None = no_tail n (only (is_word w) w)
 by_three (Some n) (Some w) (Some y) = both_tests n w y (is_word w) (nat_lt 0 (length y.0))
 
-pub line_of_three : (row q v tail : List ℕ) (rest : List (List ℕ)) → pieces row ≡ q ∷ rest → rest ≡ v ∷ pieces tail → line_of row ≡ line_by (numbers_in q) (version_in v) (tail_of tail)
-unfolding line_of tail_of
+pub line_of_three : (row q v tail : List ℕ) (rest : List (List ℕ)) → pieces row ≡ q ∷ rest → rest ≡ v ∷ pieces tail → link_in row ≡ line_by (numbers_in q) (version_in v) (tail_of tail)
+unfolding link_in tail_of
 line_of_three row q v tail rest e g =
-    ap (λ (l : List (List ℕ)). line_of_pieces l) (e ∙ ap (λ (l : List (List ℕ)). q ∷ l) g)
+    ap (λ (l : List (List ℕ)). link_of_pieces l) (e ∙ ap (λ (l : List (List ℕ)). q ∷ l) g)
     ∙ by_three (numbers_in q) (after_word (codes "VRQR:") v) (fields_and_hash (pieces tail))
 
-pub no_line_one : (row q : List ℕ) → pieces row ≡ q ∷ [] → line_of row ≡ None
-unfolding line_of
-no_line_one row q e = ap (λ (l : List (List ℕ)). line_of_pieces l) e
+pub no_line_one : (row q : List ℕ) → pieces row ≡ q ∷ [] → link_in row ≡ None
+unfolding link_in
+no_line_one row q e = ap (λ (l : List (List ℕ)). link_of_pieces l) e
 
-pub no_line_two : (row q v : List ℕ) (rest : List (List ℕ)) → pieces row ≡ q ∷ rest → rest ≡ v ∷ [] → line_of row ≡ None
-unfolding line_of
-no_line_two row q v rest e g = ap (λ (l : List (List ℕ)). line_of_pieces l) (e ∙ ap (λ (l : List (List ℕ)). q ∷ l) g) ∙ by_first (numbers_in q)
+pub no_line_two : (row q v : List ℕ) (rest : List (List ℕ)) → pieces row ≡ q ∷ rest → rest ≡ v ∷ [] → link_in row ≡ None
+unfolding link_in
+no_line_two row q v rest e g = ap (λ (l : List (List ℕ)). link_of_pieces l) (e ∙ ap (λ (l : List (List ℕ)). q ∷ l) g) ∙ by_first (numbers_in q)
   where
     by_first : (n : Option (ℕ × ℕ)) → option_and_then (λ m. option_and_then (λ w. option_and_then (λ x. only (is_word w && nat_lt 0 (length x.0)) (made m w x)) None) (after_word (codes "VRQR:") v)) n ≡ None
     by_first None = refl
@@ -196,32 +197,21 @@ no_line_two row q v rest e g = ap (λ (l : List (List ℕ)). line_of_pieces l) (
         by_version None = refl
         by_version (Some w) = refl
 
-pub no_numbers : (v : Option (List ℕ)) (x : Option (List (List ℕ) × List ℕ)) → line_by None v x ≡ None
-no_numbers v x = refl
-
-pub no_version : (n : Option (ℕ × ℕ)) (x : Option (List (List ℕ) × List ℕ)) → line_by n None x ≡ None
-no_version None x = refl
-no_version (Some n) x = refl
-
-pub no_fields : (n : Option (ℕ × ℕ)) (v : Option (List ℕ)) → line_by n v None ≡ None
-no_fields None v = refl
-no_fields (Some n) v = sym (no_tail n v)
-
 -- ---- the text that is hashed
 
-pub line_long : (row : List ℕ) (l : Line) → line_of row ≡ Some l → (134 ≤ length row) × (take (length row - 134) row ≡ part_text l)
+pub line_long : (row : List ℕ) (l : Link) → link_in row ≡ Some l → (134 ≤ length row) × (take (length row - 134) row ≡ hashed_text l)
 line_long row l e =
     let back = line_back row l e in
     let size = hash_length l.hash back.0.hash in
-    let both = length-append (part_text l) (codes " HASH:" ++ l.hash) in
+    let both = length-append (hashed_text l) (codes " HASH:" ++ l.hash) in
     let same = ap (λ (t : List ℕ). length t) back.1 in
-    let less : length row - 134 ≡ length (part_text l) = omega arith in
-    (omega arith, ap (λ (n : ℕ). take n row) less ∙ (ap (λ (t : List ℕ). take (length (part_text l)) t) back.1 ∙ take_front (part_text l) (codes " HASH:" ++ l.hash)))
+    let less : length row - 134 ≡ length (hashed_text l) = omega arith in
+    (omega arith, ap (λ (n : ℕ). take n row) less ∙ (ap (λ (t : List ℕ). take (length (hashed_text l)) t) back.1 ∙ take_front (hashed_text l) (codes " HASH:" ++ l.hash)))
 
 -- ---- the three things that a line says make it
 
-pub line_made : (row q v tail : List ℕ) (n : ℕ × ℕ) (w : List ℕ) (y : List (List ℕ) × List ℕ) → line_of row ≡ line_by (numbers_in q) (version_in v) (tail_of tail)
-    → Some n ≡ numbers_in q → Some w ≡ version_in v → tail_of tail ≡ Some y → line_of row ≡ Some (made n w y)
+pub line_made : (row q v tail : List ℕ) (n : ℕ × ℕ) (w : List ℕ) (y : List (List ℕ) × List ℕ) → link_in row ≡ line_by (numbers_in q) (version_in v) (tail_of tail)
+    → Some n ≡ numbers_in q → Some w ≡ version_in v → tail_of tail ≡ Some y → link_in row ≡ Some (made n w y)
 line_made row q v tail n w y e numbers version tail_is =
     e ∙ (ap (λ (o : Option (ℕ × ℕ)). line_by o (version_in v) (tail_of tail)) (sym numbers)
     ∙ (ap (λ (o : Option (List ℕ)). line_by (Some n) o (tail_of tail)) (sym version) ∙ ap (λ (o : Option (List (List ℕ) × List ℕ)). line_by (Some n) (Some w) o) tail_is))

@@ -1,37 +1,19 @@
 -- The pieces of a text, at a separator and behind it.
 use Rattle.std.proofs.Common.{◌≡◌, ◌≢◌, ℕ, zero, suc, List, [], ◌∷◌, ◌++◌, ◌+◌, ◌<◌, ◌≤◌, length, take, drop, get_or, Bool, true, false, not, Some, None, refl, sym, ap, ◌∙◌, arith}
-use Rattle.std.specs.Prelude.{◌==◌, ◌&&◌, position, nat_lt, if◌then◌else◌, codes, is_none}
+use Rattle.std.specs.Prelude.{◌==◌, ◌&&◌, position, nat_lt, codes, is_none}
 use Rattle.std.specs.List.{slice_split, position_or_len, onto_first, list_all}
 use Rattle.std.proofs.lemmas.Bool.{ltb-true, ltb-false}
 use Rattle.std.proofs.lemmas.Bool.Decides.{nat_tests}
-use Rattle.std.proofs.lemmas.Grind.{common_steps}
 use Rattle.std.proofs.lemmas.List.{take-append-drop}
-use Rattle.std.proofs.lemmas.List.Splits.{slice_split_first, slice_split_none, slice_split-cons_no, length-slice_split, join_with_byte-slice_split}
+use Rattle.std.proofs.lemmas.List.Splits.{slice_split-cons_no, length-slice_split, join_with_byte-slice_split}
 use Rattle.std.proofs.lemmas.List.Sums.{fails_before_first, passes_at_first}
-use Rattle.urna_base.specs.Words.{after_word}
+use Rattle.urna_base.specs.Words.{after_word, pieces}
 use Rattle.urna_base.proofs.DigitLaws.{both_from_and, some_from_test}
+use Rattle.urna_base.proofs.Cases.{guard_none}
 use Rattle.hash_chain.proofs.LineLaws.{other, split_at, split_last}
-use Rattle.hash_chain.specs.Cut.{joined, pieces}
+use Rattle.hash_chain.specs.Cut.{joined}
 use Rattle.hash_chain.specs.Lines.{is_field}
 use Rattle.hash_chain.specs.Reading.{is_printed}
-
-none_of : (b : Bool) (i : ℕ) → (if b then Some i else None) ≡ None → b ≡ false
-none_of true i h = absurd (cc)
-none_of false i h = refl
-
--- the pieces of a text at the first separator, and behind it
-pub split_first : (is : ℕ → Bool) (text : List ℕ) (end : ℕ) → position is text ≡ Some end → slice_split is text ≡ take end text ∷ slice_split is (drop (end + 1) text)
-split_first is text end h =
-    let both = some_from_test (nat_lt (position_or_len is text) (length text)) (position_or_len is text) end h in
-    let within : position_or_len is text < length text = ltb-true _ _ both.0 in
-    rw (← both.1) (slice_split_first is text 0 within)
-
--- a text with no separator is one piece
-pub no_split : (is : ℕ → Bool) (text : List ℕ) → position is text ≡ None → slice_split is text ≡ text ∷ []
-no_split is text h =
-    let past = none_of (nat_lt (position_or_len is text) (length text)) (position_or_len is text) h in
-    let far : length text ≤ position_or_len is text = ltb-false _ _ past in
-    slice_split_none is text (λ k e m. let near = fails_before_first is text k e (grind (arith, common_steps)) in grind (arith, common_steps))
 
 -- there is always a piece, if an empty one
 pub some_piece : (is : ℕ → Bool) (text : List ℕ) → 0 < length (slice_split is text)
@@ -77,7 +59,7 @@ other_at_first text end h =
 
 pub word_to_end : (text : List ℕ) → position isnt text ≡ None → list_all is_printed (take (length text) text) ≡ true
 word_to_end text h =
-    let past = none_of (nat_lt (position_or_len isnt text) (length text)) (position_or_len isnt text) h in
+    let past = guard_none (nat_lt (position_or_len isnt text) (length text)) (position_or_len isnt text) h in
     let far : length text ≤ position_or_len isnt text = ltb-false _ _ past in
     printed_to text (length text) (λ k l. fails_before_first isnt text k 0 (omega arith))
 

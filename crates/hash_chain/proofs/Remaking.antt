@@ -1,33 +1,36 @@
 -- A file that is read was made so.
 use Rattle.std.proofs.Common.{◌≡◌, ℕ, ◌+◌, ◌<◌, ◌≤◌, Bool, true, false, List, [], ◌∷◌, ◌++◌, length, map, Option, Some, None, refl, sym, ap, ◌∙◌, subst, ◌⊎◌, inl, inr, arith, lit<, length-append}
-use Rattle.std.specs.Prelude.{nat_lt, nat_le, ◌==◌, ◌&&◌, if◌then◌else◌, Result, Ok, Err}
+use Rattle.std.specs.Prelude.{nat_lt, nat_le, ◌==◌, ◌&&◌, if◌then◌else◌, Ok, Err}
 use Rattle.std.specs.List.{slice_split, list_all, AllByRecursion, flat_map, join_with_byte}
 use Rattle.std.proofs.lemmas.List.Splits.{join_with_byte-slice_split, length-slice_split}
 use Rattle.std.proofs.lemmas.Bool.Decides.{nat_tests}
+use Rattle.std.proofs.lemmas.Bool.{ltb-true}
 use Rattle.urna_base.proofs.DigitLaws.{both_from_and}
-use Rattle.hash_chain.specs.Chain.{Line, line_text, part_line, lines_from, lines_text, parts_text}
-use Rattle.hash_chain.specs.Cut.{pieces, joined, part_size, IsFull, AreFull, IsCut, cut}
+use Rattle.urna_base.proofs.Cases.{option_cases, result_cases}
+use Rattle.urna_base.specs.Words.{pieces}
+use Rattle.hash_chain.specs.Chain.{Link, link_text, link_of, links_from, links_text, parts_text}
+use Rattle.hash_chain.specs.Cut.{joined, part_size, IsFull, AreFull, IsCut, cut}
 use Rattle.hash_chain.specs.declared.fault.PartFault.TheVariants.{Form}
-use Rattle.hash_chain.specs.Lines.{IsLine, is_field, line_of, feeds_in}
-use Rattle.hash_chain.specs.Fault.{failing, hash_before, fits_before, AreFields}
+use Rattle.hash_chain.specs.Lines.{IsLink, is_field, link_in, feeds_in}
+use Rattle.hash_chain.specs.Fault.{failing_link, hash_before, fits_before, AreFields}
 use Rattle.hash_chain.proofs.Reading.{read_from, lines_read, text_of_lines}
-use Rattle.hash_chain.specs.Laws.{LinesAreSpelled}
+use Rattle.hash_chain.specs.Laws.{LinksAreSpelled}
 use Rattle.hash_chain.specs.declared.fault.PartFault.{PartFault}
 use Rattle.hash_chain.proofs.CutLaws.{one_cut}
 use Rattle.hash_chain.proofs.LineLaws.{other, split_joined, word_other, lines_are_read}
 use Rattle.hash_chain.proofs.FileLaws.{length_lines, Few, is_word_of, read_step}
 use Rattle.hash_chain.proofs.LinesBack.{line_back, Fine, fine}
 
-abbrev fields_in : List Line → List (List (List ℕ))
+abbrev fields_in : List Link → List (List (List ℕ))
 fields_in ls = map (λ l. l.fields) ls
 
 -- each line behind the one before it has no fault
-abbrev pub Chain : ℕ → ℕ → Option Line → List Line → Type 0
+abbrev pub Chain : ℕ → ℕ → Option Link → List Link → Type 0
 Chain n i before [] = Unit {0}
-Chain n i before (l ∷ ls) = IsLine l × Fine n i before l × Chain n (i + 1) (Some l) ls
+Chain n i before (l ∷ ls) = IsLink l × Fine n i before l × Chain n (i + 1) (Some l) ls
 
-pub record Back (n i : ℕ) (before : Option Line) (ps : List (List ℕ)) (ls : List Line) : Type 0 where
-  pub same : ps ≡ map line_text ls ++ [] ∷ []
+pub record Back (n i : ℕ) (before : Option Link) (ps : List (List ℕ)) (ls : List Link) : Type 0 where
+  pub same : ps ≡ map link_text ls ++ [] ∷ []
   pub chain : Chain n i before ls
   pub some : (1 < i) ⊎ (0 < length ls)
 
@@ -42,7 +45,7 @@ not_empty (x ∷ t) h e = absurd (cc)
 above : (k : ℕ) → nat_lt 1 k ≡ true → 1 < k
 above k h = grind (arith, nat_tests)
 
-last_ok : (i : ℕ) (last : List ℕ) (ls : List Line) → (if length last == 0 && nat_lt 1 i then Ok [] else Err (Form i)) ≡ Ok ls → (last ≡ []) × (1 < i) × (ls ≡ [])
+last_ok : (i : ℕ) (last : List ℕ) (ls : List Link) → (if length last == 0 && nat_lt 1 i then Ok [] else Err (Form i)) ≡ Ok ls → (last ≡ []) × (1 < i) × (ls ≡ [])
 last_ok i last ls e = by_test (length last == 0 && nat_lt 1 i) refl e
   where
     by_test : (b : Bool) → (length last == 0 && nat_lt 1 i) ≡ b → (if b then Ok [] else Err (Form i)) ≡ Ok ls → (last ≡ []) × (1 < i) × (ls ≡ [])
@@ -51,49 +54,41 @@ last_ok i last ls e = by_test (length last == 0 && nat_lt 1 i) refl e
         (empty last both.0, above i both.1, cc)
     by_test false h g = absurd (cc)
 
-pub option_cases : {A : Type 0} (o : Option A) → (o ≡ None) ⊎ ((x : A) × (o ≡ Some x))
-option_cases None = inl refl
-option_cases (Some x) = inr (x, refl)
-
-pub result_cases : {A B : Type 0} (r : Result A B) → ((x : A) × (r ≡ Ok x)) ⊎ ((e : B) × (r ≡ Err e))
-result_cases (Ok x) = inl (x, refl)
-result_cases (Err e) = inr (e, refl)
-
-pub read_none : (n i : ℕ) (before : Option Line) (bytes next : List ℕ) (rest : List (List ℕ)) → line_of bytes ≡ None → read_from n i before (bytes ∷ next ∷ rest) ≡ Err (Form i)
+pub read_none : (n i : ℕ) (before : Option Link) (bytes next : List ℕ) (rest : List (List ℕ)) → link_in bytes ≡ None → read_from n i before (bytes ∷ next ∷ rest) ≡ Err (Form i)
 unfolding read_from
 read_none n i before bytes next rest h = rw (h, read_from) refl
 
-pub read_bad : (n i : ℕ) (before : Option Line) (bytes next : List ℕ) (rest : List (List ℕ)) (l : Line) (f : PartFault) → line_of bytes ≡ Some l → failing n i before l ≡ Some f
+pub read_bad : (n i : ℕ) (before : Option Link) (bytes next : List ℕ) (rest : List (List ℕ)) (l : Link) (f : PartFault) → link_in bytes ≡ Some l → failing_link n i before l ≡ Some f
     → read_from n i before (bytes ∷ next ∷ rest) ≡ Err f
 unfolding read_from
 read_bad n i before bytes next rest l f h g = rw (h, g, read_from) refl
 
-pub read_later : (n i : ℕ) (before : Option Line) (bytes next : List ℕ) (rest : List (List ℕ)) (l : Line) (f : PartFault) → line_of bytes ≡ Some l → failing n i before l ≡ None
+pub read_later : (n i : ℕ) (before : Option Link) (bytes next : List ℕ) (rest : List (List ℕ)) (l : Link) (f : PartFault) → link_in bytes ≡ Some l → failing_link n i before l ≡ None
     → read_from n (i + 1) (Some l) (next ∷ rest) ≡ Err f → read_from n i before (bytes ∷ next ∷ rest) ≡ Err f
 unfolding read_from
 read_later n i before bytes next rest l f h g k = rw (h, g, read_from) (rw k refl)
 
-pub read_back : (n i : ℕ) (before : Option Line) (ps : List (List ℕ)) (ls : List Line) → 0 < length ps → 0 < i → read_from n i before ps ≡ Ok ls → Back n i before ps ls
+pub read_back : (n i : ℕ) (before : Option Link) (ps : List (List ℕ)) (ls : List Link) → 0 < length ps → 0 < i → read_from n i before ps ≡ Ok ls → Back n i before ps ls
 unfolding read_from
 read_back n i before [] ls some later e = absurd (omega arith)
 read_back n i before (last ∷ []) ls some later e =
     let end = last_ok i last ls e in
-    let P : List Line → Type 0 = λ x. Back n i before (last ∷ []) x in
+    let P : List Link → Type 0 = λ x. Back n i before (last ∷ []) x in
     subst P (sym end.2) (record { same = ap (λ (t : List ℕ). t ∷ []) end.0; chain = tt; some = inl end.1 })
 read_back n i before (bytes ∷ next ∷ rest) ls some later e =
-    elim (option_cases (line_of bytes)) [
+    elim (option_cases (link_in bytes)) [
       | inl none ↦ let bad : Err (Form i) ≡ Ok ls = sym (read_none n i before bytes next rest none) ∙ e in absurd (cc)
-      | inr found ↦ elim (option_cases (failing n i before found.0)) [
+      | inr found ↦ elim (option_cases (failing_link n i before found.0)) [
         | inl none ↦ elim (result_cases (read_from n (i + 1) (Some found.0) (next ∷ rest))) [
           | inl ok ↦
               let all : Ok (found.0 ∷ ok.0) ≡ Ok ls = sym (read_step n i before bytes next rest found.0 ok.0 found.1 none ok.1) ∙ e in
               let same : found.0 ∷ ok.0 ≡ ls = cc in
               let line = line_back bytes found.0 found.1 in
               let b = read_back n (i + 1) (Some found.0) (next ∷ rest) ok.0 (omega arith) (omega arith) ok.1 in
-              let P : List Line → Type 0 = λ x. Back n i before (bytes ∷ next ∷ rest) x in
+              let P : List Link → Type 0 = λ x. Back n i before (bytes ∷ next ∷ rest) x in
               let more : 0 < length (found.0 ∷ ok.0) = omega arith in
               subst P same (record {
-                same = ap (λ (t : List ℕ). t ∷ next ∷ rest) line.1 ∙ ap (λ (x : List (List ℕ)). line_text found.0 ∷ x) b.same;
+                same = ap (λ (t : List ℕ). t ∷ next ∷ rest) line.1 ∙ ap (λ (x : List (List ℕ)). link_text found.0 ∷ x) b.same;
                 chain = (line.0, fine n i before found.0 none, b.chain);
                 some = inr more;
               })
@@ -105,46 +100,46 @@ read_back n i before (bytes ∷ next ∷ rest) ls some later e =
 
 -- ---- what the lines of a chain are
 
-chain_lines : (n i : ℕ) (before : Option Line) (ls : List Line) → Chain n i before ls → ls ≡ lines_from n i (hash_before before) (fields_in ls)
+chain_lines : (n i : ℕ) (before : Option Link) (ls : List Link) → Chain n i before ls → ls ≡ links_from n i (hash_before before) (fields_in ls)
 chain_lines n i before [] h = refl
 chain_lines n i before (l ∷ ls) h =
     let rest = chain_lines n (i + 1) (Some l) ls h.2 in
-    let here : l ≡ part_line n i (hash_before before) l.fields = h.1.line in
-    ap (λ (x : List Line). l ∷ x) rest
-    ∙ ap (λ (x : Line). x ∷ lines_from n (i + 1) x.hash (fields_in ls)) here
+    let here : l ≡ link_of n i (hash_before before) l.fields = h.1.line in
+    ap (λ (x : List Link). l ∷ x) rest
+    ∙ ap (λ (x : Link). x ∷ links_from n (i + 1) x.hash (fields_in ls)) here
 
-chain_within : (n i : ℕ) (before : Option Line) (ls : List Line) → Chain n i before ls → AllByRecursion (λ p. length (joined p) ≤ part_size) (fields_in ls)
+chain_within : (n i : ℕ) (before : Option Link) (ls : List Link) → Chain n i before ls → AllByRecursion (λ p. length (joined p) ≤ part_size) (fields_in ls)
 chain_within n i before [] h = tt
 chain_within n i before (l ∷ ls) h = (h.1.within, chain_within n (i + 1) (Some l) ls h.2)
 
 over : (k : ℕ) → nat_le k part_size ≡ false → part_size < k
 over k h = grind (arith, nat_tests)
 
-no_fields : (l : Line) → l.fields ≡ [] → IsLine l → ⊥
+no_fields : (l : Link) → l.fields ≡ [] → IsLink l → ⊥
 no_fields l e h = let some = h.some in let none = ap (λ (x : List (List ℕ)). nat_lt 0 (length x)) e in absurd (cc)
 
-step_full : (l m : Line) (fs : List (List ℕ)) (rest : List (List (List ℕ))) → m.fields ≡ fs → IsLine m → fits_before (Some l) m.fields ≡ false → IsFull m.fields rest → IsFull l.fields (fs ∷ rest)
+step_full : (l m : Link) (fs : List (List ℕ)) (rest : List (List (List ℕ))) → m.fields ≡ fs → IsLink m → fits_before (Some l) m.fields ≡ false → IsFull m.fields rest → IsFull l.fields (fs ∷ rest)
 step_full l m [] rest e is full behind = no_fields m e is
 step_full l m (f ∷ fs) rest e is full behind =
     let here = ap (λ (x : List (List ℕ)). fits_before (Some l) x) (sym e) ∙ full in
     let P : List (List ℕ) → Type 0 = λ x. IsFull x rest in
     (over (length (joined l.fields) + 1 + length f) here, subst P e behind)
 
-chain_behind : (n i : ℕ) (l : Line) (ls : List Line) → Chain n i (Some l) ls → IsFull l.fields (fields_in ls)
+chain_behind : (n i : ℕ) (l : Link) (ls : List Link) → Chain n i (Some l) ls → IsFull l.fields (fields_in ls)
 chain_behind n i l [] h = tt
 chain_behind n i l (m ∷ ls) h = step_full l m m.fields (fields_in ls) refl h.0 h.1.full (chain_behind n (i + 1) m ls h.2)
 
-first_full : (l : Line) (fs : List (List ℕ)) (rest : List (List (List ℕ))) → l.fields ≡ fs → IsLine l → IsFull l.fields rest → AreFull (fs ∷ rest)
+first_full : (l : Link) (fs : List (List ℕ)) (rest : List (List (List ℕ))) → l.fields ≡ fs → IsLink l → IsFull l.fields rest → AreFull (fs ∷ rest)
 first_full l [] rest e is behind = no_fields l e is
 first_full l (f ∷ fs) rest e is behind = let P : List (List ℕ) → Type 0 = λ x. IsFull x rest in subst P e behind
 
-chain_full : (n i : ℕ) (before : Option Line) (ls : List Line) → Chain n i before ls → AreFull (fields_in ls)
+chain_full : (n i : ℕ) (before : Option Link) (ls : List Link) → Chain n i before ls → AreFull (fields_in ls)
 chain_full n i before [] h = tt
 chain_full n i before (l ∷ ls) h = first_full l l.fields (fields_in ls) refl h.0 (chain_behind n (i + 1) l ls h.2)
 
 -- ---- the fields of a chain
 
-flat_fields : (ls : List Line) → flat_map (λ l. l.fields) ls ≡ flat_map (λ p. p) (fields_in ls)
+flat_fields : (ls : List Link) → flat_map (λ l. l.fields) ls ≡ flat_map (λ p. p) (fields_in ls)
 flat_fields [] = refl
 flat_fields (l ∷ ls) = ap (λ (x : List (List ℕ)). l.fields ++ x) (flat_fields ls)
 
@@ -162,7 +157,7 @@ fit_append : (a b : List (List ℕ)) → AllByRecursion (λ f. (is_field f ≡ t
 fit_append [] b h g = g
 fit_append (x ∷ a) b h g = (h.0, fit_append a b h.1 g)
 
-chain_fields : (n i : ℕ) (before : Option Line) (ls : List Line) → Chain n i before ls
+chain_fields : (n i : ℕ) (before : Option Link) (ls : List Link) → Chain n i before ls
     → AllByRecursion (λ f. (is_field f ≡ true) × (length f ≤ part_size)) (flat_map (λ l. l.fields) ls)
 chain_fields n i before [] h = tt
 chain_fields n i before (l ∷ ls) h = fit_append l.fields (flat_map (λ m. m.fields) ls) (fit_in l.fields h.0.fields h.1.within) (chain_fields n (i + 1) (Some l) ls h.2)
@@ -175,23 +170,20 @@ pieces_of : (fs : List (List ℕ)) → 0 < length fs → AllByRecursion (λ f. (
 pieces_of [] some h = absurd (omega arith)
 pieces_of (f ∷ fs) some h = split_joined 32 f fs (words (f ∷ fs) h)
 
-above_zero : (k : ℕ) → nat_lt 0 k ≡ true → 0 < k
-above_zero k h = grind (arith, nat_tests)
-
-some_fields : (n i : ℕ) (before : Option Line) (ls : List Line) → Chain n i before ls → 0 < length ls → 0 < length (flat_map (λ l. l.fields) ls)
+some_fields : (n i : ℕ) (before : Option Link) (ls : List Link) → Chain n i before ls → 0 < length ls → 0 < length (flat_map (λ l. l.fields) ls)
 some_fields n i before [] h some = absurd (omega arith)
 some_fields n i before (l ∷ ls) h some =
     let both = length-append l.fields (flat_map (λ m. m.fields) ls) in
     let here : nat_lt 0 (length l.fields) ≡ true = h.0.some in
-    let first = above_zero (length l.fields) here in
+    let first = ltb-true 0 (length l.fields) here in
     omega arith
 
-file_joined : (ls : List Line) → join_with_byte 10 (map line_text ls ++ [] ∷ []) ≡ lines_text ls
+file_joined : (ls : List Link) → join_with_byte 10 (map link_text ls ++ [] ∷ []) ≡ links_text ls
 file_joined [] = refl
 file_joined (l ∷ []) = refl
-file_joined (l ∷ m ∷ ls) = ap (λ (x : List ℕ). line_text l ++ 10 ∷ x) (file_joined (m ∷ ls))
+file_joined (l ∷ m ∷ ls) = ap (λ (x : List ℕ). link_text l ++ 10 ∷ x) (file_joined (m ∷ ls))
 
-length_fields : (ls : List Line) → length (fields_in ls) ≡ length ls
+length_fields : (ls : List Link) → length (fields_in ls) ≡ length ls
 length_fields [] = refl
 length_fields (l ∷ ls) = let rest = length_fields ls in omega arith
 
@@ -200,7 +192,7 @@ not_later xs (inl h) = absurd (omega arith)
 not_later xs (inr h) = h
 
 -- a file that is read is the parts of the text of its lines
-pub lines_made : (bytes : List ℕ) (ls : List Line) → lines_read bytes ≡ Ok ls → AreFields (pieces (text_of_lines ls)) × (bytes ≡ parts_text (text_of_lines ls))
+pub lines_made : (bytes : List ℕ) (ls : List Link) → lines_read bytes ≡ Ok ls → AreFields (pieces (text_of_lines ls)) × (bytes ≡ parts_text (text_of_lines ls))
 unfolding lines_read parts_text
 lines_made bytes ls e =
     let n : ℕ = feeds_in bytes in
@@ -215,9 +207,9 @@ lines_made bytes ls e =
     let are : AreFields (pieces (text_of_lines ls)) = subst P (sym split) (some_fields n 1 None ls back.chain some, fit) in
     let is : IsCut fs (fields_in ls) = record { all = sym (flat_fields ls); within = chain_within n 1 None ls back.chain; full = chain_full n 1 None ls back.chain } in
     let parts : fields_in ls ≡ cut (pieces (text_of_lines ls)) = (one_cut fs (some_fields n 1 None ls back.chain some, fit)).1 (fields_in ls) is ∙ ap (λ (x : List (List ℕ)). cut x) (sym split) in
-    let made : ls ≡ lines_from (length (fields_in ls)) 1 [] (fields_in ls) = chain_lines n 1 None ls back.chain ∙ ap (λ (k : ℕ). lines_from k 1 [] (fields_in ls)) feeds in
-    let file : bytes ≡ lines_text ls = sym (join_with_byte-slice_split 10 bytes) ∙ (ap (λ (x : List (List ℕ)). join_with_byte 10 x) back.same ∙ file_joined ls) in
-    (are, file ∙ (ap (λ (x : List Line). lines_text x) made ∙ ap (λ (x : List (List (List ℕ))). lines_text (lines_from (length x) 1 [] x)) parts))
+    let made : ls ≡ links_from (length (fields_in ls)) 1 [] (fields_in ls) = chain_lines n 1 None ls back.chain ∙ ap (λ (k : ℕ). links_from k 1 [] (fields_in ls)) feeds in
+    let file : bytes ≡ links_text ls = sym (join_with_byte-slice_split 10 bytes) ∙ (ap (λ (x : List (List ℕ)). join_with_byte 10 x) back.same ∙ file_joined ls) in
+    (are, file ∙ (ap (λ (x : List Link). links_text x) made ∙ ap (λ (x : List (List (List ℕ))). links_text (links_from (length x) 1 [] x)) parts))
 
-pub lines_are_spelled : LinesAreSpelled
-lines_are_spelled bytes l = (λ e. line_back bytes l e, λ h. ap (λ (x : List ℕ). line_of x) h.1 ∙ lines_are_read l h.0)
+pub lines_are_spelled : LinksAreSpelled
+lines_are_spelled bytes l = (λ e. line_back bytes l e, λ h. ap (λ (x : List ℕ). link_in x) h.1 ∙ lines_are_read l h.0)

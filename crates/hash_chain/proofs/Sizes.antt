@@ -8,10 +8,11 @@ use Rattle.std.proofs.lemmas.List.Sums.{sum_by-cons}
 use Rattle.std.proofs.lemmas.Bool.Decides.{nat_tests}
 use Rattle.urna_base.proofs.DecimalLaws.{decimal_value-decimal, decimal_value-some}
 use Rattle.urna_base.proofs.DigitLaws.{both_from_and}
+use Rattle.urna_base.specs.Words.{pieces}
 use Rattle.hash_chain.proofs.CutLaws.{few_parts, one_cut, part_bytes}
 use Rattle.hash_chain.proofs.HashLaws.{hashes}
-use Rattle.hash_chain.specs.Chain.{Line, line_text, lines_from, lines_text, part_line, part_text, parts_text}
-use Rattle.hash_chain.specs.Cut.{cut, joined, pieces}
+use Rattle.hash_chain.specs.Chain.{Link, link_text, links_from, links_text, link_of, hashed_text, parts_text}
+use Rattle.hash_chain.specs.Cut.{cut, joined}
 use Rattle.hash_chain.specs.Fault.{AreFields, ArePartsOf}
 use Rattle.hash_chain.specs.Hash.{is_hash, is_hex}
 use Rattle.hash_chain.specs.Laws.{FewBytes}
@@ -27,32 +28,32 @@ few_digits v h = (decimal_value-some (decimal v) v (decimal_value-decimal v h)).
 
 -- a line is longer than its fields by 150 bytes and the digits of its two numbers
 line_length : (parts number : ℕ) (before : List ℕ) (fields : List (List ℕ))
-    → length (line_text (part_line parts number before fields)) + 1 ≡ 150 + length (decimal number) + length (decimal parts) + length (joined fields)
+    → length (link_text (link_of parts number before fields)) + 1 ≡ 150 + length (decimal number) + length (decimal parts) + length (joined fields)
 line_length parts number before fields =
-    let l : Line = part_line parts number before fields in
+    let l : Link = link_of parts number before fields in
     let hash = hash_length l.hash (hashes _) in
-    let a = length-append (part_text l) (codes " HASH:" ++ l.hash) in
+    let a = length-append (hashed_text l) (codes " HASH:" ++ l.hash) in
     let b = length-append (decimal number) (58 ∷ (decimal parts ++ (codes " VRQR:" ++ (l.version ++ 32 ∷ joined fields)))) in
     let c = length-append (decimal parts) (codes " VRQR:" ++ (l.version ++ 32 ∷ joined fields)) in
     omega arith
 
-pub many_bytes : (parts number : ℕ) (before : List ℕ) (ps : List (List (List ℕ))) → 128 * length ps ≤ length (lines_text (lines_from parts number before ps))
+pub many_bytes : (parts number : ℕ) (before : List ℕ) (ps : List (List (List ℕ))) → 128 * length ps ≤ length (links_text (links_from parts number before ps))
 many_bytes parts number before [] = omega arith
 many_bytes parts number before (p ∷ ps) =
-    let l : Line = part_line parts number before p in
+    let l : Link = link_of parts number before p in
     let here = line_length parts number before p in
     let rest = many_bytes parts (number + 1) l.hash ps in
-    let both = length-append (line_text l) (10 ∷ lines_text (lines_from parts (number + 1) l.hash ps)) in
+    let both = length-append (link_text l) (10 ∷ links_text (links_from parts (number + 1) l.hash ps)) in
     omega arith
 
 few_bytes_of : (parts number : ℕ) (before : List ℕ) (ps : List (List (List ℕ))) → parts < 10 ^ 18 → number + length ps ≤ parts + 1
-    → length (lines_text (lines_from parts number before ps)) ≤ part_bytes ps + 186 * length ps
+    → length (links_text (links_from parts number before ps)) ≤ part_bytes ps + 186 * length ps
 few_bytes_of parts number before [] few room = omega arith
 few_bytes_of parts number before (p ∷ ps) few room =
-    let l : Line = part_line parts number before p in
+    let l : Link = link_of parts number before p in
     let here = line_length parts number before p in
     let rest = few_bytes_of parts (number + 1) l.hash ps few (omega arith) in
-    let both = length-append (line_text l) (10 ∷ lines_text (lines_from parts (number + 1) l.hash ps)) in
+    let both = length-append (link_text l) (10 ∷ links_text (links_from parts (number + 1) l.hash ps)) in
     let first = few_digits number (omega arith) in
     let second = few_digits parts few in
     let sum = sum_by-cons (λ (q : List (List ℕ)). length (joined q)) p ps in
@@ -119,13 +120,13 @@ text_within (p ∷ ps) =
     let sum = sum_by-cons (λ (q : List (List ℕ)). length (joined q)) p ps in
     omega arith
 
-parts_within : (parts number : ℕ) (before : List ℕ) (ps : List (List (List ℕ))) → part_bytes ps + length ps ≤ length (lines_text (lines_from parts number before ps))
+parts_within : (parts number : ℕ) (before : List ℕ) (ps : List (List (List ℕ))) → part_bytes ps + length ps ≤ length (links_text (links_from parts number before ps))
 parts_within parts number before [] = omega arith
 parts_within parts number before (p ∷ ps) =
-    let l : Line = part_line parts number before p in
+    let l : Link = link_of parts number before p in
     let here = line_length parts number before p in
     let rest = parts_within parts (number + 1) l.hash ps in
-    let both = length-append (line_text l) (10 ∷ lines_text (lines_from parts (number + 1) l.hash ps)) in
+    let both = length-append (link_text l) (10 ∷ links_text (links_from parts (number + 1) l.hash ps)) in
     let sum = sum_by-cons (λ (q : List (List ℕ)). length (joined q)) p ps in
     omega arith
 

@@ -1,10 +1,6 @@
 -- The fields of a text, cut into parts (docs/FORMATS.md, "Parts").
-use Rattle.std.specs.Prelude.{◌≡◌, ℕ, ◌+◌, ◌<◌, ◌≤◌, ◌==◌, nat_le, if◌then◌else◌, List, [], ◌∷◌, ◌++◌, length}
-use Rattle.std.specs.List.{AllByRecursion, flat_map, join_with_byte, slice_split}
-
--- the pieces of a text between single spaces (32): its fields
-abbrev pub pieces : List ℕ → List (List ℕ)
-pieces text = slice_split (λ b. b == 32) text
+use Rattle.std.specs.Prelude.{◌≡◌, ℕ, ◌+◌, ◌<◌, ◌≤◌, nat_le, if◌then◌else◌, List, [], ◌∷◌, ◌++◌, length}
+use Rattle.std.specs.List.{AllByRecursion, flat_map, join_with_byte}
 
 -- fields with single spaces between them
 abbrev pub joined : List (List ℕ) → List ℕ
@@ -32,12 +28,13 @@ pub record IsCut (fields : List (List ℕ)) (parts : List (List (List ℕ))) : T
   pub within : AllByRecursion (λ part. length (joined part) ≤ part_size) parts
   pub full : AreFull parts
 
--- Which these are (`laws::parts`, `OneCut`): a part takes one field after the other while they fit.
+-- the part that was begun and those behind it: each takes one field after the other while they fit
 abbrev pub cut_after : List (List ℕ) → List (List ℕ) → List (List (List ℕ))
 cut_after part [] = part ∷ []
 cut_after part (f ∷ fs) =
     if nat_le (length (joined part) + 1 + length f) part_size then cut_after (part ++ f ∷ []) fs else part ∷ cut_after (f ∷ []) fs
 
+-- the parts of some fields, which are cut in no other way (`laws::parts`, `OneCut`)
 unfoldable pub cut : List (List ℕ) → List (List (List ℕ))
 cut [] = []
 cut (f ∷ fs) = cut_after (f ∷ []) fs

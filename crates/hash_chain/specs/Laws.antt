@@ -1,10 +1,11 @@
 -- What is so of all files of parts.
 use Rattle.std.specs.Prelude.{◌≡◌, ◌⊎◌, ◌↔◌, ℕ, ◌<◌, ◌≤◌, ◌*◌, ◌+◌, ◌/◌, ◌^◌, true, List, Some, length}
-use Rattle.hash_chain.specs.Chain.{Line, line_text, parts_text}
-use Rattle.hash_chain.specs.Cut.{IsCut, cut, pieces}
+use Rattle.urna_base.specs.Words.{pieces}
+use Rattle.hash_chain.specs.Chain.{Link, link_text, parts_text}
+use Rattle.hash_chain.specs.Cut.{IsCut, cut}
 use Rattle.hash_chain.specs.Fault.{AreFields, ArePartsOf, IsPartFault}
 use Rattle.hash_chain.specs.Hash.{hash_text, is_hash}
-use Rattle.hash_chain.specs.Lines.{IsLine, line_of}
+use Rattle.hash_chain.specs.Lines.{IsLink, link_in}
 use Rattle.hash_chain.specs.declared.fault.PartFault.{PartFault}
 
 -- fields are cut in one way
@@ -13,8 +14,8 @@ OneCut = (fields : List (List ℕ)) → AreFields fields
     → IsCut fields (cut fields) × ((parts : List (List (List ℕ))) → IsCut fields parts → parts ≡ cut fields)
 
 -- bytes are a line exactly where they are written so from what a line may say
-abbrev pub LinesAreSpelled : Type 0
-LinesAreSpelled = (bytes : List ℕ) (l : Line) → (line_of bytes ≡ Some l) ↔ (IsLine l × (bytes ≡ line_text l))
+abbrev pub LinksAreSpelled : Type 0
+LinksAreSpelled = (bytes : List ℕ) (l : Link) → (link_in bytes ≡ Some l) ↔ (IsLink l × (bytes ≡ link_text l))
 
 -- a hash is 128 upper-case hexadecimal characters
 abbrev pub HashesAreHashes : Type 0

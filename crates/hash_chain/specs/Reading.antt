@@ -5,9 +5,8 @@ use Rattle.std.specs.Fmt.{decimal}
 use Rattle.std.specs.List.{slice_split}
 use Rattle.std.specs.Option.{option_and_then, option_map}
 use Rattle.urna_base.specs.Moment.{is_between}
-use Rattle.urna_base.specs.Words.{after_word}
-use Rattle.hash_chain.specs.Chain.{Line, version}
-use Rattle.hash_chain.specs.Cut.{pieces}
+use Rattle.urna_base.specs.Words.{after_word, pieces}
+use Rattle.hash_chain.specs.Chain.{Link, chain_version}
 use Rattle.hash_chain.specs.Lines.{fields_and_hash, is_word, only, two_numbers}
 use Rattle.hash_chain.specs.declared.fault.PartError.{PartError}
 use Rattle.hash_chain.specs.declared.fault.PartError.TheVariants.{Memory, Fault}
@@ -27,9 +26,9 @@ pieces_left (Some text) = pieces text.now
 
 -- what is hashed of a part, from the text of its fields (58 is a colon, 32 a space)
 abbrev pub plain_text : ℕ → ℕ → List ℕ → List ℕ
-plain_text parts number fields = codes "QRBU:" ++ (decimal number ++ 58 ∷ (decimal parts ++ (codes " VRQR:" ++ (version ++ 32 ∷ fields))))
+plain_text parts number fields = codes "QRBU:" ++ (decimal number ++ 58 ∷ (decimal parts ++ (codes " VRQR:" ++ (chain_version ++ 32 ∷ fields))))
 
--- ---- the three things that a line says, each from its pieces (`line_of_pieces`)
+-- ---- the three things that a line says, each from its pieces (`link_of_pieces`)
 
 -- a byte is printed, and no space
 abbrev pub is_printed : ℕ → Bool
@@ -47,11 +46,11 @@ version_in piece = option_and_then (λ v. only (is_word v) v) (after_word (codes
 unfoldable pub tail_of : List ℕ → Option (List (List ℕ) × List ℕ)
 tail_of rest = option_and_then (λ x. only (nat_lt 0 (length x.0)) x) (fields_and_hash (pieces rest))
 
-abbrev pub made : ℕ × ℕ → List ℕ → List (List ℕ) × List ℕ → Line
+abbrev pub made : ℕ × ℕ → List ℕ → List (List ℕ) × List ℕ → Link
 made n version x = record { number = n.0; parts = n.1; version = version; fields = x.0; hash = x.1 }
 
 -- the line that says these three things
-abbrev pub line_by : Option (ℕ × ℕ) → Option (List ℕ) → Option (List (List ℕ) × List ℕ) → Option Line
+abbrev pub line_by : Option (ℕ × ℕ) → Option (List ℕ) → Option (List (List ℕ) × List ℕ) → Option Link
 line_by n v x = option_and_then (λ m. option_and_then (λ w. option_map (λ y. made m w y) x) v) n
 
 -- ---- what the code took apart
@@ -62,9 +61,9 @@ with_part [] fields = fields
 with_part (b ∷ text) fields = (b ∷ text) ++ 32 ∷ fields
 
 -- what a line says that was taken apart
-abbrev pub said : code.Line → Line
+abbrev pub said : code.Line → Link
 said l = record { number = l.number; parts = l.parts; version = l.version.now; fields = pieces l.fields.now; hash = l.hash.now }
 
-abbrev pub said_before : Option code.Line → Option Line
+abbrev pub said_before : Option code.Line → Option Link
 said_before None = None
 said_before (Some l) = Some (said l)

@@ -1,6 +1,7 @@
 //! The first part of some fields.
 ghost use Rattle.std.specs.Prelude.{◌≡◌, ℕ, ◌+◌, ◌<◌, ◌≤◌, ◌≢◌, ◌∷◌, length, slice_index, IfSome};
-ghost use Rattle.hash_chain.specs.Cut.{cut, part_size, pieces};
+ghost use Rattle.urna_base.specs.Words.{pieces};
+ghost use Rattle.hash_chain.specs.Cut.{cut, part_size};
 ghost use Rattle.hash_chain.specs.Fault.{AreFields};
 ghost use Rattle.hash_chain.specs.Reading.{pieces_left};
 

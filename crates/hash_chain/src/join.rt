@@ -1,11 +1,12 @@
 //! A file of parts is read.
 ghost use Rattle.std.specs.Prelude.{◌≡◌, ◌≢◌, ◌==◌, ◌+◌, ◌<◌, ◌^◌, ◌++◌, ◌∷◌, [], ℕ, List, length, nat_le, nat_lt, ◌&&◌, position, IfOk, IfSome, MatchOption, MatchResult, OnOk, Err, None, Some};
 ghost use Rattle.std.specs.Str.{bytes_eq};
-ghost use Rattle.hash_chain.specs.Chain.{part_text, version};
-ghost use Rattle.hash_chain.specs.Cut.{joined, part_size, pieces};
-ghost use Rattle.hash_chain.specs.Fault.{ArePartsOf, IsPartFault, failing, fault_of, fits_before, hash_before};
+ghost use Rattle.urna_base.specs.Words.{pieces};
+ghost use Rattle.hash_chain.specs.Chain.{chain_version, hashed_text};
+ghost use Rattle.hash_chain.specs.Cut.{joined, part_size};
+ghost use Rattle.hash_chain.specs.Fault.{ArePartsOf, IsPartFault, failing_link, fault_of_link, fits_before, hash_before};
 ghost use Rattle.hash_chain.specs.Hash.{hash_text};
-ghost use Rattle.hash_chain.specs.Lines.{feeds_in, line_of, rows};
+ghost use Rattle.hash_chain.specs.Lines.{feeds_in, link_in, rows};
 ghost use Rattle.hash_chain.specs.Reading.{MatchRead, said, said_before, with_part};
 ghost use Rattle.hash_chain.specs.declared.fault.PartError.{PartError};
 ghost use Rattle.hash_chain.specs.declared.fault.PartFault.{PartFault};
@@ -104,9 +105,9 @@ fn take_line<'a>(
     row: &'a [u8],
 ) -> Result<Line<'a>, PartError>
     ensures fault { MatchRead result
-        (λ l. fault_of feeds place (said_before before.entry) (line_of row.now) ≡ None)
-        (λ f. fault_of feeds place (said_before before.entry) (line_of row.now) ≡ Some f) }
-    ensures line { IfOk result (λ l. line_of row.now ≡ Some (said l)) }
+        (λ l. fault_of_link feeds place (said_before before.entry) (link_in row.now) ≡ None)
+        (λ f. fault_of_link feeds place (said_before before.entry) (link_in row.now) ≡ Some f) }
+    ensures line { IfOk result (λ l. link_in row.now ≡ Some (said l)) }
 {
     let Some(line) = read_line(row) else {
         return Err(PartError::Fault(PartFault::Form(place)));
@@ -118,7 +119,7 @@ fn take_line<'a>(
 }
 
 /// The first test behind the form that fails.
-#[tactic(auto, unfolding(crate::specs::Fault::failing))]
+#[tactic(auto, unfolding(crate::specs::Fault::failing_link))]
 fn failing(
     alloc: Global,
     feeds: u64,
@@ -126,8 +127,8 @@ fn failing(
     before: Option<Line<'_>>,
     line: Line<'_>,
 ) -> Result<Option<PartFault>, Memory>
-    requires { line.text.now ≡ part_text (said line) }
-    ensures { IfOk result (λ o. o ≡ failing feeds place (said_before before.entry) (said line.entry)) }
+    requires { line.text.now ≡ hashed_text (said line) }
+    ensures { IfOk result (λ o. o ≡ failing_link feeds place (said_before before.entry) (said line.entry)) }
 {
     if !has_version(line) {
         return Ok(Some(PartFault::Version(place)));
@@ -146,7 +147,7 @@ fn failing(
 
 /// Whether a line is of the version of this format.
 fn has_version(line: Line<'_>) -> bool
-    ensures { result ≡ bytes_eq line.entry.version.now version }
+    ensures { result ≡ bytes_eq line.entry.version.now chain_version }
 {
     line.version == VERSION.as_slice()
 }

@@ -1,11 +1,11 @@
 //! What is so of every file of parts. Each function here does nothing: its contract is the law.
-ghost use Rattle.hash_chain.specs.Laws.{FewBytes, HashesAreHashes, LinesAreSpelled, NeverBoth, OneCut, OneFault, OneOfBoth};
+ghost use Rattle.hash_chain.specs.Laws.{FewBytes, HashesAreHashes, LinksAreSpelled, NeverBoth, OneCut, OneFault, OneOfBoth};
 
 /// Fields are cut in one way; a line is read exactly where it is written so; a hash has the form of a hash; and the file of a text is not
 /// much longer than the text.
 pub fn parts()
     ensures one_cut { OneCut }
-    ensures lines { LinesAreSpelled }
+    ensures lines { LinksAreSpelled }
     ensures hashes { HashesAreHashes }
     ensures few { FewBytes }
 {}

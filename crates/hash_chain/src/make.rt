@@ -1,7 +1,8 @@
 //! The parts of a field text.
 ghost use Rattle.std.specs.Prelude.{◌≡◌, ◌++◌, ◌∷◌, codes, [], IfOk, MatchResult, OnOk, length, string_bytes};
-ghost use Rattle.hash_chain.specs.Chain.{line_text, lines_from, lines_text, part_line, parts_text};
-ghost use Rattle.hash_chain.specs.Cut.{cut, pieces};
+ghost use Rattle.urna_base.specs.Words.{pieces};
+ghost use Rattle.hash_chain.specs.Chain.{link_text, links_from, links_text, link_of, parts_text};
+ghost use Rattle.hash_chain.specs.Cut.{cut};
 ghost use Rattle.hash_chain.specs.Fault.{AreFields};
 ghost use Rattle.hash_chain.specs.Reading.{plain_text};
 
@@ -45,7 +46,7 @@ fn count_parts(fields: &[u8]) -> u64
 fn put_parts(alloc: Global, out: &mut Vec<u8>, parts: u64, fields: &[u8]) -> Result<(), Memory>
     requires fields { AreFields (pieces fields.now) }
     requires count { parts ≡ length (cut (pieces fields.now)) }
-    ensures { OnOk result (out.new.items ≡ out.old.items ++ lines_text (lines_from parts 1 [] (cut (pieces fields.now)))) }
+    ensures { OnOk result (out.new.items ≡ out.old.items ++ links_text (links_from parts 1 [] (cut (pieces fields.now)))) }
 {
     let mut number = 1;
     let mut hash = String::new(alloc);
@@ -68,8 +69,8 @@ fn put_line(
     before: &[u8],
     fields: &[u8],
 ) -> Result<String, Memory>
-    ensures line { OnOk result (out.new.items ≡ out.old.items ++ (line_text (part_line parts number before.now (pieces fields.now)) ++ 10 ∷ [])) }
-    ensures hash { IfOk result (λ hash. string_bytes hash ≡ (part_line parts number before.now (pieces fields.now)).hash) }
+    ensures line { OnOk result (out.new.items ≡ out.old.items ++ (link_text (link_of parts number before.now (pieces fields.now)) ++ 10 ∷ [])) }
+    ensures hash { IfOk result (λ hash. string_bytes hash ≡ (link_of parts number before.now (pieces fields.now)).hash) }
 {
     let start = out.len();
     put_text(out, parts, number, fields)?;

@@ -21,6 +21,7 @@ is_some_votes votes = is_between 1 greatest_count votes
 abbrev pub votes_of : List Count → ℕ
 votes_of counts = sum_by (λ c. c.votes) counts
 
+-- the numbers of candidates, or of parties, in order
 abbrev pub numbers_of : List Count → List ℕ
 numbers_of counts = map (λ c. c.number) counts
 
@@ -71,6 +72,7 @@ pub record IsOfficeCount (came : ℕ) (o : OfficeCount) : Type 0 where
 abbrev pub may_have_code : List ℕ → ℕ → Bool
 may_have_code before code = nat_lt (length before) most_offices && (is_some (code_digits code) && not (list_any (λ c. c == code) before))
 
+-- an office has a code that none before it has, and its votes are those of so many who came
 abbrev pub MayCount : ℕ → List OfficeCount → OfficeCount → Type 0
 MayCount came before o = (may_have_code (map (λ c. c.code) before) o.code ≡ true) × IsOfficeCount came o
 

@@ -17,11 +17,11 @@ pub struct Count {
 
 /// Counts in a row, which contracts see as their list.
 #[derive(Debug, Drop)]
-pub struct Counts {
+pub struct VoteCounts {
     items: Vec<Count>,
 }
 
-impl Model for Counts {
+impl Model for VoteCounts {
     ghost use Rattle.std.specs.Prelude.{◌<◌, ◌^◌, List, length};
     ghost use Rattle.poll_report.specs.declared.report.Count.{Count};
 
@@ -32,12 +32,12 @@ impl Model for Counts {
     ghost invariant = { λ c. length c.items.items < 2 ^ 32 };
 }
 
-impl Counts {
+impl VoteCounts {
     /// No counts.
-    pub fn new(alloc: Global) -> Counts
+    pub fn new(alloc: Global) -> VoteCounts
         ensures { result ≡ [] }
     {
-        Counts {
+        VoteCounts {
             items: Vec::new(alloc),
         }
     }
@@ -83,8 +83,8 @@ pub struct OfficeCount {
     pub code: u8,
     /// How many votes each voter has.
     pub places: u32,
-    pub nominal: Counts,
-    pub parties: Counts,
+    pub nominal: VoteCounts,
+    pub parties: VoteCounts,
     pub blank: u32,
     pub null_votes: u32,
 }

@@ -1,6 +1,7 @@
 -- The laws, by what a reading gives.
-use Rattle.std.proofs.Common.{◌≡◌, ℕ, List, ◌⊎◌, inl, inr, sym, ◌∙◌, refl}
-use Rattle.std.specs.Prelude.{Result, Ok, Err}
+use Rattle.std.proofs.Common.{◌≡◌, ℕ, List, inl, inr, sym, ◌∙◌}
+use Rattle.std.specs.Prelude.{Ok, Err}
+use Rattle.urna_base.proofs.Cases.{result_cases}
 use Rattle.qr_text.specs.Fault.{Says}
 use Rattle.qr_text.specs.Laws.{OneOfBoth, NotBoth, OneFault, SaysOne}
 use Rattle.qr_text.specs.Reading.{said_by}
@@ -15,10 +16,6 @@ says_read bytes s h = said_read complete bytes s h.said h.same h.sums
 
 pub read_says : (bytes : List ℕ) (s : Said) → said_by bytes ≡ Ok s → Says bytes s
 read_says bytes s e = let h = read_said completes bytes s e in record { said = h.0; same = h.1; sums = h.2 }
-
-result_cases : {A B : Type 0} (r : Result A B) → ((x : A) × (r ≡ Ok x)) ⊎ ((e : B) × (r ≡ Err e))
-result_cases (Ok x) = inl (x, refl)
-result_cases (Err e) = inr (e, refl)
 
 pub one_of_both : OneOfBoth
 one_of_both bytes = elim (result_cases (said_by bytes)) [

@@ -3,7 +3,7 @@ use Rattle.std.proofs.Common.{◌≡◌, ℕ, ◌+◌, ◌/◌, ◌%◌, ◌<◌
 use Rattle.std.specs.Prelude.{nat_lt, ◌==◌}
 use Rattle.std.specs.List.{AllByRecursion, flat_map, filter, range_with_len}
 use Rattle.std.proofs.lemmas.Bool.Decides.{nat_tests}
-use Rattle.std.proofs.lemmas.Bool.{cases_Bool, eqb-true}
+use Rattle.std.proofs.lemmas.Bool.{cases_Bool, eqb-true, ltb-true}
 use Rattle.std.proofs.lemmas.List.{map-append, append-nil}
 use Rattle.urna_base.specs.Moment.{is_between}
 use Rattle.urna_base.proofs.DigitLaws.{both_from_and}
@@ -17,7 +17,7 @@ use Rattle.poll_report.proofs.Totals.{votes_cons}
 use Rattle.qr_text.specs.Laws.{OneReport}
 use Rattle.qr_text.specs.Reported.{legends, told_office, told_report}
 use Rattle.qr_text.specs.Said.{moment}
-use Rattle.qr_text.specs.Spelling.{said, said_office, said_party, candidates_of, party_votes}
+use Rattle.qr_text.specs.Spelling.{said, said_office, said_party, candidates_of_party, party_votes}
 use Rattle.qr_text.specs.declared.said.Said.{Said}
 use Rattle.qr_text.proofs.Grouping.{regroup, none_has}
 use Rattle.qr_text.proofs.Reporting.{office_of, whole_moment}
@@ -45,15 +45,15 @@ no_candidates digits p before (c ∷ ns) h z =
 
 -- parties that are left out have no candidates
 kept_candidates : (digits : ℕ) (o : OfficeCount) (ks : List ℕ) → EachAfter (MayVote digits) [] o.nominal
-    → flat_map (λ p. p.candidates) (filter some_votes (map (said_party digits o) ks)) ≡ flat_map (λ k. candidates_of digits k o.nominal) ks
+    → flat_map (λ p. p.candidates) (filter some_votes (map (said_party digits o) ks)) ≡ flat_map (λ k. candidates_of_party digits k o.nominal) ks
 kept_candidates digits o [] h = refl
 kept_candidates digits o (k ∷ ks) h =
     let rest = kept_candidates digits o ks h in
     elim (cases_Bool (some_votes (said_party digits o k))) [
-      | inl e ↦ rw e (ap (λ (l : List Count). candidates_of digits k o.nominal ++ l) rest)
+      | inl e ↦ rw e (ap (λ (l : List Count). candidates_of_party digits k o.nominal ++ l) rest)
       | inr e ↦
           let none = no_candidates digits (λ c. first_two digits c.number == k) [] o.nominal h
-          (no_votes (votes_of (candidates_of digits k o.nominal)) (party_votes k o.parties) e).0 in
+          (no_votes (votes_of (candidates_of_party digits k o.nominal)) (party_votes k o.parties) e).0 in
           rw (e, none) rest
     ]
 
@@ -78,9 +78,6 @@ single before (c ∷ ps) k h =
       | inr e ↦ rw e (single (before ++ c ∷ []) ps k h.1)
     ]
 
-positive : (n : ℕ) → nat_lt 0 n ≡ true → 0 < n
-positive n h = grind (arith, nat_tests)
-
 more_votes : (m n : ℕ) → nat_lt 0 n ≡ true → nat_lt 0 (m + n) ≡ true
 more_votes m n h = grind (arith, nat_tests)
 
@@ -93,8 +90,8 @@ kept_legends digits o (k ∷ ks) h =
     let one = single [] o.parties k h in
     elim (cases_Bool (nat_lt 0 (party_votes k o.parties))) [
       | inl e ↦
-          let keep = more_votes (votes_of (candidates_of digits k o.nominal)) (party_votes k o.parties) e in
-          rw (keep, e, one.1 (positive (party_votes k o.parties) e))
+          let keep = more_votes (votes_of (candidates_of_party digits k o.nominal)) (party_votes k o.parties) e in
+          rw (keep, e, one.1 (ltb-true 0 (party_votes k o.parties) e))
           (ap (λ (l : List Count). record { number = k; votes = party_votes k o.parties } ∷ l) rest)
       | inr e ↦
           let none = one.0 (zero_of (party_votes k o.parties) e) in

@@ -9,8 +9,8 @@ use Rattle.election_tables.specs.Offices.{code_proportional}
 use Rattle.poll_report.specs.Report.{EachAfter, MayVote, may_have_code, digits_in}
 use Rattle.poll_report.specs.declared.report.Count.{Count}
 use Rattle.qr_text.specs.Reading.{State, Mode, Code, Kind, Vote, Party, OfParty, PartyTotal, Nominal, Legend, Blank, Null, Total, Done, step, start, number_at, no_party, new_office}
-use Rattle.qr_text.specs.Said.{Field, IsSaidOffice, MayVoteIn, MayParty, MayOffice, kind_number, fields, head_values, head_field, vote_field, party_field, party_fields, office_field, votes_fields, last_fields, sum_fields, office_fields, codes_in}
-use Rattle.qr_text.specs.Table.{fits, head_rows, field_text}
+use Rattle.qr_text.specs.Said.{ReportField, IsSaidOffice, MayVoteIn, MayParty, MayOffice, kind_number, fields, head_values, head_field, vote_field, party_field, party_fields, office_field, votes_fields, last_fields, sum_fields, office_fields, codes_in}
+use Rattle.qr_text.specs.Table.{fits, head_rows, row_text}
 use Rattle.qr_text.specs.declared.said.Said.{Said}
 use Rattle.qr_text.specs.declared.said.SaidOffice.{SaidOffice}
 use Rattle.qr_text.specs.declared.said.SaidParty.{SaidParty}
@@ -21,17 +21,17 @@ use Rattle.qr_text.proofs.HeadRows.{at_head, head_traced}
 use Rattle.qr_text.proofs.RowLaws.{number_again, vote_again, vote_none, number_small}
 
 -- fields, and others behind them
-traces_append : (st : State) (fs gs : List Field) (m e : State) → Traces st fs m → Traces m gs e → Traces st (fs ++ gs) e
+traces_append : (st : State) (fs gs : List ReportField) (m e : State) → Traces st fs m → Traces m gs e → Traces st (fs ++ gs) e
 traces_append st [] gs m e t u = let P : State → Type 0 = λ x. Traces x gs e in subst P (sym t) u
 traces_append st (f ∷ fs) gs m e t u = (t.0, t.1, traces_append t.0 fs gs m e t.2 u)
 
-traces_to : (st : State) (fs : List Field) (d e : State) → d ≡ e → Traces st fs d → Traces st fs e
+traces_to : (st : State) (fs : List ReportField) (d e : State) → d ≡ e → Traces st fs d → Traces st fs e
 traces_to st fs d e same t = let P : State → Type 0 = λ x. Traces st fs x in subst P same t
 
 -- ---- lists
 
 -- elements that are a field each
-each_mapped : {A : Type 0} (May : List A → A → Type 0) (f : A → Field) (st : List A → State)
+each_mapped : {A : Type 0} (May : List A → A → Type 0) (f : A → ReportField) (st : List A → State)
     → ((before : List A) (x : A) → May before x → step (st before) (f x).text ≡ Some (st (before ++ x ∷ []), (f x).tests))
     → (before xs : List A) → EachAfter May before xs → Traces (st before) (map f xs) (st (before ++ xs))
 each_mapped May f st one before [] h = ap st (sym (append-nil before))
@@ -43,7 +43,7 @@ each_mapped May f st one before (x ∷ xs) h = (
 )
 
 -- elements that are several fields each
-each_traced : {A : Type 0} (May : List A → A → Type 0) (f : A → List Field) (st : List A → State)
+each_traced : {A : Type 0} (May : List A → A → Type 0) (f : A → List ReportField) (st : List A → State)
     → ((before : List A) (x : A) → May before x → Traces (st before) (f x) (st (before ++ x ∷ [])))
     → (before xs : List A) → EachAfter May before xs → Traces (st before) (flat_map f xs) (st (before ++ xs))
 each_traced May f st one before [] h = ap st (sym (append-nil before))
@@ -85,13 +85,13 @@ in_parties s done o before = at_office Party s done (record o { parties = before
 
 party_begins : (s : Said) (done : List SaidOffice) (o : SaidOffice) (before : List SaidParty) (p : SaidParty)
     → MayParty (digits_in o.code) before p
-    → step (in_parties s done o before) (field_text TABLE.party p.number)
+    → step (in_parties s done o before) (row_text TABLE.party p.number)
     ≡ Some (at_office OfParty s done (record o { parties = before }) (of_party p.number []), [])
 unfolding step
 party_begins s done o before p h = rw (number_again TABLE.party p.number (lit< tt) h.0.number, h.1) refl
 
 legend_goes : (s : Said) (done : List SaidOffice) (o : SaidOffice) (p : SaidParty) → fits TABLE.party_legend.form p.legend ≡ true
-    → step (at_office OfParty s done o (of_party p.number p.candidates)) (field_text TABLE.party_legend p.legend)
+    → step (at_office OfParty s done o (of_party p.number p.candidates)) (row_text TABLE.party_legend p.legend)
     ≡ Some (at_office PartyTotal s done o (record (of_party p.number p.candidates) { legend = p.legend }), [])
 unfolding step decimal_value
 legend_goes s done o p h = rw (
@@ -102,7 +102,7 @@ legend_goes s done o p h = rw (
 party_ends : (s : Said) (done : List SaidOffice) (o : SaidOffice) (before : List SaidParty) (p : SaidParty)
     → fits TABLE.party_total.form p.total ≡ true
     → step (at_office PartyTotal s done (record o { parties = before }) (record (of_party p.number p.candidates) { legend = p.legend }))
-    (field_text TABLE.party_total p.total)
+    (row_text TABLE.party_total p.total)
     ≡ Some (in_parties s done o (before ++ p ∷ []), (party_field p TABLE.party_total p.total).tests)
 unfolding step
 party_ends s done o before p h = rw (number_again TABLE.party_total p.total (lit< tt) h) refl
@@ -130,17 +130,17 @@ abbrev voted : SaidOffice → SaidOffice
 voted o = record (new_office o.code) { candidates = o.candidates; parties = o.parties }
 
 able_goes : (s : Said) (done : List SaidOffice) (o : SaidOffice) → fits TABLE.office_able.form o.able ≡ true
-    → step (at_office Vote s done (voted o) no_party) (field_text TABLE.office_able o.able)
+    → step (at_office Vote s done (voted o) no_party) (row_text TABLE.office_able o.able)
     ≡ Some (at_office Nominal s done (record (voted o) { able = o.able }) no_party, (office_field s o TABLE.office_able o.able).tests)
 unfolding step decimal_value
 able_goes s done o h = rw (vote_none (digits_in o.code) (codes "APTA") _ refl refl, number_again TABLE.office_able o.able (lit< tt) h) refl
 
-no_part : (v : ℕ) → number_at TABLE.party (field_text TABLE.office_able v) ≡ None
+no_part : (v : ℕ) → number_at TABLE.party (row_text TABLE.office_able v) ≡ None
 unfolding number_at
 no_part v = refl
 
 able_goes_behind_parties : (s : Said) (done : List SaidOffice) (o : SaidOffice) → fits TABLE.office_able.form o.able ≡ true
-    → step (at_office Party s done (voted o) no_party) (field_text TABLE.office_able o.able)
+    → step (at_office Party s done (voted o) no_party) (row_text TABLE.office_able o.able)
     ≡ Some (at_office Nominal s done (record (voted o) { able = o.able }) no_party, (office_field s o TABLE.office_able o.able).tests)
 unfolding step
 able_goes_behind_parties s done o h = rw (no_part o.able, number_again TABLE.office_able o.able (lit< tt) h) refl
@@ -150,7 +150,7 @@ abbrev with_nominal : SaidOffice → SaidOffice
 with_nominal o = record (voted o) { able = o.able; nominal = o.nominal }
 
 nominal_goes : (s : Said) (done : List SaidOffice) (o : SaidOffice) → fits TABLE.nominal.form o.nominal ≡ true
-    → step (at_office Nominal s done (record (voted o) { able = o.able }) no_party) (field_text TABLE.nominal o.nominal)
+    → step (at_office Nominal s done (record (voted o) { able = o.able }) no_party) (row_text TABLE.nominal o.nominal)
     ≡ Some (
       at_office (if code_proportional o.code then Legend else Blank) s done (with_nominal o) no_party,
       (office_field s o TABLE.nominal o.nominal).tests,
@@ -159,13 +159,13 @@ unfolding step
 nominal_goes s done o h = rw (number_again TABLE.nominal o.nominal (lit< tt) h) refl
 
 office_legend_goes : (s : Said) (done : List SaidOffice) (o : SaidOffice) → fits TABLE.legend.form o.legend ≡ true
-    → step (at_office Legend s done (with_nominal o) no_party) (field_text TABLE.legend o.legend)
+    → step (at_office Legend s done (with_nominal o) no_party) (row_text TABLE.legend o.legend)
     ≡ Some (at_office Blank s done (record (with_nominal o) { legend = o.legend }) no_party, (office_field s o TABLE.legend o.legend).tests)
 unfolding step
 office_legend_goes s done o h = rw (number_again TABLE.legend o.legend (lit< tt) h) refl
 
 blank_goes : (s : Said) (done : List SaidOffice) (o : SaidOffice) → fits TABLE.blank.form o.blank ≡ true
-    → step (at_office Blank s done (record (with_nominal o) { legend = o.legend }) no_party) (field_text TABLE.blank o.blank)
+    → step (at_office Blank s done (record (with_nominal o) { legend = o.legend }) no_party) (row_text TABLE.blank o.blank)
     ≡ Some (
       at_office Null s done (record (with_nominal o) { legend = o.legend; blank = o.blank }) no_party,
       (office_field s o TABLE.blank o.blank).tests,
@@ -175,13 +175,13 @@ blank_goes s done o h = rw (number_again TABLE.blank o.blank (lit< tt) h) refl
 
 null_goes : (s : Said) (done : List SaidOffice) (o : SaidOffice) → fits TABLE.null_votes.form o.null_votes ≡ true
     → step (at_office Null s done (record (with_nominal o) { legend = o.legend; blank = o.blank }) no_party)
-    (field_text TABLE.null_votes o.null_votes)
+    (row_text TABLE.null_votes o.null_votes)
     ≡ Some (at_office Total s done (record o { total = 0 }) no_party, (office_field s o TABLE.null_votes o.null_votes).tests)
 unfolding step
 null_goes s done o h = rw (number_again TABLE.null_votes o.null_votes (lit< tt) h) refl
 
 total_goes : (s : Said) (done : List SaidOffice) (o : SaidOffice) → fits TABLE.total.form o.total ≡ true
-    → step (at_office Total s done (record o { total = 0 }) no_party) (field_text TABLE.total o.total)
+    → step (at_office Total s done (record o { total = 0 }) no_party) (row_text TABLE.total o.total)
     ≡ Some (at_office Done s (done ++ o ∷ []) o no_party, (office_field s o TABLE.total o.total).tests)
 unfolding step
 total_goes s done o h = rw (number_again TABLE.total o.total (lit< tt) h) refl
@@ -204,7 +204,7 @@ last_traced s done o h = (
 code_goes : (m : Mode) (s : Said) (done : List SaidOffice) (x : SaidOffice) (q : SaidParty) (o : SaidOffice) → (m ≡ Code) ⊎ (m ≡ Done)
     → may_have_code (codes_in done) o.code ≡ true
     → fits TABLE.office.form o.code ≡ true
-    → step (at_office m s done x q) (field_text TABLE.office o.code) ≡ Some (at_office Kind s done (new_office o.code) no_party, [])
+    → step (at_office m s done x q) (row_text TABLE.office o.code) ≡ Some (at_office Kind s done (new_office o.code) no_party, [])
 unfolding step
 code_goes m s done x q o (inl e) may fit = rw (e, number_again TABLE.office o.code (lit< tt) fit, may) refl
 code_goes m s done x q o (inr e) may fit = rw (e, number_again TABLE.office o.code (lit< tt) fit, may) refl
@@ -214,7 +214,7 @@ kind_fits true = refl
 kind_fits false = refl
 
 kind_goes : (s : Said) (done : List SaidOffice) (code : ℕ)
-    → step (at_office Kind s done (new_office code) no_party) (field_text TABLE.kind (kind_number (code_proportional code)))
+    → step (at_office Kind s done (new_office code) no_party) (row_text TABLE.kind (kind_number (code_proportional code)))
     ≡ Some (at_office (if code_proportional code then Party else Vote) s done (new_office code) no_party, [])
 unfolding step
 kind_goes s done code = rw (
@@ -223,7 +223,7 @@ kind_goes s done code = rw (
 ) refl
 
 -- what stands behind TIPO
-abbrev behind_kind : Said → SaidOffice → Bool → List Field
+abbrev behind_kind : Said → SaidOffice → Bool → List ReportField
 behind_kind s o proportional = votes_fields proportional o ++ sum_fields s proportional o
 
 majority_traced : (s : Said) (done : List SaidOffice) (o : SaidOffice) → IsSaidOffice o → code_proportional o.code ≡ false

@@ -5,8 +5,8 @@ use Rattle.std.specs.List.{AllByRecursion, zip}
 use Rattle.std.proofs.lemmas.Bool.{eqb-true}
 use Rattle.urna_base.specs.Moment.{is_date}
 use Rattle.qr_text.specs.Reading.{no_party, start, State, Code, Head, new_office, number_at, step, with_head}
-use Rattle.qr_text.specs.Said.{Field, Test, head_field, head_tests, head_values}
-use Rattle.qr_text.specs.Table.{field_text, fits, head_rows}
+use Rattle.qr_text.specs.Said.{ReportField, Test, head_field, head_tests, head_values}
+use Rattle.qr_text.specs.Table.{row_text, fits, head_rows}
 use Rattle.qr_text.specs.declared.said.Said.{Said}
 use Rattle.qr_text.specs.declared.said.SaidOffice.{SaidOffice}
 use Rattle.qr_text.specs.declared.said.SaidParty.{SaidParty}
@@ -18,7 +18,7 @@ use Rattle.qr_text.proofs.RowLaws.{number_again}
 abbrev pub head_pairs : Said → List (Row × ℕ)
 head_pairs s = zip head_rows (head_values s)
 
-abbrev pub head_list : Said → List Field
+abbrev pub head_list : Said → List ReportField
 head_list s = map (head_field s) (head_pairs s)
 
 abbrev FitsRow : Row × ℕ → Type 0
@@ -75,12 +75,12 @@ offices_stay n few v s =
 
 -- the fields that were read, and the one that is
 pub fields_more : (n : ℕ) → n ≤ 12 → (v : ℕ) (s : Said)
-    → take n (head_list s) ++ record { text = field_text (row_at n) v; tests = head_tests (row_at n).tested (with_head n v s) } ∷ []
+    → take n (head_list s) ++ record { text = row_text (row_at n) v; tests = head_tests (row_at n).tested (with_head n v s) } ∷ []
     ≡ take (n + 1) (head_list (with_head n v s))
 unfolding head_rows
 fields_more n few v s =
     each_row (λ m. take m (head_list s) ++ record {
-      text = field_text (row_at m) v;
+      text = row_text (row_at m) v;
       tests = head_tests (row_at m).tested (with_head m v s);
     } ∷ []
     ≡ take (m + 1) (head_list (with_head m v s)))
@@ -133,11 +133,11 @@ abbrev number_of : ℕ → Said → ℕ
 number_of n s = get_or (head_values s) n 0
 
 head_goes : (n : ℕ) → n ≤ 12 → (s : Said) → fits (row_at n).form (number_of n s) ≡ true
-    → step (at_head n s) (field_text (row_at n) (number_of n s)) ≡ Some (at_head (n + 1) s, head_tests (row_at n).tested s)
+    → step (at_head n s) (row_text (row_at n) (number_of n s)) ≡ Some (at_head (n + 1) s, head_tests (row_at n).tested s)
 unfolding step head_rows
 head_goes n few s =
     each_row (λ m. fits (row_at m).form (number_of m s) ≡ true
-    → step (at_head m s) (field_text (row_at m) (number_of m s)) ≡ Some (at_head (m + 1) s, head_tests (row_at m).tested s))
+    → step (at_head m s) (row_text (row_at m) (number_of m s)) ≡ Some (at_head (m + 1) s, head_tests (row_at m).tested s))
     (λ e. rw (number_again TABLE.orig 0 tt e) refl)
     (λ e. rw (number_again TABLE.process s.process (lit< tt) e) refl)
     (λ e. rw (number_again TABLE.date s.date tt e) refl)

@@ -17,9 +17,9 @@ use Rattle.poll_report.specs.declared.report.OfficeCount.{OfficeCount}
 use Rattle.poll_report.specs.declared.report.Report.{Report}
 use Rattle.poll_report.proofs.Totals.{votes_cons}
 use Rattle.qr_text.specs.Laws.{ShortByVotes, TextIsShort}
-use Rattle.qr_text.specs.Said.{Field, IsSaidOffice, IsSaidParty, MayParty, MayVoteIn, fields, head_field, head_values, kind_number, last_fields, office_field, office_fields, party_field, party_fields, sum_fields, texts, vote_field, votes_fields}
+use Rattle.qr_text.specs.Said.{ReportField, IsSaidOffice, IsSaidParty, MayParty, MayVoteIn, fields, head_field, head_values, kind_number, last_fields, office_field, office_fields, party_field, party_fields, sum_fields, texts, vote_field, votes_fields}
 use Rattle.qr_text.specs.Spelling.{report_fields, report_text, said, said_office, said_parties, said_party}
-use Rattle.qr_text.specs.Table.{field_text, fits, head_rows, value_text}
+use Rattle.qr_text.specs.Table.{row_text, fits, head_rows, value_text}
 use Rattle.qr_text.specs.Writing.{spaced}
 use Rattle.qr_text.specs.declared.said.Said.{Said}
 use Rattle.qr_text.specs.declared.said.SaidOffice.{SaidOffice}
@@ -66,7 +66,7 @@ value_length k Time v s h = let l = length-padded 6 v in let m = leb-true 6 k s 
 abbrev pub is_short : ℕ → Row → Bool
 is_short k r = length r.key == 4 && fits_in k r.form
 
-pub short_field : (k : ℕ) (r : Row) (v : ℕ) → is_short k r ≡ true → fits r.form v ≡ true → length (field_text r v) ≤ 5 + k
+pub short_field : (k : ℕ) (r : Row) (v : ℕ) → is_short k r ≡ true → fits r.form v ≡ true → length (row_text r v) ≤ 5 + k
 short_field k r v s h =
     let both = both_from_and (length r.key == 4) (fits_in k r.form) s in
     let key = eqb-true (length r.key) 4 both.0 in
@@ -100,13 +100,13 @@ vote_length code c h =
 -- ---- many fields
 
 -- the bytes of fields, each behind a space
-abbrev pub size : List Field → ℕ
+abbrev pub size : List ReportField → ℕ
 size fs = length (spaced (texts fs))
 
-size_cons : (f : Field) (fs : List Field) → size (f ∷ fs) ≡ 1 + length f.text + size fs
+size_cons : (f : ReportField) (fs : List ReportField) → size (f ∷ fs) ≡ 1 + length f.text + size fs
 size_cons f fs = let whole = length-append (32 ∷ f.text) (spaced (texts fs)) in omega arith
 
-size_append : (a b : List Field) → size (a ++ b) ≡ size a + size b
+size_append : (a b : List ReportField) → size (a ++ b) ≡ size a + size b
 size_append a b = ap (λ (t : List ℕ). length t) (spaced_texts a b) ∙ length-append (spaced (texts a)) (spaced (texts b))
 
 -- each candidate has a vote
@@ -129,7 +129,7 @@ party_size code p h right =
     let total = short_field 4 TABLE.party_total p.total refl h.total in
     let some = some_of p.total h.total in
     let votes = votes_size code p.candidates (are_party_votes (digits_in code) p.number [] p.candidates h.candidates) in
-    let last : List Field = party_field p TABLE.party_legend p.legend ∷ party_field p TABLE.party_total p.total ∷ [] in
+    let last : List ReportField = party_field p TABLE.party_legend p.legend ∷ party_field p TABLE.party_total p.total ∷ [] in
     let a = size_cons (party_field p TABLE.party p.number) (map vote_field p.candidates ++ last) in
     let b = size_append (map vote_field p.candidates) last in
     let c = size_cons (party_field p TABLE.party_legend p.legend) (party_field p TABLE.party_total p.total ∷ []) in
@@ -214,7 +214,7 @@ sums_size : (s : Said) (o : SaidOffice) (b : Bool) → IsSaidOffice o → size (
 sums_size s o b h =
     let able = short_field 4 TABLE.office_able o.able refl h.able in
     let nominal = short_field 4 TABLE.nominal o.nominal refl h.nominal in
-    let legend_fields : List Field = if b then office_field s o TABLE.legend o.legend ∷ [] else [] in
+    let legend_fields : List ReportField = if b then office_field s o TABLE.legend o.legend ∷ [] else [] in
     let legend = legend_size s o b h in
     let last = last_size s o h in
     let a = size_cons (office_field s o TABLE.office_able o.able)

@@ -10,15 +10,16 @@ use Rattle.urna_base.specs.Digits.{is_digit, padded}
 use Rattle.urna_base.specs.Moment.{is_between}
 use Rattle.urna_base.specs.Words.{after_word}
 use Rattle.urna_base.proofs.DigitLaws.{all_digits-padded, both_from_and}
+use Rattle.urna_base.proofs.DecimalLaws.{all_digits}
 use Rattle.election_tables.specs.Fields.{has_digits}
 use Rattle.election_tables.specs.Offices.{code_proportional}
 use Rattle.election_tables.proofs.Kept.{has_digits-below}
 use Rattle.poll_report.specs.Report.{EachAfter, digits_in, is_some_votes, is_vote}
 use Rattle.poll_report.specs.declared.report.Count.{Count}
 use Rattle.qr_text.specs.Laws.{FieldsArePlain, IsPlain}
-use Rattle.qr_text.specs.Said.{Field, IsSaid, IsSaidOffice, MayOffice, MayParty, codes_in, fields, head_field, head_values, kind_number, last_fields, office_fields, party_fields, sum_fields, texts, vote_field, votes_fields}
+use Rattle.qr_text.specs.Said.{ReportField, IsSaid, IsSaidOffice, MayOffice, MayParty, codes_in, fields, head_field, head_values, kind_number, last_fields, office_fields, party_fields, sum_fields, texts, vote_field, votes_fields}
 use Rattle.qr_text.specs.Spelling.{report_fields, said}
-use Rattle.qr_text.specs.Table.{field_text, fits, head_rows, value_text}
+use Rattle.qr_text.specs.Table.{row_text, fits, head_rows, value_text}
 use Rattle.qr_text.specs.declared.said.Said.{Said}
 use Rattle.qr_text.specs.declared.said.SaidOffice.{SaidOffice}
 use Rattle.qr_text.specs.declared.said.SaidParty.{SaidParty}
@@ -30,7 +31,7 @@ use Rattle.qr_text.proofs.Codes.{code_fits, digits_few}
 use Rattle.qr_text.proofs.Following.{kind_fits}
 use Rattle.qr_text.proofs.Lengths.{AreVotes, are_party_votes, are_votes, fits_in, is_short, short_field, vote_length}
 use Rattle.qr_text.proofs.Reporting.{is_said}
-use Rattle.qr_text.proofs.RowLaws.{all_digits, number_small}
+use Rattle.qr_text.proofs.RowLaws.{number_small}
 
 -- ---- bytes that are seen
 
@@ -87,7 +88,7 @@ none_of (Some x) h = absurd (cc)
 abbrev pub is_plain : Row → Bool
 is_plain r = is_short 8 r && (list_all seen r.key && not (is_some (after_word (codes "HASH") r.key)))
 
-pub plain_field : (r : Row) (v : ℕ) → is_plain r ≡ true → fits r.form v ≡ true → IsPlain (field_text r v)
+pub plain_field : (r : Row) (v : ℕ) → is_plain r ≡ true → fits r.form v ≡ true → IsPlain (row_text r v)
 plain_field r v p h =
     let both = both_from_and (is_short 8 r) (list_all seen r.key && not (is_some (after_word (codes "HASH") r.key))) p in
     let short = both_from_and (length r.key == 4) (fits_in 8 r.form) both.0 in
@@ -127,10 +128,10 @@ plain_vote code c h =
 
 -- ---- each field
 
-abbrev pub Plains : List Field → Type 0
+abbrev pub Plains : List ReportField → Type 0
 Plains fs = AllByRecursion (λ f. IsPlain f.text) fs
 
-plains_append : (a b : List Field) → Plains a → Plains b → Plains (a ++ b)
+plains_append : (a b : List ReportField) → Plains a → Plains b → Plains (a ++ b)
 plains_append [] b h g = g
 plains_append (f ∷ a) b h g = (h.0, plains_append a b h.1 g)
 
@@ -199,7 +200,7 @@ plain_head : (s : Said) → AllByRecursion (λ x. fits x.0.form x.1 ≡ true) (z
 unfolding head_rows
 plain_head s h = plain_rows s head_rows (head_values s) refl h
 
-plain_texts : (fs : List Field) → Plains fs → AllByRecursion IsPlain (texts fs)
+plain_texts : (fs : List ReportField) → Plains fs → AllByRecursion IsPlain (texts fs)
 plain_texts [] h = tt
 plain_texts (f ∷ fs) h = (h.0, plain_texts fs h.1)
 

@@ -17,8 +17,8 @@ use Rattle.poll_report.proofs.Totals.{votes_cons}
 use Rattle.qr_text.specs.Fault.{failing}
 use Rattle.qr_text.specs.Laws.{SaidIsReport}
 use Rattle.qr_text.specs.Reported.{legends, told_office, told_report}
-use Rattle.qr_text.specs.Said.{Field, Equals, Holds, IsSaid, IsSaidOffice, MayOffice, MayParty, MayVoteIn, moment, all_nominal, all_legend, codes_in, fields, head_values, head_field, vote_field, party_fields, votes_fields, sum_fields, office_fields}
-use Rattle.qr_text.specs.Spelling.{said, said_office, said_parties, candidates_of, party_votes}
+use Rattle.qr_text.specs.Said.{ReportField, Equals, Holds, IsSaid, IsSaidOffice, MayOffice, MayParty, MayVoteIn, moment, all_nominal, all_legend, codes_in, fields, head_values, head_field, vote_field, party_fields, votes_fields, sum_fields, office_fields}
+use Rattle.qr_text.specs.Spelling.{said, said_office, said_parties, candidates_of_party, party_votes}
 use Rattle.qr_text.specs.Table.{is_time, head_rows}
 use Rattle.qr_text.specs.declared.said.Said.{Said}
 use Rattle.qr_text.specs.declared.said.SaidOffice.{SaidOffice}
@@ -48,7 +48,7 @@ order_from a b h = elim (cases_Bool (nat_le a b)) [
   | inr e ↦ let wrong = rw e at h in absurd (cc)
 ]
 
-pass_left : (a b : List Field) → Pass (a ++ b) → Pass a × Pass b
+pass_left : (a b : List ReportField) → Pass (a ++ b) → Pass a × Pass b
 pass_left [] b h = (tt, h)
 pass_left (f ∷ a) b h = let rest = pass_left a b h.1 in ((h.0, rest.0), rest.1)
 
@@ -189,9 +189,9 @@ office_again s o true h e votes sums =
     let none = h.proportional e in
     let are = are_parties digits [] o.parties h.parties in
     let flat : (told_office o).nominal ≡ all_candidates o.parties = ap (λ (l : List Count). l ++ all_candidates o.parties) none in
-    let tells : Tells digits (λ k. candidates_of digits k (told_office o).nominal) (λ k. party_votes k (legends o.parties)) 10 o.parties =
-    λ k l. (ap (λ (x : List Count). candidates_of digits k x) flat, refl) in
-    let parties = again digits (λ k. candidates_of digits k (told_office o).nominal) (λ k. party_votes k (legends o.parties)) 90 10 o.parties
+    let tells : Tells digits (λ k. candidates_of_party digits k (told_office o).nominal) (λ k. party_votes k (legends o.parties)) 10 o.parties =
+    λ k l. (ap (λ (x : List Count). candidates_of_party digits k x) flat, refl) in
+    let parties = again digits (λ k. candidates_of_party digits k (told_office o).nominal) (λ k. party_votes k (legends o.parties)) 90 10 o.parties
     tells are (parties_right o.parties votes) (are_rising digits [] o.parties h.parties) (in_range digits o.parties are) in
     let nominal = nominal_of o ∙ sums.nominal in
     let legend = legends_sum o.parties ∙ sums.legend refl in

@@ -12,7 +12,7 @@ use Rattle.poll_report.specs.Report.{votes_of, EachAfter}
 use Rattle.poll_report.specs.declared.report.Count.{Count}
 use Rattle.qr_text.specs.Reported.{legends}
 use Rattle.qr_text.specs.Said.{IsSaidParty, MayVoteIn}
-use Rattle.qr_text.specs.Spelling.{candidates_of, party_votes}
+use Rattle.qr_text.specs.Spelling.{candidates_of_party, party_votes}
 use Rattle.qr_text.specs.declared.said.SaidParty.{SaidParty}
 use Rattle.qr_text.proofs.Grouping.{strictly}
 use Rattle.qr_text.proofs.Saying.{zero_of, some_votes}
@@ -22,7 +22,7 @@ use Rattle.qr_text.proofs.Saying.{zero_of, some_votes}
 abbrev pub all_candidates : List SaidParty → List Count
 all_candidates ps = flat_map (λ p. p.candidates) ps
 
-own_candidates : (digits k : ℕ) (before cs : List Count) → EachAfter (MayVoteIn digits k) before cs → candidates_of digits k cs ≡ cs
+own_candidates : (digits k : ℕ) (before cs : List Count) → EachAfter (MayVoteIn digits k) before cs → candidates_of_party digits k cs ≡ cs
 own_candidates digits k before [] h = refl
 own_candidates digits k before (c ∷ cs) h =
     let mine : (first_two digits c.number == k) ≡ true = ap (λ (n : ℕ). n == k) h.0.0 ∙ eq-eqb k k refl in
@@ -32,7 +32,7 @@ other_number : (m n : ℕ) → (m ≡ n → ⊥) → (m == n) ≡ false
 other_number m n h = elim (cases_Bool (m == n)) [ inl e ↦ absurd (h (eqb-true m n e)) | inr e ↦ e ]
 
 foreign_candidates : (digits j k : ℕ) (before cs : List Count) → (j ≡ k → ⊥) → EachAfter (MayVoteIn digits j) before cs
-    → candidates_of digits k cs ≡ []
+    → candidates_of_party digits k cs ≡ []
 foreign_candidates digits j k before [] differ h = refl
 foreign_candidates digits j k before (c ∷ cs) differ h =
     let not_mine : (first_two digits c.number == k) ≡ false = ap (λ (n : ℕ). n == k) h.0.0 ∙ other_number j k differ in
@@ -45,12 +45,12 @@ AllAbove k ps = AllByRecursion (λ p. k < p.number) ps
 abbrev pub Parties : ℕ → List SaidParty → Type 0
 Parties digits ps = AllByRecursion (IsSaidParty digits) ps
 
-none_later : (digits k : ℕ) (ps : List SaidParty) → Parties digits ps → AllAbove k ps → candidates_of digits k (all_candidates ps) ≡ []
+none_later : (digits k : ℕ) (ps : List SaidParty) → Parties digits ps → AllAbove k ps → candidates_of_party digits k (all_candidates ps) ≡ []
 none_later digits k [] h a = refl
 none_later digits k (p ∷ ps) h a =
     let mine = foreign_candidates digits p.number k [] p.candidates (λ e. let over = a.0 in omega arith) h.0.candidates in
     filter-append (λ c. first_two digits c.number == k) p.candidates (all_candidates ps)
-    ∙ (ap (λ (l : List Count). l ++ candidates_of digits k (all_candidates ps)) mine ∙ none_later digits k ps h.1 a.1)
+    ∙ (ap (λ (l : List Count). l ++ candidates_of_party digits k (all_candidates ps)) mine ∙ none_later digits k ps h.1 a.1)
 
 -- ---- a party's votes among those of all parties
 
@@ -90,13 +90,13 @@ made C V k = record { number = k; candidates = C k; legend = V k; total = votes_
 
 -- from a on they give what is flattened of these parties
 abbrev pub Tells : ℕ → (ℕ → List Count) → (ℕ → ℕ) → ℕ → List SaidParty → Type 0
-Tells digits C V a ps = (k : ℕ) → a ≤ k → (C k ≡ candidates_of digits k (all_candidates ps)) × (V k ≡ party_votes k (legends ps))
+Tells digits C V a ps = (k : ℕ) → a ≤ k → (C k ≡ candidates_of_party digits k (all_candidates ps)) × (V k ≡ party_votes k (legends ps))
 
 skip_candidates : (digits k : ℕ) (p : SaidParty) (ps : List SaidParty) → IsSaidParty digits p → p.number < k
-    → candidates_of digits k (all_candidates (p ∷ ps)) ≡ candidates_of digits k (all_candidates ps)
+    → candidates_of_party digits k (all_candidates (p ∷ ps)) ≡ candidates_of_party digits k (all_candidates ps)
 skip_candidates digits k p ps h less =
     filter-append (λ c. first_two digits c.number == k) p.candidates (all_candidates ps)
-    ∙ ap (λ (l : List Count). l ++ candidates_of digits k (all_candidates ps))
+    ∙ ap (λ (l : List Count). l ++ candidates_of_party digits k (all_candidates ps))
     (foreign_candidates digits p.number k [] p.candidates (λ e. omega arith) h.candidates)
 
 skip_legend : (k : ℕ) (p : SaidParty) (ps : List SaidParty) → p.number < k → party_votes k (legends (p ∷ ps)) ≡ party_votes k (legends ps)
@@ -147,7 +147,7 @@ again digits C V (suc n) a (p ∷ ps) h parties right rising range =
           let here = h p.number (omega arith) in
           let own : C p.number ≡ p.candidates = here.0
           ∙ (filter-append (λ c. first_two digits c.number == p.number) p.candidates (all_candidates ps)
-          ∙ (ap (λ (l : List Count). l ++ candidates_of digits p.number (all_candidates ps))
+          ∙ (ap (λ (l : List Count). l ++ candidates_of_party digits p.number (all_candidates ps))
           (own_candidates digits p.number [] p.candidates parties.0.candidates)
           ∙ (ap (λ (l : List Count). p.candidates ++ l) (none_later digits p.number ps parties.1 rising.0) ∙ append-nil p.candidates))) in
           let legend : V p.number ≡ p.legend = here.1 ∙ own_legend p ps rising.0 in

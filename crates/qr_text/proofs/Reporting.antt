@@ -10,7 +10,7 @@ use Rattle.poll_report.specs.declared.report.Count.{Count}
 use Rattle.poll_report.specs.declared.report.OfficeCount.{OfficeCount}
 use Rattle.poll_report.specs.declared.report.Report.{Report}
 use Rattle.qr_text.specs.Fault.{failing}
-use Rattle.qr_text.specs.Said.{Field, Equals, Holds, IsSaid, IsSaidOffice, MayOffice, codes_in, fields, head_values, head_field, vote_field, party_fields, votes_fields, sum_fields, office_fields, all_nominal, all_legend, moment}
+use Rattle.qr_text.specs.Said.{ReportField, Equals, Holds, IsSaid, IsSaidOffice, MayOffice, codes_in, fields, head_values, head_field, vote_field, party_fields, votes_fields, sum_fields, office_fields, all_nominal, all_legend, moment}
 use Rattle.qr_text.specs.Spelling.{said, said_office, said_party, said_parties}
 use Rattle.qr_text.specs.Table.{head_rows}
 use Rattle.qr_text.specs.declared.said.Said.{Said}
@@ -18,7 +18,7 @@ use Rattle.qr_text.specs.declared.said.SaidOffice.{SaidOffice}
 use Rattle.qr_text.specs.declared.said.SaidParty.{SaidParty}
 use Rattle.qr_text.proofs.Saying.{head_fits, few, parties_may, grouped, nominal_groups, legend_groups, kept_sums, some_votes}
 
-abbrev pub Pass : List Field → Type 0
+abbrev pub Pass : List ReportField → Type 0
 Pass fs = AllByRecursion (λ f. failing f.tests ≡ None) fs
 
 -- ---- offices are well formed
@@ -101,7 +101,7 @@ is_said r h = record {
 equal_passes : (a b : ℕ) → a ≡ b → failing (Equals a b ∷ []) ≡ None
 equal_passes a b e = rw (eq-eqb a b e) refl
 
-pass_append : (a b : List Field) → Pass a → Pass b → Pass (a ++ b)
+pass_append : (a b : List ReportField) → Pass a → Pass b → Pass (a ++ b)
 pass_append [] b h g = g
 pass_append (f ∷ a) b h g = (h.0, pass_append a b h.1 g)
 

@@ -1,6 +1,6 @@
 -- Writing and reading of one field, and of a candidate's.
-use Rattle.std.proofs.Common.{◌≡◌, Bool, true, false, List, [], ◌∷◌, ◌++◌, ℕ, ◌<◌, ◌^◌, Option, Some, None, refl, sym, ap, ◌∙◌, subst, arith, lit<}
-use Rattle.std.specs.Prelude.{codes, not, ◌==◌, if◌then◌else◌, All}
+use Rattle.std.proofs.Common.{◌≡◌, Bool, true, false, List, [], ◌∷◌, ◌++◌, ℕ, ◌<◌, ◌^◌, Some, None, refl, sym, ap, ◌∙◌, subst, arith, lit<}
+use Rattle.std.specs.Prelude.{codes, not, ◌==◌, All}
 use Rattle.std.specs.Fmt.{decimal}
 use Rattle.std.specs.List.{list_all, slice_split, join_with_byte}
 use Rattle.std.specs.Option.{option_and_then}
@@ -11,7 +11,7 @@ use Rattle.std.proofs.lemmas.List.Splits.{slice_split_at, slice_split_none, join
 use Rattle.std.proofs.lemmas.Slice.Eq.{bytes_eq-Decides}
 use Rattle.urna_base.specs.Digits.{is_digit, decimal_value}
 use Rattle.urna_base.specs.Moment.{is_between}
-use Rattle.urna_base.proofs.DecimalLaws.{decimal_value-decimal, decimal-decimal_value, decimal_value-some}
+use Rattle.urna_base.proofs.DecimalLaws.{decimal_value-decimal, decimal-decimal_value, all_digits}
 use Rattle.urna_base.proofs.DigitLaws.{digits_value-padded, padded-digits_value, both_from_and}
 use Rattle.urna_base.proofs.MomentLaws.{is_date-below}
 use Rattle.election_tables.specs.Fields.{has_digits}
@@ -20,8 +20,9 @@ use Rattle.poll_report.specs.Report.{digits_in, is_some_votes, is_vote}
 use Rattle.poll_report.specs.declared.report.Count.{Count}
 use Rattle.urna_base.specs.Words.{after_word}
 use Rattle.urna_base.proofs.WordLaws.{after_word-append, after_word-some}
+use Rattle.urna_base.proofs.Cases.{and_then_some, guard_some}
 use Rattle.qr_text.specs.Reading.{only_fitting, written_value, value_at, number_at, vote_with, vote_of, vote_at}
-use Rattle.qr_text.specs.Table.{fits, is_time, value_text, field_text, vote_row}
+use Rattle.qr_text.specs.Table.{fits, is_time, value_text, row_text, vote_row}
 use Rattle.qr_text.specs.declared.table.Form.TheVariants.{Vota, Between, Date, Time}
 use Rattle.qr_text.specs.declared.table.Form.{Form}
 use Rattle.qr_text.specs.declared.table.Row.{Row}
@@ -40,21 +41,10 @@ time_small v e = grind (arith, nat_tests)
 pub between_small : (low high v : ℕ) → is_between low high v ≡ true → high < 10 ^ 18 → v < 10 ^ 18
 between_small low high v e h = grind (arith, nat_tests)
 
--- where a guarded value is there the guard holds
-guard_some : {A : Type 0} (b : Bool) (o : Option A) (x : A) → (if b then o else None) ≡ Some x → (b ≡ true) × (o ≡ Some x)
-guard_some true o x e = (refl, e)
-guard_some false o x e = absurd (cc)
-
 -- ---- values
 
 only_back : (form : Form) (v w : ℕ) → only_fitting form v ≡ Some w → (fits form w ≡ true) × (v ≡ w)
 only_back form v w e = let both = guard_some (fits form v) (Some v) w e in let same : v ≡ w = cc in (rw (← same) both.0, same)
-
--- where a step behind an option gives something, the option does
-pub and_then_some : {A B : Type 0} (o : Option A) (f : A → Option B) (y : B) → option_and_then f o ≡ Some y
-    → (x : A) × (o ≡ Some x) × (f x ≡ Some y)
-and_then_some None f y e = cc
-and_then_some (Some x) f y e = (x, refl, e)
 
 written_again : (form : Form) (v : ℕ) → IsSmall form → fits form v ≡ true → written_value form (value_text form v) ≡ Some v
 written_again Vota v s e = let zero_is : v ≡ 0 = grind (arith, nat_tests) in rw zero_is refl
@@ -73,7 +63,7 @@ unfolding value_at
 value_again form v s e = rw (written_again form v s e, e) refl
 
 -- the number of a field that is written is read
-pub number_again : (r : Row) (v : ℕ) → IsSmall r.form → fits r.form v ≡ true → number_at r (field_text r v) ≡ Some v
+pub number_again : (r : Row) (v : ℕ) → IsSmall r.form → fits r.form v ≡ true → number_at r (row_text r v) ≡ Some v
 unfolding number_at
 number_again r v s e = rw (after_word-append r.key (58 ∷ value_text r.form v)) (value_again r.form v s e)
 
@@ -85,7 +75,7 @@ value_back form t v e =
     (written_back form t v (inner.1 ∙ ap (λ (x : ℕ). Some x) fit.1), fit.0)
 
 -- a field that was read is the one that is written
-pub number_back : (r : Row) (p : List ℕ) (v : ℕ) → number_at r p ≡ Some v → (p ≡ field_text r v) × (fits r.form v ≡ true)
+pub number_back : (r : Row) (p : List ℕ) (v : ℕ) → number_at r p ≡ Some v → (p ≡ row_text r v) × (fits r.form v ≡ true)
 unfolding number_at
 number_back r p v e =
     let outer = and_then_some (option_and_then (after_word (58 ∷ [])) (after_word r.key p)) (value_at r.form) v e in
@@ -108,9 +98,6 @@ no_colons (c ∷ t) h =
     let other : is_colon c ≡ false = grind (arith, nat_tests) in
     All-cons (λ b. is_colon b ≡ false) c t other (no_colons t both.1)
 
-pub all_digits : (v : ℕ) → v < 10 ^ 18 → list_all is_digit (decimal v) ≡ true
-all_digits v s = (decimal_value-some (decimal v) v (decimal_value-decimal v s)).0.all
-
 vote_small : (digits : ℕ) (c : Count) → is_vote digits c ≡ true → c.votes < 10 ^ 18
 vote_small digits c e = let few = (both_from_and (has_digits digits c.number) (is_some_votes c.votes) e).1 in
     between_small 1 9999 c.votes few (lit< tt)
@@ -123,7 +110,7 @@ number_small code c e =
     omega arith
 
 pub vote_again : (digits : ℕ) (c : Count) → c.number < 10 ^ 18 → is_vote digits c ≡ true
-    → vote_at digits (field_text (vote_row c.number) c.votes) ≡ Some c
+    → vote_at digits (row_text (vote_row c.number) c.votes) ≡ Some c
 unfolding vote_at
 vote_again digits c small e =
     let votes_small : c.votes < 10 ^ 18 = vote_small digits c e in
@@ -161,19 +148,19 @@ vote_none digits key t h n = rw (slice_split_at is_colon key 58 t (no_colon_in k
 
 -- a candidate's field that was read is the one that is written
 pub vote_back : (digits : ℕ) (p : List ℕ) (c : Count) → vote_at digits p ≡ Some c
-    → (p ≡ field_text (vote_row c.number) c.votes) × (is_vote digits c ≡ true)
+    → (p ≡ row_text (vote_row c.number) c.votes) × (is_vote digits c ≡ true)
 unfolding vote_at
 vote_back digits p c e = split_back digits p c (slice_split is_colon p) (join_with_byte-slice_split 58 p) e
   where
     pair_back : (a b : List ℕ) → a ++ 58 ∷ b ≡ p → vote_of digits (a ∷ b ∷ []) ≡ Some c
-        → (p ≡ field_text (vote_row c.number) c.votes) × (is_vote digits c ≡ true)
+        → (p ≡ row_text (vote_row c.number) c.votes) × (is_vote digits c ≡ true)
     pair_back a b whole e =
         let first = and_then_some (decimal_value a) (λ number. option_and_then (vote_with digits number) (decimal_value b)) c e in
         let second = and_then_some (decimal_value b) (vote_with digits first.0) c first.2 in
         let found : Count = record { number = first.0; votes = second.0 } in
         let both = guard_some (is_vote digits found) (Some found) c second.2 in
         let same : found ≡ c = cc in
-        let P : Count → Type 0 = λ x. (p ≡ field_text (vote_row x.number) x.votes) × (is_vote digits x ≡ true) in
+        let P : Count → Type 0 = λ x. (p ≡ row_text (vote_row x.number) x.votes) × (is_vote digits x ≡ true) in
         subst P same (
           sym whole ∙ (ap (λ (x : List ℕ). x ++ 58 ∷ b) (sym (decimal-decimal_value a first.0 first.1))
               ∙ ap (λ (x : List ℕ). decimal first.0 ++ 58 ∷ x) (sym (decimal-decimal_value b second.0 second.1))),
@@ -181,7 +168,7 @@ vote_back digits p c e = split_back digits p c (slice_split is_colon p) (join_wi
         )
 
     split_back : (digits' : ℕ) (p' : List ℕ) (c' : Count) (parts : List (List ℕ)) → join_with_byte 58 parts ≡ p
-        → vote_of digits parts ≡ Some c → (p ≡ field_text (vote_row c.number) c.votes) × (is_vote digits c ≡ true)
+        → vote_of digits parts ≡ Some c → (p ≡ row_text (vote_row c.number) c.votes) × (is_vote digits c ≡ true)
     split_back d q x [] whole e = absurd (cc)
     split_back d q x (a ∷ []) whole e = absurd (cc)
     split_back d q x (a ∷ b ∷ []) whole e = pair_back a b whole e

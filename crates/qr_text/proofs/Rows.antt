@@ -6,7 +6,7 @@ use Rattle.urna_base.specs.Digits.{decimal_value, digits_value, padded}
 use Rattle.urna_base.specs.Moment.{is_date, is_moment}
 use Rattle.election_tables.specs.Offices.{row_of}
 use Rattle.poll_report.specs.Report.{IsReport}
-use Rattle.qr_text.specs.Fault.{IsFault}
+use Rattle.qr_text.specs.Fault.{IsFieldFault}
 use Rattle.qr_text.specs.Reading.{number_at, reading, said_by, step, value_at, vote_at}
 use Rattle.qr_text.specs.Said.{fields}
 use Rattle.qr_text.specs.Spelling.{report_fields, report_text, said}
@@ -75,50 +75,50 @@ two_offices_is_report = record {
 -- ---- faults
 
 -- the fault that the reading of a text meets
-found : (bytes : List ℕ) (f : FieldFault) → said_by bytes ≡ Err f → IsFault bytes f
+found : (bytes : List ℕ) (f : FieldFault) → said_by bytes ≡ Err f → IsFieldFault bytes f
 found bytes f e = read_fault complete completes bytes f e
 
 -- a total of four, where three votes are listed
-total_too_great : IsFault (with_end (codes "NULO:0 TOTC:4 " ++ mayor)) (fault.Sum 28 3 4)
+total_too_great : IsFieldFault (with_end (codes "NULO:0 TOTC:4 " ++ mayor)) (fault.Sum 28 3 4)
 unfolding said_by reading step number_at value_at vote_at head_rows row_of digits_value decimal_value is_date
 total_too_great = found (with_end (codes "NULO:0 TOTC:4 " ++ mayor)) (fault.Sum 28 3 4) refl
 
 -- a null vote more, where three came: the votes make the total, and the total isn't who came
-votes_too_many : IsFault (with_end (codes "NULO:1 TOTC:4 " ++ mayor)) (fault.Sum 28 3 4)
+votes_too_many : IsFieldFault (with_end (codes "NULO:1 TOTC:4 " ++ mayor)) (fault.Sum 28 3 4)
 unfolding said_by reading step number_at value_at vote_at head_rows row_of digits_value decimal_value is_date
 votes_too_many = found (with_end (codes "NULO:1 TOTC:4 " ++ mayor)) (fault.Sum 28 3 4) refl
 
 -- a leading zero
-zero_in_front : IsFault (with_end (codes "NULO:00 TOTC:3 " ++ mayor)) (fault.Field 27)
+zero_in_front : IsFieldFault (with_end (codes "NULO:00 TOTC:3 " ++ mayor)) (fault.Field 27)
 unfolding said_by reading step number_at value_at vote_at head_rows row_of digits_value decimal_value is_date
 zero_in_front = found (with_end (codes "NULO:00 TOTC:3 " ++ mayor)) (fault.Field 27) refl
 
 -- the text ends, and the total is still wanted
-ends_too_early : IsFault (with_end (codes "NULO:0")) (fault.Field 28)
+ends_too_early : IsFieldFault (with_end (codes "NULO:0")) (fault.Field 28)
 unfolding said_by reading step number_at value_at vote_at head_rows row_of digits_value decimal_value is_date
 ends_too_early = found (with_end (codes "NULO:0")) (fault.Field 28) refl
 
 -- a space behind the last field is an empty field more
-space_at_the_end : IsFault (with_end (codes "NULO:0 TOTC:3 ")) (fault.Field 29)
+space_at_the_end : IsFieldFault (with_end (codes "NULO:0 TOTC:3 ")) (fault.Field 29)
 unfolding said_by reading step number_at value_at vote_at head_rows row_of digits_value decimal_value is_date
 space_at_the_end = found (with_end (codes "NULO:0 TOTC:3 ")) (fault.Field 29) refl
 
 -- the same office once more
-office_twice : IsFault (with_end (codes "NULO:0 TOTC:3 CARG:13 TIPO:1 APTA:3 NOMI:0 LEGC:0 BRAN:3 NULO:0 TOTC:3")) (fault.Field 29)
+office_twice : IsFieldFault (with_end (codes "NULO:0 TOTC:3 CARG:13 TIPO:1 APTA:3 NOMI:0 LEGC:0 BRAN:3 NULO:0 TOTC:3")) (fault.Field 29)
 unfolding said_by reading step number_at value_at vote_at head_rows row_of digits_value decimal_value is_date
 office_twice = found (with_end (codes "NULO:0 TOTC:3 CARG:13 TIPO:1 APTA:3 NOMI:0 LEGC:0 BRAN:3 NULO:0 TOTC:3")) (fault.Field 29) refl
 
-nothing_at_all : IsFault [] (fault.Field 1)
+nothing_at_all : IsFieldFault [] (fault.Field 1)
 unfolding said_by reading step number_at value_at head_rows
 nothing_at_all = found [] (fault.Field 1) refl
 
 -- more came than there are voters: that shows at FALT
-too_many_came : IsFault (poll ++ codes "APTO:3 COMP:4 FALT:0") (fault.Sum 9 4 3)
+too_many_came : IsFieldFault (poll ++ codes "APTO:3 COMP:4 FALT:0") (fault.Sum 9 4 3)
 unfolding said_by reading step number_at value_at head_rows digits_value decimal_value is_date
 too_many_came = found (poll ++ codes "APTO:3 COMP:4 FALT:0") (fault.Sum 9 4 3) refl
 
 -- closed on the day before: that shows at the time of the day
-closed_too_early : IsFault (poll ++ codes "APTO:3 COMP:3 FALT:0 DTAB:20261004 HRAB:080000 DTFC:20261003 HRFC:170000") (fault.Field 13)
+closed_too_early : IsFieldFault (poll ++ codes "APTO:3 COMP:3 FALT:0 DTAB:20261004 HRAB:080000 DTFC:20261003 HRFC:170000") (fault.Field 13)
 unfolding said_by reading step number_at value_at head_rows digits_value decimal_value is_date
 closed_too_early = found (poll ++ codes "APTO:3 COMP:3 FALT:0 DTAB:20261004 HRAB:080000 DTFC:20261003 HRFC:170000") (fault.Field 13) refl
 

@@ -16,7 +16,7 @@ use Rattle.poll_report.specs.declared.report.OfficeCount.{OfficeCount}
 use Rattle.poll_report.specs.declared.report.Report.{Report}
 use Rattle.poll_report.proofs.Totals.{votes_cons}
 use Rattle.qr_text.specs.Said.{IsSaidParty, MayParty, MayVoteIn, head_values}
-use Rattle.qr_text.specs.Spelling.{said, said_party, candidates_of, party_votes}
+use Rattle.qr_text.specs.Spelling.{said, said_party, candidates_of_party, party_votes}
 use Rattle.qr_text.specs.Table.{fits, is_time, head_rows}
 use Rattle.qr_text.specs.declared.said.SaidParty.{SaidParty}
 use Rattle.qr_text.proofs.Codes.{proportional_digits}
@@ -93,7 +93,7 @@ keeps_one before kept c k n h =
 
 -- the candidates of a party may stand in it
 candidates_may : (digits party : ℕ) (before kept cs : List Count) → Keeps before kept → EachAfter (MayVote digits) before cs
-    → EachAfter (MayVoteIn digits party) kept (candidates_of digits party cs)
+    → EachAfter (MayVoteIn digits party) kept (candidates_of_party digits party cs)
 candidates_may digits party before kept [] k h = tt
 candidates_may digits party before kept (c ∷ cs) k h =
     elim (cases_Bool (first_two digits c.number == party)) [
@@ -150,7 +150,7 @@ is_party digits o k votes bound low high some =
       number = party_number k low high;
       candidates = candidates_may digits k [] [] o.nominal (λ n h. h) votes;
       legend = few (party_votes k o.parties) (omega arith);
-      total = small_total (votes_of (candidates_of digits k o.nominal) + party_votes k o.parties) some (omega arith);
+      total = small_total (votes_of (candidates_of_party digits k o.nominal) + party_votes k o.parties) some (omega arith);
     }
 
 abbrev pub party_numbers : List SaidParty → List ℕ
@@ -249,9 +249,9 @@ votes_groups f (k ∷ ks) =
     omega arith
 
 pub nominal_groups : (digits : ℕ) → Grouped digits → (ns : List Count) → EachAfter (MayVote digits) [] ns
-    → sum_by (λ k. votes_of (candidates_of digits k ns)) (range_with_len 10 90) ≡ votes_of ns
+    → sum_by (λ k. votes_of (candidates_of_party digits k ns)) (range_with_len 10 90) ≡ votes_of ns
 nominal_groups digits g ns h =
-    sym (votes_groups (λ k. candidates_of digits k ns) (range_with_len 10 90))
+    sym (votes_groups (λ k. candidates_of_party digits k ns) (range_with_len 10 90))
     ∙ ap (λ (l : List Count). votes_of l)
     (regroup (λ (c : Count). first_two digits c.number) 90 10 ns (within_by digits g [] ns h) (ascends_by digits g [] ns h))
 
@@ -322,14 +322,14 @@ no_votes n m h = let none : n + m ≡ 0 = grind (arith, nat_tests) in (omega ari
 
 pub kept_sums : (digits : ℕ) (o : OfficeCount) (ks : List ℕ)
     → (sum_by (λ p. votes_of p.candidates) (filter some_votes (map (said_party digits o) ks))
-    ≡ sum_by (λ k. votes_of (candidates_of digits k o.nominal)) ks)
+    ≡ sum_by (λ k. votes_of (candidates_of_party digits k o.nominal)) ks)
     × (sum_by (λ p. p.legend) (filter some_votes (map (said_party digits o) ks)) ≡ sum_by (λ k. party_votes k o.parties) ks)
 kept_sums digits o [] = (refl, refl)
 kept_sums digits o (k ∷ ks) =
     let rest = kept_sums digits o ks in
     let p : SaidParty = said_party digits o k in
     let others : List SaidParty = filter some_votes (map (said_party digits o) ks) in
-    let n = sum_by-cons (λ (j : ℕ). votes_of (candidates_of digits j o.nominal)) k ks in
+    let n = sum_by-cons (λ (j : ℕ). votes_of (candidates_of_party digits j o.nominal)) k ks in
     let l = sum_by-cons (λ (j : ℕ). party_votes j o.parties) k ks in
     elim (cases_Bool (some_votes p)) [
       | inl e ↦
@@ -338,7 +338,7 @@ kept_sums digits o (k ∷ ks) =
           let a = rest.0 in let b = rest.1 in
           rw e (omega arith, omega arith)
       | inr e ↦
-          let none = no_votes (votes_of (candidates_of digits k o.nominal)) (party_votes k o.parties) e in
+          let none = no_votes (votes_of (candidates_of_party digits k o.nominal)) (party_votes k o.parties) e in
           let a = rest.0 in let b = rest.1 in let c = none.0 in let d = none.1 in
           rw e (omega arith, omega arith)
     ]

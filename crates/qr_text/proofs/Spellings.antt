@@ -2,12 +2,13 @@
 use Rattle.std.proofs.Common.{◌≡◌, ℕ, List, inl, inr, refl, sym, ap, ◌∙◌}
 use Rattle.std.specs.List.{join_with_byte}
 use Rattle.std.proofs.lemmas.List.Splits.{join_with_byte-slice_split}
+use Rattle.urna_base.specs.Words.{pieces}
 use Rattle.poll_report.specs.Report.{IsReport}
 use Rattle.poll_report.specs.declared.report.Report.{Report}
 use Rattle.qr_text.specs.Fault.{Says}
 use Rattle.qr_text.specs.Laws.{NeverBoth, OneAnswer, OneText, TextHasFields, TextSpellsReport}
 use Rattle.qr_text.specs.Said.{fields, texts}
-use Rattle.qr_text.specs.Spelling.{Spells, pieces, said, report_fields, report_text}
+use Rattle.qr_text.specs.Spelling.{Spells, said, report_fields, report_text}
 use Rattle.qr_text.specs.declared.said.Said.{Said}
 use Rattle.qr_text.proofs.Faults.{one_of_both, not_both, says_one}
 use Rattle.qr_text.proofs.Flattening.{one_report}
@@ -37,6 +38,13 @@ one_answer bytes = elim (one_of_both bytes) [
 
 pub never_both : NeverBoth
 never_both bytes f r fault h = not_both bytes f (said r) fault (spells_says bytes r h)
+
+-- a text spells one report
+pub one_spelled : (text : List ℕ) (r q : Report) → Spells text r → Spells text q → r ≡ q
+one_spelled text r q h i = elim (one_answer text) [
+  | inl fault ↦ absurd (never_both text fault.0 r fault.1 h)
+  | inr report ↦ report.2 r h ∙ sym (report.2 q i)
+]
 
 pub one_text : OneText
 unfolding report_text report_fields

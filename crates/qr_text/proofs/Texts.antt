@@ -6,10 +6,11 @@ use Rattle.std.proofs.lemmas.Bool.Decides.{nat_tests}
 use Rattle.std.proofs.lemmas.List.Elements.{All-nil, All-cons}
 use Rattle.std.proofs.lemmas.List.Splits.{slice_split_at, slice_split_none}
 use Rattle.urna_base.specs.Moment.{is_between}
+use Rattle.urna_base.specs.Words.{pieces}
 use Rattle.urna_base.proofs.DigitLaws.{both_from_and}
 use Rattle.qr_text.specs.Laws.{IsPlain, ReportIsSaid}
 use Rattle.qr_text.specs.Said.{fields, texts}
-use Rattle.qr_text.specs.Spelling.{pieces, said, report_fields, report_text}
+use Rattle.qr_text.specs.Spelling.{said, report_fields, report_text}
 use Rattle.qr_text.specs.Table.{head_rows}
 use Rattle.qr_text.specs.declared.said.Said.{Said}
 use Rattle.qr_text.proofs.Plain.{plain_said}

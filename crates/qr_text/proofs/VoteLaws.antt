@@ -12,9 +12,9 @@ use Rattle.poll_report.specs.Report.{is_some_votes, is_vote, votes_of}
 use Rattle.poll_report.specs.declared.report.Count.{Count}
 use Rattle.urna_base.proofs.DecimalLaws.{decimal_value-some}
 use Rattle.urna_base.proofs.DigitLaws.{both_from_and}
+use Rattle.urna_base.proofs.PieceLaws.{split_first, no_split}
 use Rattle.urna_base.specs.Digits.{decimal_value}
 use Rattle.urna_base.specs.Moment.{is_between}
-use Rattle.qr_text.proofs.PieceLaws.{split_at, no_split}
 use Rattle.qr_text.proofs.RowLaws.{no_colons, vote_back}
 use Rattle.qr_text.specs.Reading.{vote_at, vote_of, vote_with}
 use Rattle.qr_text.specs.Sections.{FieldsLeft}
@@ -47,7 +47,7 @@ by_colon : (digits : ℕ) (p : List ℕ) (o : Option ℕ) → position is_colon 
     ≡ vote_of digits (slice_split is_colon p)
 by_colon digits p None h = sym (ap (λ (x : List (List ℕ)). vote_of digits x) (no_split is_colon p h))
 by_colon digits p (Some end) h =
-    behind_colon digits (take end p) (drop (end + 1) p) (decimal_value (drop (end + 1) p)) refl ∙ sym (ap (λ (x : List (List ℕ)). vote_of digits x) (split_at is_colon p end h))
+    behind_colon digits (take end p) (drop (end + 1) p) (decimal_value (drop (end + 1) p)) refl ∙ sym (ap (λ (x : List (List ℕ)). vote_of digits x) (split_first is_colon p end h))
 
 pub colon_same : (digits : ℕ) (p : List ℕ) → vote_by_colon digits p ≡ vote_at digits p
 unfolding vote_by_colon vote_at

@@ -14,9 +14,9 @@ use Rattle.poll_report.specs.Report.{greatest_count, votes_of, IsOfficeCount, Is
 use Rattle.poll_report.specs.declared.report.Count.{Count}
 use Rattle.poll_report.specs.declared.report.OfficeCount.{OfficeCount}
 use Rattle.poll_report.specs.declared.report.Report.{Report}
-use Rattle.qr_text.specs.Said.{Field, fields, vote_field, party_field, office_field, kind_number, party_fields, votes_fields, sum_fields, office_fields, texts}
-use Rattle.qr_text.specs.Spelling.{candidates_of, party_votes, said, said_office, said_party, report_fields, report_text}
-use Rattle.qr_text.specs.Table.{head_rows, field_text}
+use Rattle.qr_text.specs.Said.{ReportField, fields, vote_field, party_field, office_field, kind_number, party_fields, votes_fields, sum_fields, office_fields, texts}
+use Rattle.qr_text.specs.Spelling.{candidates_of_party, party_votes, said, said_office, said_party, report_fields, report_text}
+use Rattle.qr_text.specs.Table.{head_rows, row_text}
 use Rattle.qr_text.specs.Writing.{IsCounted, with_fields, with_total, head_texts, spaced_vote, spaced_votes, spaced_party, spaced_parties, spaced_office_votes, with_code, with_sums, with_last, with_office, spaced, spaced_office}
 use Rattle.qr_text.specs.declared.said.Said.{Said}
 use Rattle.qr_text.specs.declared.said.SaidOffice.{SaidOffice}
@@ -42,15 +42,15 @@ pub spaced_joins : (text : List ℕ) (fs : List (List ℕ)) → text ++ spaced f
 spaced_joins text [] = append-nil text
 spaced_joins text (f ∷ fs) = ap (λ (t : List ℕ). text ++ 32 ∷ t) (spaced_joins f fs)
 
-pub spaced_texts : (a b : List Field) → spaced (texts (a ++ b)) ≡ spaced (texts a) ++ spaced (texts b)
-spaced_texts a b = ap (λ (x : List (List ℕ)). spaced x) (map-append (λ (f : Field). f.text) a b)
+pub spaced_texts : (a b : List ReportField) → spaced (texts (a ++ b)) ≡ spaced (texts a) ++ spaced (texts b)
+spaced_texts a b = ap (λ (x : List (List ℕ)). spaced x) (map-append (λ (f : ReportField). f.text) a b)
     ∙ flat_map-append (λ (t : List ℕ). 32 ∷ t) (texts a) (texts b)
 
 votes_spaced : (cs : List Count) → spaced_votes cs ≡ spaced (texts (map vote_field cs))
 votes_spaced [] = refl
 votes_spaced (c ∷ cs) = ap (λ (t : List ℕ). spaced_vote c ++ t) (votes_spaced cs)
 
-office_joined : (text : List ℕ) (a p s : List Field) (v : List ℕ) → v ≡ spaced (texts p)
+office_joined : (text : List ℕ) (a p s : List ReportField) (v : List ℕ) → v ≡ spaced (texts p)
     → with_fields (with_fields text (texts a) ++ v) (texts s) ≡ text ++ spaced (texts (a ++ (p ++ s)))
 office_joined text a p s v h =
     with_fields_spaced (with_fields text (texts a) ++ v) (texts s)
@@ -61,8 +61,8 @@ office_joined text a p s v h =
     ∙ sym (ap (λ (x : List ℕ). text ++ x) (spaced_texts a (p ++ s) ∙ ap (λ (x : List ℕ). spaced (texts a) ++ x) (spaced_texts p s)))))))
 
 party_spaced : (p : SaidParty)
-    → (32 ∷ field_text TABLE.party p.number) ++ spaced_votes
-    p.candidates ++ (32 ∷ field_text TABLE.party_legend p.legend) ++ (32 ∷ field_text TABLE.party_total p.total)
+    → (32 ∷ row_text TABLE.party p.number) ++ spaced_votes
+    p.candidates ++ (32 ∷ row_text TABLE.party_legend p.legend) ++ (32 ∷ row_text TABLE.party_total p.total)
     ≡ spaced (texts (party_fields p))
 party_spaced p =
     office_joined [] (party_field p TABLE.party p.number ∷ []) (map vote_field p.candidates)
@@ -81,7 +81,7 @@ parties_spaced o (k ∷ ks) =
     let p : SaidParty = said_party (digits_in o.code) o k in
     elim (cases_Bool (some_votes p)) [
       | inl e ↦
-          let later : List Field = flat_map party_fields (filter some_votes (map (said_party (digits_in o.code) o) ks)) in
+          let later : List ReportField = flat_map party_fields (filter some_votes (map (said_party (digits_in o.code) o) ks)) in
           rw e (ap (λ (t : List ℕ). t ++ flat_map (spaced_at o) ks) (party_spaced p)
           ∙ (ap (λ (t : List ℕ). spaced (texts (party_fields p)) ++ t) rest ∙ sym (spaced_texts (party_fields p) later)))
       | inr e ↦ rw e rest
@@ -98,7 +98,7 @@ votes_are : (b : Bool) (r : Report) (o : OfficeCount)
 votes_are true r o = parties_are_spaced o 90
 votes_are false r o = votes_spaced o.nominal
 
-office_by : (b : Bool) (text : List ℕ) (s : Said) (q : SaidOffice) (v : List ℕ) (p : List Field) → v ≡ spaced (texts p)
+office_by : (b : Bool) (text : List ℕ) (s : Said) (q : SaidOffice) (v : List ℕ) (p : List ReportField) → v ≡ spaced (texts p)
     → with_last q.blank q.null_votes q.total (with_sums q.able b q.nominal q.legend (with_code q.code b text ++ v))
     ≡ text ++ spaced (texts (office_field s q TABLE.office q.code ∷ office_field s q TABLE.kind (kind_number b) ∷ (p ++ sum_fields s b q)))
 unfolding with_last with_sums with_code
@@ -122,11 +122,11 @@ offices_spaced r (o ∷ os) =
     ∙ sym (spaced_texts (office_fields (said r) (said_office r o)) (flat_map (office_fields (said r)) (map (said_office r) os)))
 
 -- what is written is the text of the report
-pub written : (r : Report) → with_fields (field_text TABLE.orig 0) (head_texts r) ++ flat_map (spaced_office r) r.offices ≡ report_text r
+pub written : (r : Report) → with_fields (row_text TABLE.orig 0) (head_texts r) ++ flat_map (spaced_office r) r.offices ≡ report_text r
 unfolding report_text report_fields fields head_rows said
 written r =
     let all : List (List ℕ) = texts (flat_map (office_fields (said r)) (map (said_office r) r.offices)) in
-    let orig : List ℕ = field_text TABLE.orig 0 in
+    let orig : List ℕ = row_text TABLE.orig 0 in
     ap (λ (t : List ℕ). t ++ flat_map (spaced_office r) r.offices) (with_fields_spaced orig (head_texts r))
     ∙ (append_assoc orig (spaced (head_texts r)) (flat_map (spaced_office r) r.offices)
     ∙ (ap (λ (t : List ℕ). orig ++ (spaced (head_texts r) ++ t)) (offices_spaced r r.offices)
@@ -202,7 +202,7 @@ parties_step o k own entry start out new h low own_is entry_is e put =
     let legend : votes_of entry ≡ party_votes k o.parties = ap (λ (l : List Count). votes_of l) entry_is
     ∙ sym (legend_of [] o.parties k h.1.parties) in
     put ∙ (ap (λ (l : List Count). out ++ spaced_party (with_total k l (votes_of entry))) own_is
-    ∙ (ap (λ (v : ℕ). out ++ spaced_party (with_total k (candidates_of (digits_in o.code) k o.nominal) v)) legend
+    ∙ (ap (λ (v : ℕ). out ++ spaced_party (with_total k (candidates_of_party (digits_in o.code) k o.nominal) v)) legend
     ∙ (ap (λ (t : List ℕ). t ++ spaced_at o k) e
     ∙ (append_assoc start (spaced_parties o (k - 10)) (spaced_at o k)
     ∙ (ap (λ (t : List ℕ). start ++ t) (sym more) ∙ ap (λ (j : ℕ). start ++ spaced_parties o j) (sym step))))))

@@ -2,8 +2,8 @@
 use Rattle.std.specs.Prelude.{◌≡◌, ℕ, ◌+◌, Bool, not, ◌==◌, List, [], ◌∷◌, ◌++◌, map, take, Option, Some, None, slice_get}
 use Rattle.std.specs.List.{AllByRecursion, find}
 use Rattle.std.specs.Option.{option_map_or}
-use Rattle.qr_text.specs.Said.{Equals, Field, Holds, IsSaid, Test, fields, texts}
-use Rattle.qr_text.specs.Spelling.{pieces}
+use Rattle.urna_base.specs.Words.{pieces}
+use Rattle.qr_text.specs.Said.{Equals, ReportField, Holds, IsSaid, Test, fields, texts}
 use Rattle.qr_text.specs.declared.fault.FieldFault.TheVariants as fault
 use Rattle.qr_text.specs.declared.fault.FieldFault.{FieldFault}
 use Rattle.qr_text.specs.declared.said.Said.{Said}
@@ -27,11 +27,11 @@ abbrev pub ended : List (List ℕ) → List (Option (List ℕ))
 ended ps = map (λ p. Some p) ps ++ None ∷ []
 
 -- these fields begin as the text does: the first k pieces are the same, the end counted as one
-abbrev pub Begins : ℕ → List ℕ → List Field → Type 0
+abbrev pub Begins : ℕ → List ℕ → List ReportField → Type 0
 Begins k bytes fs = take k (ended (pieces bytes)) ≡ take k (ended (texts fs))
 
 -- no test at the first k fields fails
-abbrev pub Agrees : ℕ → List Field → Type 0
+abbrev pub Agrees : ℕ → List ReportField → Type 0
 Agrees k fs = AllByRecursion (λ f. failing f.tests ≡ None) (take k fs)
 
 -- a text says this, and rightly: its pieces are the fields of it, and no test fails
@@ -42,10 +42,10 @@ pub record Says (bytes : List ℕ) (s : Said) : Type 0 where
 
 -- The fault of a text. Its first k fields are those of something that may be said, and no test fails at them. At the next field, or
 -- at the end in its place, either nothing that may be said begins so, or a test fails, of which the first counts.
-pub data IsFault : List ℕ → FieldFault → Type 0 where
+pub data IsFieldFault : List ℕ → FieldFault → Type 0 where
   strange : (bytes : List ℕ) (k : ℕ) (s : Said) → IsSaid s → Begins k bytes (fields s) → Agrees k (fields s)
       → ((q : Said) → IsSaid q → Begins (k + 1) bytes (fields q) → ⊥)
-      → IsFault bytes (fault.Field (k + 1))
+      → IsFieldFault bytes (fault.Field (k + 1))
   failed : (bytes : List ℕ) (k : ℕ) (s : Said) → IsSaid s → Begins (k + 1) bytes (fields s) → Agrees k (fields s)
       → (t : Test) → failing (option_map_or (λ f. f.tests) (slice_get (fields s) k) []) ≡ Some t
-      → IsFault bytes (fault_at (k + 1) t)
+      → IsFieldFault bytes (fault_at (k + 1) t)

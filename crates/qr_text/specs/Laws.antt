@@ -2,11 +2,11 @@
 use Rattle.std.specs.Prelude.{◌≡◌, ◌⊎◌, ◌↔◌, ℕ, ◌+◌, ◌*◌, ◌<◌, ◌≤◌, true, List, length, codes, None}
 use Rattle.std.specs.List.{AllByRecursion, list_all, sum_by}
 use Rattle.urna_base.specs.Moment.{is_between}
-use Rattle.urna_base.specs.Words.{after_word}
+use Rattle.urna_base.specs.Words.{after_word, pieces}
 use Rattle.poll_report.specs.Report.{IsReport, total_of}
 use Rattle.poll_report.specs.declared.report.Report.{Report}
-use Rattle.qr_text.specs.Fault.{IsFault, Says}
-use Rattle.qr_text.specs.Spelling.{Spells, pieces, report_fields, report_text, said}
+use Rattle.qr_text.specs.Fault.{IsFieldFault, Says}
+use Rattle.qr_text.specs.Spelling.{Spells, report_fields, report_text, said}
 use Rattle.qr_text.specs.declared.fault.FieldFault.{FieldFault}
 use Rattle.qr_text.specs.declared.said.Said.{Said}
 
@@ -14,15 +14,15 @@ use Rattle.qr_text.specs.declared.said.Said.{Said}
 
 -- each text has a fault, or says something rightly
 abbrev pub OneOfBoth : Type 0
-OneOfBoth = (bytes : List ℕ) → ((f : FieldFault) × IsFault bytes f) ⊎ ((s : Said) × Says bytes s)
+OneOfBoth = (bytes : List ℕ) → ((f : FieldFault) × IsFieldFault bytes f) ⊎ ((s : Said) × Says bytes s)
 
 -- and never both
 abbrev pub NotBoth : Type 0
-NotBoth = (bytes : List ℕ) (f : FieldFault) (s : Said) → IsFault bytes f → Says bytes s → ⊥
+NotBoth = (bytes : List ℕ) (f : FieldFault) (s : Said) → IsFieldFault bytes f → Says bytes s → ⊥
 
 -- a text has one fault
 abbrev pub OneFault : Type 0
-OneFault = (bytes : List ℕ) (f g : FieldFault) → IsFault bytes f → IsFault bytes g → f ≡ g
+OneFault = (bytes : List ℕ) (f g : FieldFault) → IsFieldFault bytes f → IsFieldFault bytes g → f ≡ g
 
 -- and says one thing
 abbrev pub SaysOne : Type 0
@@ -47,11 +47,11 @@ OneReport = (r q : Report) → IsReport r → IsReport q → said r ≡ said q �
 -- each text has a fault, or spells one report
 abbrev pub OneAnswer : Type 0
 OneAnswer = (bytes : List ℕ)
-    → ((f : FieldFault) × IsFault bytes f) ⊎ ((r : Report) × Spells bytes r × ((q : Report) → Spells bytes q → q ≡ r))
+    → ((f : FieldFault) × IsFieldFault bytes f) ⊎ ((r : Report) × Spells bytes r × ((q : Report) → Spells bytes q → q ≡ r))
 
 -- and never both
 abbrev pub NeverBoth : Type 0
-NeverBoth = (bytes : List ℕ) (f : FieldFault) (r : Report) → IsFault bytes f → Spells bytes r → ⊥
+NeverBoth = (bytes : List ℕ) (f : FieldFault) (r : Report) → IsFieldFault bytes f → Spells bytes r → ⊥
 
 -- a report has one text
 abbrev pub OneText : Type 0

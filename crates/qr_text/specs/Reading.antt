@@ -6,14 +6,13 @@ use Rattle.std.specs.List.{slice_split}
 use Rattle.std.specs.Option.{option_and_then, option_or}
 use Rattle.std.specs.Str.{bytes_eq}
 use Rattle.urna_base.specs.Digits.{digits_value, decimal_value}
-use Rattle.urna_base.specs.Words.{after_word}
+use Rattle.urna_base.specs.Words.{after_word, pieces}
 use Rattle.election_tables.specs.Fields.{first_two}
 use Rattle.election_tables.specs.Offices.{code_proportional}
 use Rattle.poll_report.specs.Report.{is_vote, is_above, numbers_of, digits_in, may_have_code}
 use Rattle.poll_report.specs.declared.report.Count.{Count}
 use Rattle.qr_text.specs.Fault.{failing, fault_at}
 use Rattle.qr_text.specs.Said.{Test, head_tests, party_tests, office_tests, kind_number, codes_in}
-use Rattle.qr_text.specs.Spelling.{pieces}
 use Rattle.qr_text.specs.Table.{fits, head_rows}
 use Rattle.qr_text.specs.declared.fault.FieldFault.TheVariants as fault
 use Rattle.qr_text.specs.declared.fault.FieldFault.{FieldFault}

@@ -6,7 +6,7 @@ use Rattle.election_tables.specs.Fields.{first_two}
 use Rattle.election_tables.specs.Offices.{code_proportional}
 use Rattle.poll_report.specs.Report.{EachAfter, MayVote, digits_in, is_above, may_have_code, votes_of}
 use Rattle.poll_report.specs.declared.report.Count.{Count}
-use Rattle.qr_text.specs.Table.{field_text, fits, head_rows, vote_row}
+use Rattle.qr_text.specs.Table.{row_text, fits, head_rows, vote_row}
 use Rattle.qr_text.specs.declared.said.Said.{Said}
 use Rattle.qr_text.specs.declared.said.SaidOffice.{SaidOffice}
 use Rattle.qr_text.specs.declared.said.SaidParty.{SaidParty}
@@ -70,11 +70,12 @@ office_tests Party s o = []
 -- ---- the fields
 
 -- a field, and what is tested at it
-pub record Field : Type 0 where
+pub record ReportField : Type 0 where
   pub text : List ℕ
   pub tests : List Test
 
-abbrev pub texts : List Field → List (List ℕ)
+-- the texts of fields, in order
+abbrev pub texts : List ReportField → List (List ℕ)
 texts fs = map (λ f. f.text) fs
 
 -- the numbers before the offices, one for each of `head_rows`
@@ -84,17 +85,20 @@ head_values s =
     ∷ s.able ∷ s.came ∷ s.missed
     ∷ s.open_date ∷ s.open_time ∷ s.close_date ∷ s.close_time ∷ []
 
-abbrev pub head_field : Said → Row × ℕ → Field
-head_field s x = record { text = field_text x.0 x.1; tests = head_tests x.0.tested s }
+-- a field before the offices, by its row of the table and its number
+abbrev pub head_field : Said → Row × ℕ → ReportField
+head_field s x = record { text = row_text x.0 x.1; tests = head_tests x.0.tested s }
 
-abbrev pub vote_field : Count → Field
-vote_field c = record { text = field_text (vote_row c.number) c.votes; tests = [] }
+-- the field of a candidate's votes
+abbrev pub vote_field : Count → ReportField
+vote_field c = record { text = row_text (vote_row c.number) c.votes; tests = [] }
 
-abbrev pub party_field : SaidParty → Row → ℕ → Field
-party_field p r v = record { text = field_text r v; tests = party_tests r.tested p }
+-- a field of a party, by its row of the table and its number
+abbrev pub party_field : SaidParty → Row → ℕ → ReportField
+party_field p r v = record { text = row_text r v; tests = party_tests r.tested p }
 
 -- a party, its candidates, its party votes and its total
-abbrev pub party_fields : SaidParty → List Field
+abbrev pub party_fields : SaidParty → List ReportField
 party_fields p =
     party_field p TABLE.party p.number
     ∷ map vote_field p.candidates
@@ -102,29 +106,32 @@ party_fields p =
     ∷ party_field p TABLE.party_total p.total
     ∷ []
 
-abbrev pub office_field : Said → SaidOffice → Row → ℕ → Field
-office_field s o r v = record { text = field_text r v; tests = office_tests r.tested s o }
+-- a field of an office, by its row of the table and its number
+abbrev pub office_field : Said → SaidOffice → Row → ℕ → ReportField
+office_field s o r v = record { text = row_text r v; tests = office_tests r.tested s o }
 
 -- TIPO of an office
 abbrev pub kind_number : Bool → ℕ
 kind_number proportional = if proportional then 1 else 0
 
 -- the votes of an office, by party where it is proportional
-abbrev pub votes_fields : Bool → SaidOffice → List Field
+abbrev pub votes_fields : Bool → SaidOffice → List ReportField
 votes_fields proportional o = if proportional then flat_map party_fields o.parties else map vote_field o.candidates
 
-abbrev pub last_fields : Said → SaidOffice → List Field
+-- the blank, the null and all votes of an office
+abbrev pub last_fields : Said → SaidOffice → List ReportField
 last_fields s o =
     office_field s o TABLE.blank o.blank ∷ office_field s o TABLE.null_votes o.null_votes ∷ office_field s o TABLE.total o.total ∷ []
 
 -- the sums of an office, the party votes only where it is proportional
-abbrev pub sum_fields : Said → Bool → SaidOffice → List Field
+abbrev pub sum_fields : Said → Bool → SaidOffice → List ReportField
 sum_fields s proportional o =
     office_field s o TABLE.office_able o.able
     ∷ office_field s o TABLE.nominal o.nominal
     ∷ ((if proportional then office_field s o TABLE.legend o.legend ∷ [] else []) ++ last_fields s o)
 
-abbrev pub office_fields : Said → SaidOffice → List Field
+-- an office: its code, TIPO, its votes and its sums
+abbrev pub office_fields : Said → SaidOffice → List ReportField
 office_fields s o =
     let proportional = code_proportional o.code in
     office_field s o TABLE.office o.code
@@ -132,7 +139,7 @@ office_fields s o =
     ∷ (votes_fields proportional o ++ sum_fields s proportional o)
 
 -- all fields, in order
-unfoldable pub fields : Said → List Field
+unfoldable pub fields : Said → List ReportField
 fields s = map (head_field s) (zip head_rows (head_values s)) ++ flat_map (office_fields s) s.offices
 
 -- ---- what may be said
@@ -141,6 +148,7 @@ fields s = map (head_field s) (zip head_rows (head_values s)) ++ flat_map (offic
 abbrev pub MayVoteIn : ℕ → ℕ → List Count → Count → Type 0
 MayVoteIn digits party before c = (first_two digits c.number ≡ party) × MayVote digits before c
 
+-- each number of a party has the form of its field, and its candidates may stand behind each other
 pub record IsSaidParty (digits : ℕ) (p : SaidParty) : Type 0 where
   pub number : fits TABLE.party.form p.number ≡ true
   pub candidates : EachAfter (MayVoteIn digits p.number) [] p.candidates
@@ -164,6 +172,7 @@ pub record IsSaidOffice (o : SaidOffice) : Type 0 where
   pub null_votes : fits TABLE.null_votes.form o.null_votes ≡ true
   pub total : fits TABLE.total.form o.total ≡ true
 
+-- the codes of offices, in order
 abbrev pub codes_in : List SaidOffice → List ℕ
 codes_in offices = map (λ o. o.code) offices
 

@@ -2,12 +2,12 @@
 -- behind it show that both read the same.
 use Rattle.std.specs.Prelude.{ℕ, ◌+◌, nat_le, nat_lt, ◌==◌, Bool, true, if◌then◌else◌, List, [], ◌∷◌, Option, Some, None, Result, Ok, Err}
 use Rattle.std.specs.Borrow.{Bor}
+use Rattle.urna_base.specs.Words.{pieces}
 use Rattle.election_tables.specs.Offices.{code_proportional}
 use Rattle.poll_report.specs.Report.{may_have_code, votes_of}
 use Rattle.poll_report.specs.declared.report.Count.{Count}
 use Rattle.qr_text.specs.Reading.{number_at}
 use Rattle.qr_text.specs.Said.{codes_in, kind_number, moment}
-use Rattle.qr_text.specs.Spelling.{pieces}
 use Rattle.qr_text.specs.declared.fault.FieldFault.TheVariants as fault
 use Rattle.qr_text.specs.declared.fault.FieldFault.{FieldFault}
 use Rattle.qr_text.specs.declared.head.Head.{Head}

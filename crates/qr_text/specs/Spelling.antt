@@ -1,7 +1,8 @@
 -- The one spelling of a report.
 use Rattle.std.specs.Prelude.{◌≡◌, ℕ, ◌+◌, ◌-◌, ◌/◌, ◌%◌, nat_lt, ◌==◌, if◌then◌else◌, List, [], map}
-use Rattle.std.specs.List.{find, filter, range_with_len, join_with_byte, slice_split}
+use Rattle.std.specs.List.{find, filter, range_with_len, join_with_byte}
 use Rattle.std.specs.Option.{option_map_or}
+use Rattle.urna_base.specs.Words.{pieces}
 use Rattle.election_tables.specs.Fields.{first_two}
 use Rattle.election_tables.specs.Offices.{code_proportional}
 use Rattle.poll_report.specs.Report.{IsReport, digits_in, total_of, votes_of}
@@ -20,12 +21,13 @@ abbrev pub party_votes : ℕ → List Count → ℕ
 party_votes number parties = option_map_or (λ c. c.votes) (find (λ c. c.number == number) parties) 0
 
 -- the candidates of a party: those whose numbers begin with the party's
-abbrev pub candidates_of : ℕ → ℕ → List Count → List Count
-candidates_of digits party nominal = filter (λ c. first_two digits c.number == party) nominal
+abbrev pub candidates_of_party : ℕ → ℕ → List Count → List Count
+candidates_of_party digits party nominal = filter (λ c. first_two digits c.number == party) nominal
 
+-- a party with its candidates, its party votes and its total
 abbrev pub said_party : ℕ → OfficeCount → ℕ → SaidParty
 said_party digits o party =
-    let candidates = candidates_of digits party o.nominal in
+    let candidates = candidates_of_party digits party o.nominal in
     let legend = party_votes party o.parties in
     record { number = party; candidates = candidates; legend = legend; total = votes_of candidates + legend }
 
@@ -68,10 +70,6 @@ said r = record {
 }
 
 -- ---- texts
-
--- the pieces of a text between single spaces (32)
-abbrev pub pieces : List ℕ → List (List ℕ)
-pieces bytes = slice_split (λ b. b == 32) bytes
 
 -- the fields of a report
 unfoldable pub report_fields : Report → List (List ℕ)

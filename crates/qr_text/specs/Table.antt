@@ -28,8 +28,8 @@ value_text Date v = padded 8 v
 value_text Time v = padded 6 v
 
 -- a field: the key, a colon (58) and the value
-abbrev pub field_text : Row → ℕ → List ℕ
-field_text r v = r.key ++ 58 ∷ value_text r.form v
+abbrev pub row_text : Row → ℕ → List ℕ
+row_text r v = r.key ++ 58 ∷ value_text r.form v
 
 -- the fields before the offices, in order
 unfoldable pub head_rows : List Row

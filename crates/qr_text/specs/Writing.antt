@@ -8,7 +8,7 @@ use Rattle.poll_report.specs.declared.report.OfficeCount.{OfficeCount}
 use Rattle.poll_report.specs.declared.report.Report.{Report}
 use Rattle.qr_text.specs.Said.{kind_number, office_fields, texts}
 use Rattle.qr_text.specs.Spelling.{said, said_office, said_party}
-use Rattle.qr_text.specs.Table.{field_text, vote_row}
+use Rattle.qr_text.specs.Table.{row_text, vote_row}
 use Rattle.qr_text.specs.declared.said.SaidParty.{SaidParty}
 use Rattle.qr_text.specs.declared.table.Form.TheVariants.{Vota, Between, Date, Time}
 use Rattle.qr_text.specs.declared.table.Form.{Form}
@@ -33,24 +33,24 @@ with_fields text (f ∷ fs) = with_fields (text ++ 32 ∷ f) fs
 -- the fields before the offices, but for the first
 abbrev pub head_texts : Report → List (List ℕ)
 head_texts r =
-    field_text TABLE.process r.process
-    ∷ field_text TABLE.date r.date
-    ∷ field_text TABLE.turn r.turn
-    ∷ field_text TABLE.zone r.zone
-    ∷ field_text TABLE.section r.section
-    ∷ field_text TABLE.able r.able
-    ∷ field_text TABLE.came r.came
-    ∷ field_text TABLE.missed (r.able - r.came)
-    ∷ field_text TABLE.open_date (r.opened / 1000000)
-    ∷ field_text TABLE.open_time (r.opened % 1000000)
-    ∷ field_text TABLE.close_date (r.closed / 1000000)
-    ∷ field_text TABLE.close_time (r.closed % 1000000)
+    row_text TABLE.process r.process
+    ∷ row_text TABLE.date r.date
+    ∷ row_text TABLE.turn r.turn
+    ∷ row_text TABLE.zone r.zone
+    ∷ row_text TABLE.section r.section
+    ∷ row_text TABLE.able r.able
+    ∷ row_text TABLE.came r.came
+    ∷ row_text TABLE.missed (r.able - r.came)
+    ∷ row_text TABLE.open_date (r.opened / 1000000)
+    ∷ row_text TABLE.open_time (r.opened % 1000000)
+    ∷ row_text TABLE.close_date (r.closed / 1000000)
+    ∷ row_text TABLE.close_time (r.closed % 1000000)
     ∷ []
 
 -- ---- the votes of an office
 
 abbrev pub spaced_vote : Count → List ℕ
-spaced_vote c = 32 ∷ field_text (vote_row c.number) c.votes
+spaced_vote c = 32 ∷ row_text (vote_row c.number) c.votes
 
 abbrev pub spaced_votes : List Count → List ℕ
 spaced_votes counts = flat_map spaced_vote counts
@@ -64,8 +64,8 @@ with_total party candidates legend =
 abbrev pub spaced_party : SaidParty → List ℕ
 spaced_party p =
     if nat_lt 0 p.total
-    then (32 ∷ field_text TABLE.party p.number) ++ spaced_votes p.candidates
-    ++ (32 ∷ field_text TABLE.party_legend p.legend) ++ (32 ∷ field_text TABLE.party_total p.total)
+    then (32 ∷ row_text TABLE.party p.number) ++ spaced_votes p.candidates
+    ++ (32 ∷ row_text TABLE.party_legend p.legend) ++ (32 ∷ row_text TABLE.party_total p.total)
     else []
 
 -- so many of the parties from 10 on
@@ -82,19 +82,19 @@ abbrev pub IsCounted : OfficeCount → Type 0
 IsCounted o = (came : ℕ) × IsOfficeCount came o
 
 unfoldable pub with_code : ℕ → Bool → List ℕ → List ℕ
-with_code code proportional text = with_fields text (field_text TABLE.office code ∷ field_text TABLE.kind (kind_number proportional) ∷ [])
+with_code code proportional text = with_fields text (row_text TABLE.office code ∷ row_text TABLE.kind (kind_number proportional) ∷ [])
 
 abbrev pub legend_texts : Bool → ℕ → List (List ℕ)
-legend_texts proportional legend = if proportional then field_text TABLE.legend legend ∷ [] else []
+legend_texts proportional legend = if proportional then row_text TABLE.legend legend ∷ [] else []
 
 unfoldable pub with_sums : ℕ → Bool → ℕ → ℕ → List ℕ → List ℕ
 with_sums able proportional nominal legend text =
-    with_fields (with_fields text (field_text TABLE.office_able able ∷ field_text TABLE.nominal nominal ∷ []))
+    with_fields (with_fields text (row_text TABLE.office_able able ∷ row_text TABLE.nominal nominal ∷ []))
     (legend_texts proportional legend)
 
 unfoldable pub with_last : ℕ → ℕ → ℕ → List ℕ → List ℕ
 with_last blank null_votes total text =
-    with_fields text (field_text TABLE.blank blank ∷ field_text TABLE.null_votes null_votes ∷ field_text TABLE.total total ∷ [])
+    with_fields text (row_text TABLE.blank blank ∷ row_text TABLE.null_votes null_votes ∷ row_text TABLE.total total ∷ [])
 
 -- a text and an office behind it, part by part
 unfoldable pub with_office : Report → List ℕ → OfficeCount → List ℕ

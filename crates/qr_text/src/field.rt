@@ -1,7 +1,7 @@
 ghost use Rattle.std.specs.Prelude.{◌≡◌, ◌++◌, ◌∷◌, OnOk};
 ghost use Rattle.election_tables.specs.Fields.{first_two};
 ghost use Rattle.poll_report.specs.Report.{digits_in};
-ghost use Rattle.qr_text.specs.Table.{field_text};
+ghost use Rattle.qr_text.specs.Table.{row_text};
 ghost use Rattle.qr_text.specs.Writing.{HasRoom, spaced_vote};
 
 use crate::table::{Form, Row};
@@ -12,7 +12,7 @@ use urna_base::{Memory, put_decimal, put_digits};
 /// Appends a field of the table.
 pub(crate) fn put_field(out: &mut Vec<u8>, row: &Row, value: u64) -> Result<(), Memory>
     requires { HasRoom row.now.form value }
-    ensures { OnOk result (out.new.items ≡ out.old.items ++ field_text row.now value) }
+    ensures { OnOk result (out.new.items ≡ out.old.items ++ row_text row.now value) }
 {
     out.extend_from_slice(&row.key)?;
     out.push(b':')?;
@@ -28,7 +28,7 @@ pub(crate) fn put_field(out: &mut Vec<u8>, row: &Row, value: u64) -> Result<(), 
 /// Appends a field of the table behind a space.
 pub(crate) fn put_next(out: &mut Vec<u8>, row: &Row, value: u64) -> Result<(), Memory>
     requires { HasRoom row.now.form value }
-    ensures { OnOk result (out.new.items ≡ out.old.items ++ 32 ∷ field_text row.now value) }
+    ensures { OnOk result (out.new.items ≡ out.old.items ++ 32 ∷ row_text row.now value) }
 {
     out.push(b' ')?;
     put_field(out, row, value)

@@ -1,7 +1,7 @@
 //! A whole field text is read.
 ghost use Rattle.std.specs.Prelude.{◌≡◌, ◌≢◌, ◌<◌, ◌^◌, length, IfOk, Err, Ok};
 ghost use Rattle.poll_report.specs.declared.report.Report.{Report};
-ghost use Rattle.qr_text.specs.Fault.{IsFault};
+ghost use Rattle.qr_text.specs.Fault.{IsFieldFault};
 ghost use Rattle.qr_text.specs.Fronts.{MatchRead};
 ghost use Rattle.qr_text.specs.Reading.{said_by};
 ghost use Rattle.qr_text.specs.Spelling.{Spells};
@@ -23,9 +23,9 @@ use urna_base::Memory;
 pub fn read_fields(alloc: Global, bytes: &[u8]) -> Result<Report, FieldError>
     requires { length bytes.now < 2 ^ 31 }
     ensures ok { IfOk result (λ r. Spells bytes.now r) }
-    ensures fault { (f : FieldFault) → result ≡ Err (FieldError.Fault f) → IsFault bytes.now f }
+    ensures fault { (f : FieldFault) → result ≡ Err (FieldError.Fault f) → IsFieldFault bytes.now f }
     ensures ok_there { result ≢ Err FieldError.Memory → (r : Report) → Spells bytes.now r → result ≡ Ok r }
-    ensures fault_there { result ≢ Err FieldError.Memory → (f : FieldFault) → IsFault bytes.now f → result ≡ Err (FieldError.Fault f) }
+    ensures fault_there { result ≢ Err FieldError.Memory → (f : FieldFault) → IsFieldFault bytes.now f → result ≡ Err (FieldError.Fault f) }
 {
     read_report(alloc, bytes)
 }
@@ -33,7 +33,7 @@ pub fn read_fields(alloc: Global, bytes: &[u8]) -> Result<Report, FieldError>
 /// The same, told of the answer that there is: that there is no other follows from the laws of texts.
 fn read_report(alloc: Global, bytes: &[u8]) -> Result<Report, FieldError>
     requires { length bytes.now < 2 ^ 31 }
-    ensures { MatchRead result (λ r. Spells bytes.now r) (λ f. IsFault bytes.now f) }
+    ensures { MatchRead result (λ r. Spells bytes.now r) (λ f. IsFieldFault bytes.now f) }
 {
     let said = read_said(alloc, bytes)?;
     let report = told_report(alloc, &said)?;

@@ -1,7 +1,7 @@
 //! A text that is read field by field.
 ghost use Rattle.std.specs.Prelude.{◌≡◌, ◌==◌, ◌+◌, ◌^◌, ◌<◌, ◌≤◌, ◌↔◌, ◌∷◌, [], length, position, true, IfOk, IfSome, IsTrue, MatchOption, MatchResult, Err, None, Ok, Some};
+ghost use Rattle.urna_base.specs.Words.{pieces};
 ghost use Rattle.qr_text.specs.Sections.{is_narrow, pieces_left, row_reading, sum_reading};
-ghost use Rattle.qr_text.specs.Spelling.{pieces};
 ghost use Rattle.qr_text.specs.Table.{fits};
 ghost use Rattle.qr_text.specs.Votes.{party_first, vote_first};
 

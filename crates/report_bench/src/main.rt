@@ -9,7 +9,7 @@
 #![tactic(auto)]
 
 ghost use Rattle.std.specs.Prelude.{◌≡◌, ◌<◌, ◌^◌, Some, codes, length};
-ghost use Rattle.hash_chain.specs.Cut.{pieces};
+ghost use Rattle.urna_base.specs.Words.{pieces};
 ghost use Rattle.hash_chain.specs.Fault.{AreFields};
 ghost use Rattle.poll_report.specs.Report.{IsReport};
 

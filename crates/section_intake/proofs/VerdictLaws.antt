@@ -1,13 +1,11 @@
 -- Of a file there is one verdict.
-use Rattle.std.proofs.Common.{◌≡◌, ◌⊎◌, inl, inr, ℕ, ◌<◌, ◌^◌, Bool, true, false, List, length, refl, sym, ap, subst, ◌∙◌}
+use Rattle.std.proofs.Common.{◌≡◌, inl, inr, ℕ, ◌<◌, ◌^◌, false, List, length, refl, sym, ap, subst}
 use Rattle.std.proofs.lemmas.Bool.{cases_Bool}
 use Rattle.election_tables.specs.TablesData.{IsTables, TablesData}
-use Rattle.hash_chain.specs.Chain.{parts_text}
-use Rattle.hash_chain.specs.Fault.{ArePartsOf, IsPartFault}
-use Rattle.hash_chain.specs.declared.fault.PartFault.{PartFault}
+use Rattle.hash_chain.specs.Fault.{ArePartsOf}
 use Rattle.hash_chain.proofs.Faults as parts
 use Rattle.poll_report.specs.declared.report.Report.{Report}
-use Rattle.qr_text.specs.Fault.{IsFault}
+use Rattle.qr_text.specs.Fault.{IsFieldFault}
 use Rattle.qr_text.specs.Spelling.{Spells}
 use Rattle.qr_text.specs.declared.fault.FieldFault.{FieldFault}
 use Rattle.qr_text.proofs.Faults as fields
@@ -21,30 +19,16 @@ use Rattle.section_intake.specs.declared.verdict.Verdict.{Verdict}
 use Rattle.section_intake.specs.declared.verdict.Verdict.TheVariants as verdict
 use Rattle.section_intake.proofs.FitLaws.{fit_says, says_fit}
 
--- a file is the parts of one text
-one_text : (bytes a b : List ℕ) → length bytes < 2 ^ 63 → ArePartsOf bytes a → ArePartsOf bytes b → a ≡ b
-one_text bytes a b short h i = elim (parts.one_of_both bytes short) [
-  | inl fault ↦ absurd (parts.never_both bytes a fault.0 short fault.1 h)
-  | inr text ↦ text.2 a h ∙ sym (text.2 b i)
-]
-
--- which spells one report
-one_spelled : (text : List ℕ) (r q : Report) → Spells text r → Spells text q → r ≡ q
-one_spelled text r q h i = elim (texts.one_answer text) [
-  | inl fault ↦ absurd (texts.never_both text fault.0 r fault.1 h)
-  | inr report ↦ report.2 r h ∙ sym (report.2 q i)
-]
-
 one_report : (bytes : List ℕ) (r q : Report) → length bytes < 2 ^ 63 → IsReportFile bytes r → IsReportFile bytes q → r ≡ q
 one_report bytes r q short h i =
-    let same = one_text bytes h.text i.text short h.parts i.parts in
-    one_spelled i.text r q (subst (λ (t : List ℕ). Spells t r) same h.spells) i.spells
+    let same = parts.one_text bytes h.text i.text short h.parts i.parts in
+    texts.one_spelled i.text r q (subst (λ (t : List ℕ). Spells t r) same h.spells) i.spells
 
 -- the fields of a report's file have no fault
-no_fault : (bytes text : List ℕ) (f : FieldFault) (r : Report) → length bytes < 2 ^ 63 → ArePartsOf bytes text → IsFault text f → IsReportFile bytes r → ⊥
+no_fault : (bytes text : List ℕ) (f : FieldFault) (r : Report) → length bytes < 2 ^ 63 → ArePartsOf bytes text → IsFieldFault text f → IsReportFile bytes r → ⊥
 no_fault bytes text f r short h fault i =
-    let same = one_text bytes text i.text short h i.parts in
-    texts.never_both i.text f r (subst (λ (t : List ℕ). IsFault t f) same fault) i.spells
+    let same = parts.one_text bytes text i.text short h i.parts in
+    texts.never_both i.text f r (subst (λ (t : List ℕ). IsFieldFault t f) same fault) i.spells
 
 pub one_verdict : OneVerdict
 one_verdict t bytes _ _ short (v.parts {f} h) (v.parts {f = g} i) = ap verdict.Part (parts.one_fault bytes f g h i)
@@ -53,8 +37,8 @@ one_verdict t bytes _ _ short (v.parts {f} h) (strange i _) = absurd (parts.neve
 one_verdict t bytes _ _ short (v.parts {f} h) (accepted i _) = absurd (parts.never_both bytes i.text f short h i.parts)
 one_verdict t bytes _ _ short (v.fields {text} h _) (v.parts {f} i) = absurd (parts.never_both bytes text f short i h)
 one_verdict t bytes _ _ short (v.fields {text} {f} h a) (v.fields {text = other} {f = g} i b) =
-    let same = one_text bytes text other short h i in
-    ap verdict.Fields (fields.one_fault other f g (subst (λ (x : List ℕ). IsFault x f) same a) b)
+    let same = parts.one_text bytes text other short h i in
+    ap verdict.Fields (fields.one_fault other f g (subst (λ (x : List ℕ). IsFieldFault x f) same a) b)
 one_verdict t bytes _ _ short (v.fields {text} {f} h a) (strange {r} i _) = absurd (no_fault bytes text f r short h a i)
 one_verdict t bytes _ _ short (v.fields {text} {f} h a) (accepted {r} i _) = absurd (no_fault bytes text f r short h a i)
 one_verdict t bytes _ _ short (strange h _) (v.parts {f} i) = absurd (parts.never_both bytes h.text f short i h.parts)

@@ -1,8 +1,8 @@
 -- What is so of all files and tables.
 use Rattle.std.specs.Prelude.{◌≡◌, ◌<◌, ◌^◌, ℕ, List, length}
+use Rattle.urna_base.specs.Words.{pieces}
 use Rattle.election_tables.specs.TablesData.{IsTables, TablesData}
 use Rattle.hash_chain.specs.Chain.{parts_text}
-use Rattle.hash_chain.specs.Cut.{pieces}
 use Rattle.hash_chain.specs.Fault.{AreFields}
 use Rattle.poll_report.specs.Report.{IsReport}
 use Rattle.poll_report.specs.declared.report.Report.{Report}

@@ -3,7 +3,7 @@ use Rattle.std.specs.Prelude.{ℕ, List}
 use Rattle.hash_chain.specs.Fault.{ArePartsOf, IsPartFault}
 use Rattle.hash_chain.specs.declared.fault.PartError.TheVariants as part
 use Rattle.hash_chain.specs.declared.fault.PartError.{PartError}
-use Rattle.qr_text.specs.Fault.{IsFault}
+use Rattle.qr_text.specs.Fault.{IsFieldFault}
 use Rattle.qr_text.specs.declared.fault.FieldError.TheVariants as field
 use Rattle.qr_text.specs.declared.fault.FieldError.{FieldError}
 use Rattle.section_intake.specs.declared.checking.Refusal.{Refusal}
@@ -13,7 +13,7 @@ use Rattle.section_intake.specs.declared.checking.Refusal.TheVariants.{Memory, P
 abbrev pub IsRefused : List ℕ → Refusal → Type 0
 IsRefused bytes Memory = Unit {0}
 IsRefused bytes (Part f) = IsPartFault bytes f
-IsRefused bytes (Fields f) = (text : List ℕ) × ArePartsOf bytes text × IsFault text f
+IsRefused bytes (Fields f) = (text : List ℕ) × ArePartsOf bytes text × IsFieldFault text f
 
 -- what stops the reading of a file, of its parts and of its fields
 abbrev pub part_refusal : PartError → Refusal

@@ -4,7 +4,7 @@ use Rattle.election_tables.specs.TablesData.{TablesData}
 use Rattle.hash_chain.specs.Fault.{ArePartsOf, IsPartFault}
 use Rattle.hash_chain.specs.declared.fault.PartFault.{PartFault}
 use Rattle.poll_report.specs.declared.report.Report.{Report}
-use Rattle.qr_text.specs.Fault.{IsFault}
+use Rattle.qr_text.specs.Fault.{IsFieldFault}
 use Rattle.qr_text.specs.Spelling.{Spells}
 use Rattle.qr_text.specs.declared.fault.FieldFault.{FieldFault}
 use Rattle.section_intake.specs.Fits.{Fits}
@@ -20,6 +20,6 @@ pub record IsReportFile (bytes : List ℕ) (r : Report) : Type 0 where
 -- The verdict on a file by itself: the fault of its parts, or else that of its fields, or else whether its report fits the tables.
 pub data IsVerdict (t : TablesData) (bytes : List ℕ) : Verdict → Type 0 where
   parts : {f : PartFault} → IsPartFault bytes f → IsVerdict t bytes (verdict.Part f)
-  fields : {text : List ℕ} {f : FieldFault} → ArePartsOf bytes text → IsFault text f → IsVerdict t bytes (verdict.Fields f)
+  fields : {text : List ℕ} {f : FieldFault} → ArePartsOf bytes text → IsFieldFault text f → IsVerdict t bytes (verdict.Fields f)
   strange : {r : Report} → IsReportFile bytes r → ¬ Fits t r → IsVerdict t bytes verdict.Strange
   accepted : {r : Report} → IsReportFile bytes r → Fits t r → IsVerdict t bytes (verdict.Accepted r.zone r.section)

@@ -15,22 +15,23 @@ abbrev pub section_text : List ℕ → ℕ → ℕ → List ℕ
 section_text word zone number = word ++ decimal zone ++ codes " " ++ decimal number
 
 -- the fault of a part, by its number
-abbrev pub part_text : PartFault → List ℕ
-part_text (part.Form k) = codes "PARTE FORMA " ++ decimal k
-part_text (part.Version k) = codes "PARTE VERSAO " ++ decimal k
-part_text (part.Number k) = codes "PARTE NUMERO " ++ decimal k
-part_text (part.Hash k) = codes "PARTE HASH " ++ decimal k
-part_text (part.Cut k) = codes "PARTE CORTE " ++ decimal k
+abbrev pub part_fault_text : PartFault → List ℕ
+part_fault_text (part.Form k) = codes "PARTE FORMA " ++ decimal k
+part_fault_text (part.Version k) = codes "PARTE VERSAO " ++ decimal k
+part_fault_text (part.Number k) = codes "PARTE NUMERO " ++ decimal k
+part_fault_text (part.Hash k) = codes "PARTE HASH " ++ decimal k
+part_fault_text (part.Cut k) = codes "PARTE CORTE " ++ decimal k
 
 -- the fault of a field, by its number
-abbrev pub field_text : FieldFault → List ℕ
-field_text (field.Field k) = codes "CAMPO " ++ decimal k
-field_text (field.Sum k sum said) = codes "SOMA " ++ decimal k ++ codes " " ++ decimal sum ++ codes " " ++ decimal said
+abbrev pub field_fault_text : FieldFault → List ℕ
+field_fault_text (field.Field k) = codes "CAMPO " ++ decimal k
+field_fault_text (field.Sum k sum said) = codes "SOMA " ++ decimal k ++ codes " " ++ decimal sum ++ codes " " ++ decimal said
 
+-- what tells a verdict, without the line feed
 abbrev pub verdict_text : Verdict → List ℕ
 verdict_text (verdict.Accepted zone number) = section_text (codes "ACEITO ") zone number
-verdict_text (verdict.Part f) = part_text f
-verdict_text (verdict.Fields f) = field_text f
+verdict_text (verdict.Part f) = part_fault_text f
+verdict_text (verdict.Fields f) = field_fault_text f
 verdict_text verdict.Strange = codes "ESTRANHO"
 verdict_text (verdict.Repeated zone number) = section_text (codes "REPETIDO ") zone number
 verdict_text (verdict.Conflict zone number) = section_text (codes "CONFLITO ") zone number

@@ -2,7 +2,7 @@
 ghost use Rattle.std.specs.Prelude.{◌≡◌, ◌+◌, ◌++◌, ◌≤◌, length};
 ghost use Rattle.std.specs.Fmt.{decimal};
 ghost use Rattle.urna_app.specs.Taking.{status_in};
-ghost use Rattle.urna_app.specs.Verdicts.{field_text, part_text, section_text, verdict_line, verdict_status, verdict_text};
+ghost use Rattle.urna_app.specs.Verdicts.{field_fault_text, part_fault_text, section_text, verdict_line, verdict_status, verdict_text};
 
 use crate::status::Status;
 use hash_chain::PartFault;
@@ -75,7 +75,7 @@ fn push_numbered(line: &mut LineBuffer, word: &[u8], number: u64)
 /// Appends the fault of a part.
 fn push_part(line: &mut LineBuffer, fault: PartFault)
     requires { length line.old ≤ 30 }
-    ensures text { line.new ≡ line.old ++ part_text fault }
+    ensures text { line.new ≡ line.old ++ part_fault_text fault }
     ensures short { length line.new ≤ 127 }
 {
     match fault {
@@ -90,7 +90,7 @@ fn push_part(line: &mut LineBuffer, fault: PartFault)
 /// Appends the fault of a field.
 fn push_field(line: &mut LineBuffer, fault: FieldFault)
     requires { length line.old ≤ 30 }
-    ensures text { line.new ≡ line.old ++ field_text fault }
+    ensures text { line.new ≡ line.old ++ field_fault_text fault }
     ensures short { length line.new ≤ 127 }
 {
     match fault {
@@ -102,7 +102,7 @@ fn push_field(line: &mut LineBuffer, fault: FieldFault)
 /// Appends a sum that is said otherwise.
 fn push_sum(line: &mut LineBuffer, field: u32, sum: u64, said: u64)
     requires { length line.old ≤ 30 }
-    ensures text { line.new ≡ line.old ++ field_text (FieldFault.Sum field sum said) }
+    ensures text { line.new ≡ line.old ++ field_fault_text (FieldFault.Sum field sum said) }
     ensures short { length line.new ≤ 127 }
 {
     push_numbered(line, b"SOMA ", u64::from(field));

@@ -40,6 +40,9 @@ decimal_digits v h = digits_decimal own v h
 value_of_digits-decimal : (v : ℕ) → v < 2 ^ 64 → value_of_digits (decimal v) ≡ v
 value_of_digits-decimal v h = digits_value-decimal own v h
 
+pub all_digits : (v : ℕ) → v < 10 ^ 18 → list_all is_digit (decimal v) ≡ true
+all_digits v h = decimal_digits v (omega arith)
+
 -- only 0 begins with a 0
 no_leading_zero : (v : ℕ) → v < 2 ^ 64 → (length (decimal v) ≡ 1) ⊎ (48 < get_or (decimal v) 0 0)
 no_leading_zero v h =

@@ -1,6 +1,8 @@
+pub mod Cases
 pub mod DecimalLaws
 pub mod DigitLaws
 pub mod LineLaws
 pub mod MomentLaws
+pub mod PieceLaws
 pub mod WordLaws
 mod Rows

@@ -1,5 +1,5 @@
 -- Laws of the lines of a text.
-use Rattle.std.proofs.Common.{◌≡◌, Bool, true, false, not, cond, ltb, List, [], ◌∷◌, ◌++◌, ℕ, suc, ◌+◌, ◌<◌, ◌≤◌, length, take, drop, refl, Some, None, arith}
+use Rattle.std.proofs.Common.{◌≡◌, Bool, true, false, not, cond, ltb, List, [], ◌∷◌, ℕ, suc, ◌+◌, ◌<◌, ◌≤◌, length, take, drop, refl, Some, None, arith}
 use Rattle.std.specs.Prelude.{◌==◌, ◌≢◌, position}
 use Rattle.std.proofs.lemmas.Option.{cond_some}
 use Rattle.std.proofs.lemmas.Bool.{ltb-true, ltb-false}

@@ -1,8 +1,13 @@
--- What follows a word in a text
+-- What follows a word in a text, and the pieces of a text
 use Rattle.std.specs.Prelude.{ℕ, ◌==◌, if◌then◌else◌, List, [], ◌∷◌, Option, None, Some}
+use Rattle.std.specs.List.{slice_split}
 
 -- what follows a word, where the text begins with it
 abbrev pub after_word : List ℕ → List ℕ → Option (List ℕ)
 after_word [] text = Some text
 after_word (w ∷ word) [] = None
 after_word (w ∷ word) (c ∷ text) = if c == w then after_word word text else None
+
+-- the pieces of a text between single spaces (32)
+abbrev pub pieces : List ℕ → List (List ℕ)
+pieces text = slice_split (λ b. b == 32) text

@@ -1,6 +1,6 @@
-use Rattle.std.proofs.Common.{◌≡◌, ◌≢◌, ℕ, List, ◌<◌, ◌^◌, length, refl, sym, ◌∙◌, ap, inl, inr, arith}
+use Rattle.std.proofs.Common.{◌≡◌, ◌≢◌, ℕ, List, ◌<◌, ◌^◌, length, refl, ap, arith}
 use Rattle.std.specs.Prelude.{Result, Ok, Err, MatchResult, Vec}
-use Rattle.hash_chain.proofs.Faults.{never_both, one_fault, one_of_both}
+use Rattle.hash_chain.proofs.Faults.{never_both, one_fault, one_text}
 use Rattle.hash_chain.proofs.join.join_parts.Goals as goal
 use Rattle.hash_chain.specs.Fault.{ArePartsOf, IsPartFault}
 use Rattle.hash_chain.specs.Reading.{MatchRead}
@@ -11,12 +11,6 @@ use Rattle.hash_chain.specs.declared.fault.PartFault.{PartFault}
 -- the answer is the one that there is
 abbrev Answered : {Z : Type 0} → List ℕ → Result (Vec ℕ Z) PartError → Type 0
 Answered bytes r = MatchRead r (λ t. ArePartsOf bytes t.items) (λ f. IsPartFault bytes f)
-
-one_text : (bytes p q : List ℕ) → length bytes < 2 ^ 63 → ArePartsOf bytes p → ArePartsOf bytes q → p ≡ q
-one_text bytes p q short hp hq = elim (one_of_both bytes short) [
-  | inl x ↦ absurd (never_both bytes p x.0 short x.1 hp)
-  | inr x ↦ x.2 p hp ∙ sym (x.2 q hq)
-]
 
 ok_there : {Z : Type 0} (bytes : List ℕ) (r : Result (Vec ℕ Z) PartError) → length bytes < 2 ^ 63 → Answered bytes r → r ≢ Err Memory → (text : List ℕ) → ArePartsOf bytes text → MatchResult r (λ t. t.items ≡ text) (λ e. ⊥)
 ok_there bytes (Ok t) short h other text s = one_text bytes t.items text short h s

@@ -6,7 +6,7 @@ use Rattle.hash_chain.proofs.PieceLaws.{joined_pieces, some_piece}
 use Rattle.hash_chain.proofs.Remaking.{empty, not_empty}
 use Rattle.hash_chain.proofs.join.read_parts.Goals as goal
 use Rattle.hash_chain.proofs.join.read_parts.Goals.{else-is_empty-via-then-is_empty+else-place-gt1, else-is_empty-via-else-is_empty}
-use Rattle.hash_chain.specs.Chain.{Line}
+use Rattle.hash_chain.specs.Chain.{Link}
 use Rattle.hash_chain.specs.Lines.{rows}
 use Rattle.hash_chain.specs.declared.fault.PartFault.TheVariants.{Form}
 use Rattle.hash_chain.specs.Reading.{said, said_before, with_part}
@@ -17,7 +17,7 @@ loop-row-init c = (text_begins c.count_feeds-feeds.result c.args.bytes.now c.new
 pub returns-in_err-line : goal.returns-in_err-line
 returns-in_err-line c =
     let feeds : ℕ = c.count_feeds-feeds.result in
-    let before : Option Line = said_before c.loop-row.before in
+    let before : Option Link = said_before c.loop-row.before in
     let p = err_from_is_err_and c.from_residual.result c.from_residual.ensures.1 in
     rw (p.1, p.2) (fault_above _ _ _ _ c.in_err-line.field-0.0 c.in_err-line.ensures.fault (λ f h. fault_is c.args.bytes.now f (c.loop-row.invariant.0
     ∙ (ap (λ (rs : List (List ℕ)). text_from feeds c.loop-row.place before c.loop-row.text.items rs) c.in-Some.ensures.row
@@ -26,8 +26,8 @@ returns-in_err-line c =
 pub loop-row-preserved : goal.loop-row-preserved
 loop-row-preserved c =
     let feeds : ℕ = c.count_feeds-feeds.result in
-    let before : Option Line = said_before c.loop-row.before in
-    let l : Line = said c.in_ok-line.line in
+    let before : Option Link = said_before c.loop-row.before in
+    let l : Link = said c.in_ok-line.line in
     let text = ap (λ (t : List ℕ). with_part c.loop-row.text.items t) (joined_pieces c.in_ok-line.line.fields.now) ∙ sym c.in_ok-push_fields.ensures in
     let shorter = c.in-Some.ensures.shorter in
     let room = c.loop-row.invariant.2 in (
@@ -42,7 +42,7 @@ loop-row-preserved c =
 pub returns-then-place-gt1 : goal.returns-then-place-gt1
 returns-then-place-gt1 c =
     let feeds : ℕ = c.count_feeds-feeds.result in
-    let before : Option Line = said_before c.loop-row.before in
+    let before : Option Link = said_before c.loop-row.before in
     let none = empty c.loop-row.rest.now (sym c.if-is_empty.ensures) in
     text_is c.args.bytes.now c.loop-row.text.items (c.loop-row.invariant.0
     ∙ (ap (λ (rs : List (List ℕ)). text_from feeds c.loop-row.place before c.loop-row.text.items rs) (c.in_default.ensures.row ∙ ap (λ (t : List ℕ). t ∷ []) none)
@@ -51,7 +51,7 @@ returns-then-place-gt1 c =
 pub returns-else-is_empty : goal.returns-else-is_empty
 returns-else-is_empty c =
     let feeds : ℕ = c.count_feeds-feeds.result in
-    let before : Option Line = said_before c.loop-row.before in
+    let before : Option Link = said_before c.loop-row.before in
     let broken : (c.loop-row.rest.now ≡ [] → 1 < c.loop-row.place → ⊥) → text_read c.args.bytes.now ≡ Err (Form c.loop-row.place) = λ h.
     c.loop-row.invariant.0
     ∙ (ap (λ (rs : List (List ℕ)). text_from feeds c.loop-row.place before c.loop-row.text.items rs) c.in_default.ensures.row

@@ -1,7 +1,7 @@
 use Rattle.std.proofs.Common.{sym, ◌∙◌}
 use Rattle.std.specs.Prelude.{◌==◌}
 use Rattle.std.proofs.lemmas.List.{take_rest}
-use Rattle.hash_chain.proofs.PieceLaws.{no_split, split_first}
+use Rattle.urna_base.proofs.PieceLaws.{no_split, split_first}
 use Rattle.hash_chain.proofs.join.split_row.Goals as goal
 
 pub returns-in-Some-clause-row : goal.returns-in-Some-clause-row

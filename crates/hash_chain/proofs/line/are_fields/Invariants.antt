@@ -1,7 +1,7 @@
 use Rattle.std.proofs.Common.{◌≡◌, length}
 use Rattle.std.specs.List.{list_all}
+use Rattle.urna_base.specs.Words.{pieces}
 use Rattle.hash_chain.proofs.line.are_fields.Given as goal
-use Rattle.hash_chain.specs.Cut.{pieces}
 use Rattle.hash_chain.specs.Lines.{is_field}
 use Rattle.hash_chain.specs.Reading.{pieces_left}
 

@@ -1,6 +1,6 @@
 use Rattle.hash_chain.proofs.LineParts.{line_long, line_made}
 use Rattle.hash_chain.proofs.line.read_line.Goals as goal
-use Rattle.hash_chain.specs.Cut.{pieces}
+use Rattle.urna_base.specs.Words.{pieces}
 
 pub slice_bounds-text-count : goal.slice_bounds-text-count
 slice_bounds-text-count c =

@@ -4,11 +4,10 @@ use Rattle.std.specs.Option.{option_copied}
 use Rattle.std.specs.List.{list_all}
 use Rattle.std.proofs.lemmas.List.{take-append-drop}
 use Rattle.urna_base.proofs.WordLaws.{after_word-some}
-use Rattle.urna_base.specs.Words.{after_word}
+use Rattle.urna_base.specs.Words.{after_word, pieces}
 use Rattle.hash_chain.proofs.LineParts.{tail_none, tail_read, tail_short}
 use Rattle.hash_chain.proofs.line.split_hash.Goals as goal
 use Rattle.hash_chain.proofs.line.split_hash.Goals.{in_default-via-in-Some+then-is_hash+else-are_fields, in_default-via-in-Some+else-is_hash, in_default-via-in_default}
-use Rattle.hash_chain.specs.Cut.{pieces}
 use Rattle.hash_chain.specs.Hash.{is_hash}
 use Rattle.hash_chain.specs.Lines.{is_field}
 use Rattle.hash_chain.specs.Reading.{tail_of}

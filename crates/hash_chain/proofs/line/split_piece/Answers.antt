@@ -1,7 +1,7 @@
 use Rattle.std.proofs.Common.{sym, ◌∙◌}
 use Rattle.std.specs.Prelude.{◌==◌}
 use Rattle.std.proofs.lemmas.List.{take_rest}
-use Rattle.hash_chain.proofs.PieceLaws.{no_split, split_first}
+use Rattle.urna_base.proofs.PieceLaws.{no_split, split_first}
 use Rattle.hash_chain.proofs.line.split_piece.Goals as goal
 
 pub returns-in-Some : goal.returns-in-Some

@@ -1,6 +1,7 @@
 use Rattle.std.proofs.Common.{◌≡◌, ◌+◌, length, IfSome}
+use Rattle.urna_base.specs.Words.{pieces}
 use Rattle.hash_chain.proofs.make.count_parts.Given as goal
-use Rattle.hash_chain.specs.Cut.{cut, pieces}
+use Rattle.hash_chain.specs.Cut.{cut}
 use Rattle.hash_chain.specs.Fault.{AreFields}
 use Rattle.hash_chain.specs.Reading.{pieces_left}
 

@@ -1,10 +1,10 @@
-use Rattle.std.proofs.Common.{◌≡◌, ◌≢◌, ℕ, List, refl, sym, ◌∙◌, ap, subst, inl, inr}
+use Rattle.std.proofs.Common.{◌≡◌, ◌≢◌, ℕ, List, refl, ap, subst}
 use Rattle.std.specs.Prelude.{Result, Ok, Err}
 use Rattle.poll_report.specs.declared.report.Report.{Report}
 use Rattle.qr_text.proofs.Faults.{one_fault}
-use Rattle.qr_text.proofs.Spellings.{never_both, one_answer}
+use Rattle.qr_text.proofs.Spellings.{never_both, one_spelled}
 use Rattle.qr_text.proofs.read.read_fields.Goals as goal
-use Rattle.qr_text.specs.Fault.{IsFault}
+use Rattle.qr_text.specs.Fault.{IsFieldFault}
 use Rattle.qr_text.specs.Fronts.{MatchRead}
 use Rattle.qr_text.specs.Spelling.{Spells}
 use Rattle.qr_text.specs.declared.fault.FieldError.TheVariants.{Memory, Fault}
@@ -13,26 +13,19 @@ use Rattle.qr_text.specs.declared.fault.FieldFault.{FieldFault}
 
 -- the answer is the one that there is
 abbrev Answered : List ℕ → Result Report FieldError → Type 0
-Answered bytes r = MatchRead r (λ q. Spells bytes q) (λ f. IsFault bytes f)
+Answered bytes r = MatchRead r (λ q. Spells bytes q) (λ f. IsFieldFault bytes f)
 
-fault : (bytes : List ℕ) (r : Result Report FieldError) → Answered bytes r → (f : FieldFault) → r ≡ Err (Fault f) → IsFault bytes f
+fault : (bytes : List ℕ) (r : Result Report FieldError) → Answered bytes r → (f : FieldFault) → r ≡ Err (Fault f) → IsFieldFault bytes f
 fault bytes (Ok q) h f e = absurd (cc)
 fault bytes (Err Memory) h f e = absurd (cc)
-fault bytes (Err (Fault g)) h f e = let same : g ≡ f = cc in subst (λ (x : FieldFault). IsFault bytes x) same h
-
--- a text spells one report
-one_spelled : (bytes : List ℕ) (p q : Report) → Spells bytes p → Spells bytes q → p ≡ q
-one_spelled bytes p q hp hq = elim (one_answer bytes) [
-  | inl x ↦ absurd (never_both bytes x.0 p x.1 hp)
-  | inr x ↦ x.2 p hp ∙ sym (x.2 q hq)
-]
+fault bytes (Err (Fault g)) h f e = let same : g ≡ f = cc in subst (λ (x : FieldFault). IsFieldFault bytes x) same h
 
 ok_there : (bytes : List ℕ) (r : Result Report FieldError) → Answered bytes r → r ≢ Err Memory → (q : Report) → Spells bytes q → r ≡ Ok q
 ok_there bytes (Ok p) h other q s = ap (λ (x : Report). Ok x) (one_spelled bytes p q h s)
 ok_there bytes (Err Memory) h other q s = absurd (other refl)
 ok_there bytes (Err (Fault f)) h other q s = absurd (never_both bytes f q h s)
 
-fault_there : (bytes : List ℕ) (r : Result Report FieldError) → Answered bytes r → r ≢ Err Memory → (f : FieldFault) → IsFault bytes f → r ≡ Err (Fault f)
+fault_there : (bytes : List ℕ) (r : Result Report FieldError) → Answered bytes r → r ≢ Err Memory → (f : FieldFault) → IsFieldFault bytes f → r ≡ Err (Fault f)
 fault_there bytes (Ok p) h other f s = absurd (never_both bytes f p s h)
 fault_there bytes (Err Memory) h other f s = absurd (other refl)
 fault_there bytes (Err (Fault g)) h other f s = ap (λ (x : FieldFault). Err (Fault x)) (one_fault bytes g f h s)

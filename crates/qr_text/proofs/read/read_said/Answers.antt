@@ -1,12 +1,12 @@
 use Rattle.std.proofs.Common.{◌≡◌, ℕ, List, sym, ◌∙◌, ap}
 use Rattle.std.proofs.lemmas.Result.{err_from_is_err_and}
+use Rattle.urna_base.specs.Words.{pieces}
 use Rattle.qr_text.proofs.HeadJoin.{head_join}
 use Rattle.qr_text.proofs.Joining.{bind_err, bind_ok, fault_above}
 use Rattle.qr_text.proofs.read.read_said.Goals as goal
 use Rattle.qr_text.specs.Fronts.{at_mode, goes}
 use Rattle.qr_text.specs.Reading.{Head, nothing_said, reading, said_by, start}
 use Rattle.qr_text.specs.Sections.{FieldsLeft}
-use Rattle.qr_text.specs.Spelling.{pieces}
 
 -- all fields are left
 whole : (bytes : List ℕ) (s : FieldsLeft) → s.left ≡ pieces bytes → s.next ≡ 1 → said_by bytes ≡ goes (at_mode (Head 0) nothing_said) s

@@ -1,11 +1,11 @@
 use Rattle.std.proofs.Common.{sym, ◌∙◌}
 use Rattle.std.specs.Prelude.{◌==◌}
 use Rattle.std.proofs.lemmas.List.{take_rest}
-use Rattle.qr_text.proofs.PieceLaws.{split_at, no_split}
+use Rattle.urna_base.proofs.PieceLaws.{split_first, no_split}
 use Rattle.qr_text.proofs.reader.split_field.Goals as goal
 
 pub returns-in-Some : goal.returns-in-Some
-returns-in-Some c = rw take_rest (split_at (λ b. b == 32) c.args.text.now c.in-Some.end (sym c.first_space.ensures ∙ c.in-Some.is))
+returns-in-Some c = rw take_rest (split_first (λ b. b == 32) c.args.text.now c.in-Some.end (sym c.first_space.ensures ∙ c.in-Some.is))
 
 pub returns-in-None : goal.returns-in-None
 returns-in-None c = no_split (λ b. b == 32) c.args.text.now (sym c.first_space.ensures ∙ c.in-None.is)

@@ -1,4 +1,4 @@
-use Rattle.std.proofs.Common.{◌≡◌, ◌∙◌, true, false, sym}
+use Rattle.std.proofs.Common.{◌∙◌, sym}
 use Rattle.section_intake.specs.Verdict.{accepted, strange}
 use Rattle.section_intake.proofs.FitLaws.{fit_says, says_fit}
 use Rattle.section_intake.proofs.checking.verdict_on.Goals as goal

@@ -1,4 +1,4 @@
-use Rattle.std.proofs.Common.{◌≡◌, ◌∙◌, ◌&&◌, drop, ◌+◌, Bool, false, true, sym, ap, arith}
+use Rattle.std.proofs.Common.{◌∙◌, ◌&&◌, drop, ◌+◌, Bool, sym, ap, arith}
 use Rattle.vote_kinds.specs.Ballot.{lines_by_panel}
 use Rattle.vote_kinds.proofs.Lookups.{by_panel_length}
 use Rattle.section_intake.specs.Fitting.{fit_lines}

@@ -2,7 +2,7 @@ use Rattle.std.proofs.Common.{◌≡◌, ℕ, List, Bool, length, sym, subst, �
 use Rattle.vote_kinds.specs.declared.choice.Choice.{Choice}
 use Rattle.vote_record.specs.RdvData.{RdvData}
 use Rattle.poll_report.specs.Counted.{HasReport}
-use Rattle.hash_chain.specs.Cut.{pieces}
+use Rattle.urna_base.specs.Words.{pieces}
 use Rattle.hash_chain.specs.Fault.{AreFields}
 use Rattle.section_intake.proofs.FileLaws.{text_has_parts}
 use Rattle.urna_app.proofs.Reports.{sealed_has_report}

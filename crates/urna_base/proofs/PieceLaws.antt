@@ -1,0 +1,25 @@
+-- The pieces of a text at a separator.
+use Rattle.std.proofs.Common.{◌≡◌, ℕ, List, [], ◌∷◌, ◌+◌, ◌<◌, ◌≤◌, length, take, drop, Bool, Some, None, arith}
+use Rattle.std.specs.Prelude.{position, nat_lt}
+use Rattle.std.specs.List.{slice_split, position_or_len}
+use Rattle.std.proofs.lemmas.Bool.{ltb-true, ltb-false}
+use Rattle.std.proofs.lemmas.Grind.{common_steps}
+use Rattle.std.proofs.lemmas.List.Splits.{slice_split_first, slice_split_none}
+use Rattle.std.proofs.lemmas.List.Sums.{fails_before_first}
+use Rattle.urna_base.proofs.Cases.{guard_none}
+use Rattle.urna_base.proofs.DigitLaws.{some_from_test}
+
+-- the pieces of a text at the first separator, and behind it
+pub split_first : (is : ℕ → Bool) (text : List ℕ) (end : ℕ) → position is text ≡ Some end
+    → slice_split is text ≡ take end text ∷ slice_split is (drop (end + 1) text)
+split_first is text end h =
+    let both = some_from_test (nat_lt (position_or_len is text) (length text)) (position_or_len is text) end h in
+    let within : position_or_len is text < length text = ltb-true _ _ both.0 in
+    rw (← both.1) (slice_split_first is text 0 within)
+
+-- a text with no separator is one piece
+pub no_split : (is : ℕ → Bool) (text : List ℕ) → position is text ≡ None → slice_split is text ≡ text ∷ []
+no_split is text h =
+    let past = guard_none (nat_lt (position_or_len is text) (length text)) (position_or_len is text) h in
+    let far : length text ≤ position_or_len is text = ltb-false _ _ past in
+    slice_split_none is text (λ k e m. let near = fails_before_first is text k e (grind (arith, common_steps)) in grind (arith, common_steps))
