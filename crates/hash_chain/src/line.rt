@@ -94,13 +94,10 @@ fn numbers_of(piece: &[u8]) -> Option<(u64, u64)>
 fn two_numbers(text: &[u8]) -> Option<(u64, u64)>
     ensures { result ≡ two_numbers (slice_split (λ b. b == 58) text.now) }
 {
-    let Some(colon) = first_colon(text) else {
-        return None;
-    };
-    match (decimal(&text[..colon]), decimal(&text[colon + 1..])) {
-        (Some(first), Some(second)) => Some((first, second)),
-        _ => None,
-    }
+    let colon = first_colon(text)?;
+    let first = decimal(&text[..colon])?;
+    let second = decimal(&text[colon + 1..])?;
+    Some((first, second))
 }
 
 /// Where the first colon stands.

@@ -1,3 +1,4 @@
+//! The count lines of a record.
 ghost use Rattle.std.specs.Prelude.{◌≡◌, ◌+◌, ◌<◌, ◌≤◌, ◌^◌, [], ◌∷◌, ◌++◌, ℕ, length, codes};
 ghost use Rattle.election_tables.specs.TablesData.{candidates_at};
 ghost use Rattle.urna_outside.specs.ShownLines.{Shows};

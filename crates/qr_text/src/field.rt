@@ -1,3 +1,4 @@
+//! One field is written.
 ghost use Rattle.std.specs.Prelude.{◌≡◌, ◌++◌, ◌∷◌, OnOk};
 ghost use Rattle.election_tables.specs.Fields.{first_two};
 ghost use Rattle.poll_report.specs.Report.{digits_in};

@@ -18,14 +18,14 @@ result_files out t section s opened closed =
     ∷ []
 
 -- A file was put: its name has its bytes, all other names stay, and no count rose.
-pub record HasPut (file : Entry) (old new : CabinetTold) : Type 0 where
+pub record HasPutFile (file : Entry) (old new : CabinetTold) : Type 0 where
   pub there : ForSome new.files (Holds file.name file.bytes)
   pub others : PutsInto file.name old.files new.files
   pub counts : new.tally ≡ old.tally
   pub calls : new.calls ≡ option_map one_more old.calls
 
 -- A file was not put: its name may have anything, all other names stay, and the count of faults rose.
-pub record FailsToPut (file : Entry) (old new : CabinetTold) : Type 0 where
+pub record FailsToPutFile (file : Entry) (old new : CabinetTold) : Type 0 where
   pub others : PutsInto file.name old.files new.files
   pub counts : CountsFault old.tally new.tally
   pub calls : new.calls ≡ option_map one_more old.calls
@@ -33,9 +33,9 @@ pub record FailsToPut (file : Entry) (old new : CabinetTold) : Type 0 where
 -- these files were put, one after the other
 abbrev pub HavePut : List Entry → CabinetTold → CabinetTold → Type 0
 HavePut [] old new = new ≡ old
-HavePut (file ∷ files) old new = (between : CabinetTold) × HasPut file old between × HavePut files between new
+HavePut (file ∷ files) old new = (between : CabinetTold) × HasPutFile file old between × HavePut files between new
 
 -- one of them was not put; those before it were, and those behind it were not tried
 abbrev pub StopPutting : List Entry → CabinetTold → CabinetTold → Type 0
 StopPutting [] old new = ⊥
-StopPutting (file ∷ files) old new = FailsToPut file old new ⊎ ((between : CabinetTold) × HasPut file old between × StopPutting files between new)
+StopPutting (file ∷ files) old new = FailsToPutFile file old new ⊎ ((between : CabinetTold) × HasPutFile file old between × StopPutting files between new)

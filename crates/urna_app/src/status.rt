@@ -1,3 +1,4 @@
+//! How a command ends.
 ghost use Rattle.std.specs.Prelude.{◌≡◌};
 ghost use Rattle.urna_app.specs.Codes.{code_of};
 
