@@ -1,18 +1,29 @@
 /* For tests/crash-trial: makes the n-th write to a flash file or the n-th sync fail, with only half of the bytes of a write put.
-   URNA_FAIL is `write N` or `sync N`, counted from 1 over files whose names end in `.flash`. */
+   URNA_FAIL is `write N` or `sync N`, counted from 1 over files whose names end in `.flash`; or `new-write N` or `new-sync N`, over
+   those whose names end in `.new`, or `new-kill N`, where the process is killed in such a write. */
 #define _GNU_SOURCE
 #include <dlfcn.h>
 #include <errno.h>
+#include <signal.h>
 #include <stdio.h>
 #include <stdlib.h>
 #include <string.h>
 #include <unistd.h>
 
-static int is_flash(int file) {
+/* Whether the name of an open file ends so. */
+static int ends_in(int file, const char *ending) {
     char link[64], name[4096];
     snprintf(link, sizeof link, "/proc/self/fd/%d", file);
-    ssize_t length = readlink(link, name, sizeof name);
-    return length > 6 && memcmp(name + length - 6, ".flash", 6) == 0;
+    ssize_t length = readlink(link, name, sizeof name), size = strlen(ending);
+    return length > size && memcmp(name + length - size, ending, size) == 0;
+}
+
+static int is_flash(int file) {
+    return ends_in(file, ".flash");
+}
+
+static int is_new(int file) {
+    return ends_in(file, ".new");
 }
 
 /* Whether this call of the kind is the one that fails. */
@@ -29,13 +40,17 @@ static int fails(const char *kind, long *calls) {
 static ssize_t (*real_write)(int, const void *, size_t);
 static int (*real_fsync)(int);
 static int (*real_fdatasync)(int);
-static long writes, syncs;
+static long writes, syncs, new_writes, new_syncs, new_kills;
 
 ssize_t write(int file, const void *bytes, size_t count) {
     if (!real_write) {
         real_write = (ssize_t (*)(int, const void *, size_t))dlsym(RTLD_NEXT, "write");
     }
-    if (is_flash(file) && fails("write ", &writes)) {
+    if (is_new(file) && fails("new-kill ", &new_kills)) {
+        real_write(file, bytes, count / 2);
+        raise(SIGKILL);
+    }
+    if ((is_flash(file) && fails("write ", &writes)) || (is_new(file) && fails("new-write ", &new_writes))) {
         real_write(file, bytes, count / 2);
         errno = EIO;
         return -1;
@@ -44,7 +59,7 @@ ssize_t write(int file, const void *bytes, size_t count) {
 }
 
 static int sync_or_fail(int file, int (*sync)(int)) {
-    if (is_flash(file) && fails("sync ", &syncs)) {
+    if ((is_flash(file) && fails("sync ", &syncs)) || (is_new(file) && fails("new-sync ", &new_syncs))) {
         errno = EIO;
         return -1;
     }

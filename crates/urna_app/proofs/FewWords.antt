@@ -4,17 +4,17 @@ use Rattle.std.specs.Prelude.{codes, if◌then◌else◌}
 use Rattle.std.specs.Str.{bytes_eq}
 use Rattle.urna_app.specs.Command.{Confere, Emite, Vota, confere_of, emite_of, vota_of}
 
-pub five_words : {S : Type 0} (f : S → List ℕ) (ws : List S) (a b c d : S) → 5 ≤ length ws → length ws < 6 → bytes_eq (f (get_or ws 0 a)) (codes "vota") ≡ true
-    → (out : List ℕ) × (vota_of (map f ws) ≡ Some (record { tables = f (get_or ws 1 b); roll = f (get_or ws 2 c); keys = f (get_or ws 3 d); out = out }))
-five_words f [] a b c d most few vota = absurd (omega (arith, most))
-five_words f (p ∷ []) a b c d most few vota = absurd (omega (arith, most))
-five_words f (p ∷ q ∷ []) a b c d most few vota = absurd (omega (arith, most))
-five_words f (p ∷ q ∷ r ∷ []) a b c d most few vota = absurd (omega (arith, most))
-five_words f (p ∷ q ∷ r ∷ s ∷ []) a b c d most few vota = absurd (omega (arith, most))
-five_words f (p ∷ q ∷ r ∷ s ∷ t ∷ []) a b c d most few vota =
+pub five_words : {S : Type 0} (f : S → List ℕ) (ws : List S) (a b c d e : S) → 5 ≤ length ws → length ws < 6 → bytes_eq (f (get_or ws 0 a)) (codes "vota") ≡ true
+    → vota_of (map f ws) ≡ Some (record { tables = f (get_or ws 1 b); roll = f (get_or ws 2 c); keys = f (get_or ws 3 d); out = f (get_or ws 4 e) })
+five_words f [] a b c d e most few vota = absurd (omega (arith, most))
+five_words f (p ∷ []) a b c d e most few vota = absurd (omega (arith, most))
+five_words f (p ∷ q ∷ []) a b c d e most few vota = absurd (omega (arith, most))
+five_words f (p ∷ q ∷ r ∷ []) a b c d e most few vota = absurd (omega (arith, most))
+five_words f (p ∷ q ∷ r ∷ s ∷ []) a b c d e most few vota = absurd (omega (arith, most))
+five_words f (p ∷ q ∷ r ∷ s ∷ t ∷ []) a b c d e most few vota =
     let names : Vota = record { tables = f q; roll = f r; keys = f s; out = f t } in
-    (f t, ap (λ (is : Bool). if is then Some names else None) vota)
-five_words f (p ∷ q ∷ r ∷ s ∷ t ∷ u ∷ more) a b c d most few vota = absurd (omega (arith, few))
+    ap (λ (is : Bool). if is then Some names else None) vota
+five_words f (p ∷ q ∷ r ∷ s ∷ t ∷ u ∷ more) a b c d e most few vota = absurd (omega (arith, few))
 
 pub three_words : {S : Type 0} (f : S → List ℕ) (ws : List S) (a b c : S) → 3 ≤ length ws → length ws < 4 → bytes_eq (f (get_or ws 0 a)) (codes "confere") ≡ true
     → confere_of (map f ws) ≡ Some (record { tables = f (get_or ws 1 b); report = f (get_or ws 2 c) })

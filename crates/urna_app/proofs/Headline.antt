@@ -50,7 +50,8 @@ use Rattle.urna_app.specs.Ending.{CommandEnds, carga, confere, emite, no_command
 use Rattle.urna_app.specs.Errors.{port_status, start_status}
 use Rattle.urna_app.specs.FaultLines.{Tells, fault_text}
 use Rattle.urna_app.specs.Headline.{AllAreCounted, KeepsVotes, KeysHaveRun, VotesAreKept, session_lines}
-use Rattle.urna_app.specs.Vota.{HasVoted, HasVotedTo, IsGiven, VotaEnds, cut, done, no_cabinet, no_memory, not_started, refused, IsRefused}
+use Rattle.urna_app.specs.Putting.{PutsResults, no_results, results_not_made, results_not_put, results_put}
+use Rattle.urna_app.specs.Vota.{HasVoted, HasVotedTo, IsGiven, VotaEnds, cut, session_held, no_cabinet, no_memory, not_started, refused, IsRefused}
 use Rattle.urna_app.specs.declared.status.Doc.TheVariants as doc
 use Rattle.urna_app.specs.declared.status.Status.{Status}
 use Rattle.urna_app.specs.declared.status.Status.TheVariants as status
@@ -203,6 +204,13 @@ port_silent port.Internal b n tells = tells
 port_silent port.External b n tells = tells
 port_silent port.Display b n tells = tells
 
+results_silent : (word : List ℕ) (t : TablesData) (section : Section) (s : State) (c d : CabinetTold) (answer : Status) (b n : Told)
+    → PutsResults word t section s c d answer → Tells (fault_text answer) b n → n ≡ b
+results_silent word t section s c d _ b n (no_results unsealed same) tells = tells
+results_silent word t section s c d _ b n (results_put sealed put) tells = tells
+results_silent word t section s c d _ b n (results_not_made sealed same) tells = tells
+results_silent word t section s c d _ b n (results_not_put sealed stop) tells = tells
+
 module _ (names : Vota) (files : Files) (c d : CabinetTold) (told : c.files ≡ Some files) (t : TablesData) (r : RollData) (es : List Event) (given : IsGiven (Some files) names t r es)
     (section : Section) (s last : State) (out : List Output) (run : IsRun (setting_of t r.titles) s es last out) (m b n : Told) (start : Flashes) (rest : List Op)
     (found : AreFound t r section s start) (traced : IsTraced m n start (both_synced ++ rest)) where
@@ -242,9 +250,9 @@ module _ (names : Vota) (files : Files) (c d : CabinetTold) (told : c.files ≡ 
   vota_kept _ (cut {t = u} {r = q} {es = fs} p also taken h) tells =
       cut_kept t r s last es out run tables section m n start rest found traced p
       (at_end (λ x. HasVotedTo t r es p m x) (port_silent p b n tells) (of_given u q fs (λ x y z. HasVotedTo x y z p m b) also h))
-  vota_kept _ (done {t = u} {r = q} {es = fs} also taken h) tells =
+  vota_kept _ (session_held {t = u} {r = q} {es = fs} after also taken h one_of state put) tells =
       voted_kept t r s last es out run tables section m n start rest found traced
-      (at_end (λ x. HasVoted t r es m x) tells (of_given u q fs (λ x y z. HasVoted x y z m b) also h))
+      (at_end (λ x. HasVoted t r es m x) (results_silent _ _ _ _ _ _ _ b n put tells) (of_given u q fs (λ x y z. HasVoted x y z m b) also h))
 
   -- the command is vota
   command_is : (words : List (List ℕ)) (answer : Status) → command_of words ≡ Some (ToVote names) → CommandEnds words c d m b answer → VotaEnds names c d m b answer
@@ -282,9 +290,9 @@ module _ (names : Vota) (files : Files) (c d : CabinetTold) (told : c.files ≡ 
   vota_counted _ ok (no_cabinet taken un) tells = absurd (cc)
   vota_counted _ ok (not_started e also taken h) tells = absurd (start_not_done e ok)
   vota_counted _ ok (cut p also taken h) tells = absurd (port_not_done p ok)
-  vota_counted _ ok (done {t = u} {r = q} {es = fs} also taken h) tells =
+  vota_counted _ ok (session_held {t = u} {r = q} {es = fs} after also taken h one_of state put) tells =
       voted_counted t r s last es out run tables section m n start rest found traced
-      (at_end (λ x. HasVoted t r es m x) tells (of_given u q fs (λ x y z. HasVoted x y z m b) also h))
+      (at_end (λ x. HasVoted t r es m x) (results_silent _ _ _ _ _ _ _ b n put tells) (of_given u q fs (λ x y z. HasVoted x y z m b) also h))
 
   pub command_counted : (words : List (List ℕ)) → command_of words ≡ Some (ToVote names) → CommandEnds words c d m b status.Done → Tells None b n → Counted
   command_counted words is h tells = vota_counted status.Done refl (command_is words status.Done is h) tells

@@ -1,4 +1,5 @@
 mod Asked
+mod AtRest
 mod Calls
 mod Days
 mod Endings

@@ -1,5 +1,5 @@
 -- A session over a station that started
-use Rattle.std.proofs.Common.{◌≡◌, ◌++◌, List, [], sym, ap, subst}
+use Rattle.std.proofs.Common.{◌≡◌, ◌++◌, List, [], refl, sym, ap, subst}
 use Rattle.urna_outside.specs.Told.{Told, Runs}
 use Rattle.urna_outside.specs.declared.device.Port.{Port}
 use Rattle.election_tables.specs.Roll.{RollData}
@@ -38,21 +38,25 @@ module _ (t : TablesData) (r : RollData) (es : List Event) (a c e : Told) (stati
       is.opens.recovered.ran is.opens.shown plays
 
   pub voted : (last : State) (out : List Output) → IsRun (setting_of t r.titles) station.standing.state es last out
-      → HasPut t station.store.load station.standing.state (session_pieces t out) c e → HasVoted t r es a e
+      → HasPut t station.store.load station.standing.state (session_pieces t out) c e
+      → (held : HasVoted t r es a e) × (held.load ≡ station.store.load) × (held.last ≡ last)
   voted last out run put =
       let pieces = session_pieces t out in
-      let now : HasPut t station.store.load is.state pieces c e = subst (λ (s : State). HasPut t station.store.load s pieces c e) at_state put in
-      record {
-        load = station.store.load;
-        first = is.state;
-        last = last;
-        out = out;
-        between = c;
-        opens = is.opens;
-        run = subst (λ (s : State). IsRun (setting_of t r.titles) s es last out) at_state run;
-        put = now;
-        survives = safe pieces (put_plays t station.store.load is.state pieces c e now);
-      }
+      let now : HasPut t station.store.load is.state pieces c e = subst (λ (s : State). HasPut t station.store.load s pieces c e) at_state put in (
+        record {
+          load = station.store.load;
+          first = is.state;
+          last = last;
+          out = out;
+          between = c;
+          opens = is.opens;
+          run = subst (λ (s : State). IsRun (setting_of t r.titles) s es last out) at_state run;
+          put = now;
+          survives = safe pieces (put_plays t station.store.load is.state pieces c e now);
+        },
+        refl,
+        refl,
+      )
 
   pub cut_short : (p : Port) (last : State) (out : List Output) → IsRun (setting_of t r.titles) station.standing.state es last out
       → HasStopped t station.store.load station.standing.state (session_pieces t out) p c e → HasVotedTo t r es p a e

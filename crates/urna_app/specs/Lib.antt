@@ -1,3 +1,4 @@
+pub mod AtRest
 pub mod Carga
 pub mod Codes
 pub mod Command
@@ -11,8 +12,8 @@ pub mod Headline
 pub mod Holding
 pub mod Laws
 pub mod Putting
+pub mod Reports
 pub mod Results
 pub mod Taking
 pub mod Verdicts
 pub mod Vota
-pub mod Reports

@@ -1,13 +1,16 @@
 -- Files of results: which they are, and what the cabinet tells when they are put
-use Rattle.std.specs.Prelude.{◌≡◌, ◌⊎◌, ℕ, List, [], ◌∷◌, ◌++◌, codes}
+use Rattle.std.specs.Prelude.{◌≡◌, ◌≢◌, ◌⊎◌, ℕ, List, [], ◌∷◌, ◌++◌, codes}
 use Rattle.std.specs.Option.{ForSome, option_map}
 use Rattle.urna_outside.specs.Told.{one_more}
 use Rattle.urna_outside.specs.Cabinet.{CabinetTold, CountsFault, Entry, Holds, PutsInto}
 use Rattle.election_tables.specs.TablesData.{TablesData}
 use Rattle.election_tables.specs.declared.tables.sections.Section.{Section}
+use Rattle.turnout.specs.declared.phase.Phase.TheVariants as phase
 use Rattle.image_codec.specs.State.{State}
 use Rattle.vote_record.specs.RecordText.{record_text}
 use Rattle.urna_app.specs.Reports.{report_file}
+use Rattle.urna_app.specs.declared.status.Status.{Status}
+use Rattle.urna_app.specs.declared.status.Status.TheVariants as status
 
 -- The files of results of a sealed poll, under the word OUT: the report in parts, and the record. They depend on the tables, the section,
 -- the moments, who came and the bags alone.
@@ -39,3 +42,15 @@ HavePut (file ∷ files) old new = (between : CabinetTold) × HasPutFile file ol
 abbrev pub StopPutting : List Entry → CabinetTold → CabinetTold → Type 0
 StopPutting [] old new = ⊥
 StopPutting (file ∷ files) old new = FailsToPutFile file old new ⊎ ((between : CabinetTold) × HasPutFile file old between × StopPutting files between new)
+
+-- What is done with the files of results of a poll, and the status that it gives. A poll that isn't sealed has none.
+pub data PutsResults (out : List ℕ) (t : TablesData) (section : Section) (s : State) (old new : CabinetTold) : Status → Type 0 where
+  no_results : ((opened closed : ℕ) → s.phase ≢ phase.Sealed opened closed) → new ≡ old → PutsResults out t section s old new status.Done
+  -- Both were put.
+  results_put : {opened closed : ℕ} → s.phase ≡ phase.Sealed opened closed → HavePut (result_files out t section s opened closed) old new
+      → PutsResults out t section s old new status.Done
+  -- Memory was wanted for them, and none was put.
+  results_not_made : {opened closed : ℕ} → s.phase ≡ phase.Sealed opened closed → new ≡ old → PutsResults out t section s old new status.Memory
+  -- The cabinet failed at one of them.
+  results_not_put : {opened closed : ℕ} → s.phase ≡ phase.Sealed opened closed → StopPutting (result_files out t section s opened closed) old new
+      → PutsResults out t section s old new status.Cabinet

@@ -6,8 +6,10 @@ use Rattle.urna_outside.specs.declared.device.Port.{Port}
 use Rattle.election_tables.specs.Roll.{RollData}
 use Rattle.election_tables.specs.TablesData.{TablesData}
 use Rattle.key_script.specs.declared.keys.Event.{Event}
+use Rattle.image_codec.specs.Encoding.{IsStateOf}
 use Rattle.image_codec.specs.State.{State}
 use Rattle.state_store.specs.Calls.{IsUntouched}
+use Rattle.state_store.specs.Load.{IsSectionOf}
 use Rattle.state_store.specs.Played.{HasPut, HasStopped, IsSafe}
 use Rattle.state_store.specs.declared.load.Load.{Load}
 use Rattle.station.specs.Output.{Output}
@@ -19,6 +21,7 @@ use Rattle.station.specs.declared.station.StartError.{StartError}
 use Rattle.urna_app.specs.Command.{Vota}
 use Rattle.urna_app.specs.Documents.{HasTables, HasRoll, HasKeys, IsFault, IsFirstFault}
 use Rattle.urna_app.specs.Errors.{port_status, start_status}
+use Rattle.urna_app.specs.Putting.{PutsResults}
 use Rattle.urna_app.specs.Taking.{HasTaken}
 use Rattle.urna_app.specs.declared.status.Doc.TheVariants as doc
 use Rattle.urna_app.specs.declared.status.Status.{Status}
@@ -80,6 +83,8 @@ pub data VotaEnds (names : Vota) (c d : CabinetTold) (m n : Told) : Status → T
   -- A port failed in the session.
   cut : {t : TablesData} {r : RollData} {es : List Event} (p : Port) → IsGiven c.files names t r es → HasTaken 3 (port_status p) c d
       → HasVotedTo t r es p m n → VotaEnds names c d m n (port_status p)
-  -- The whole session was held.
-  done : {t : TablesData} {r : RollData} {es : List Event} → IsGiven c.files names t r es → HasTaken 3 status.Done c d → HasVoted t r es m n
-      → VotaEnds names c d m n status.Done
+  -- The whole session was held. Then, where the poll that it left is sealed, its files of results were put, or memory or the cabinet
+  -- failed there.
+  session_held : {t : TablesData} {r : RollData} {es : List Event} {s : Status} (taken : CabinetTold) → IsGiven c.files names t r es
+      → HasTaken 3 status.Done c taken → (h : HasVoted t r es m n) → IsSectionOf t r h.load.section → IsStateOf t h.load.section.voters h.last
+      → PutsResults names.out t h.load.section h.last taken d s → VotaEnds names c d m n s

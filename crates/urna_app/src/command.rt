@@ -1,5 +1,5 @@
 //! The words of a command.
-ghost use Rattle.std.specs.Prelude.{◌≡◌, IfNone, IfSome, List, None, Some, map, string_bytes, ℕ};
+ghost use Rattle.std.specs.Prelude.{◌≡◌, IfNone, IfSome, None, Some, map, string_bytes};
 ghost use Rattle.urna_app.specs.Command.{carga_of, confere_of, emite_of, named_number, vota_of};
 
 use election_tables::GREATEST_SECTION;
@@ -11,6 +11,7 @@ pub(crate) struct VotaNames<'a> {
     pub tables: &'a str,
     pub roll: &'a str,
     pub keys: &'a str,
+    pub out: &'a str,
 }
 
 /// The names of the files of `carga`, and the zone and number of the section.
@@ -37,13 +38,13 @@ pub(crate) struct ConfereNames<'a> {
     pub report: &'a str,
 }
 
-/// `vota TABLES ROLL KEYS OUT`. The last word is not used.
+/// `vota TABLES ROLL KEYS OUT`.
 pub(crate) fn vota_words(words: &[String]) -> Option<VotaNames<'_>>
-    ensures names { IfSome result (λ n. (out : List ℕ) × (vota_of (map string_bytes words.now)
-        ≡ Some (record { tables = n.tables.now; roll = n.roll.now; keys = n.keys.now; out = out }))) }
+    ensures names { IfSome result (λ n. vota_of (map string_bytes words.now)
+        ≡ Some (record { tables = n.tables.now; roll = n.roll.now; keys = n.keys.now; out = n.out.now })) }
     ensures none { IfNone result (vota_of (map string_bytes words.now) ≡ None) }
 {
-    let [command, tables, roll, keys, _] = words else {
+    let [command, tables, roll, keys, out] = words else {
         return None;
     };
     if command.as_str() != "vota" {
@@ -53,6 +54,7 @@ pub(crate) fn vota_words(words: &[String]) -> Option<VotaNames<'_>>
         tables: tables.as_str(),
         roll: roll.as_str(),
         keys: keys.as_str(),
+        out: out.as_str(),
     })
 }
 

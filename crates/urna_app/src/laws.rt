@@ -1,4 +1,6 @@
-//! Laws of endings (`specs/Laws.antt`), of reports (`specs/Reports.antt`), and the headline (`specs/Headline.antt`).
+//! Laws of endings (`specs/Laws.antt`), of reports (`specs/Reports.antt`), of what is left at rest (`specs/AtRest.antt`), and the
+//! headline (`specs/Headline.antt`).
+ghost use Rattle.urna_app.specs.AtRest.{SameAtRest};
 ghost use Rattle.urna_app.specs.Headline.{AllAreCounted, DayKeepsVotes, KeysHaveRun, LoadBeginsDay, VotesAreKept};
 ghost use Rattle.urna_app.specs.Laws.{RefusedOnce, RefusedOrGiven};
 ghost use Rattle.urna_app.specs.Reports.{SealedHasReport, SealedHasText, SealedIsAccepted};
@@ -28,3 +30,11 @@ pub fn reports()
     ensures text { SealedHasText }
     ensures accepted { SealedIsAccepted }
 {}
+
+/// Two polls of one load with the same moments, voters and votes leave the same flashes and the same files of results, in whatever order
+/// the voters came and whoever chose what.
+pub fn no_order()
+    ensures { SameAtRest }
+{
+    image_codec::laws::order();
+}

@@ -49,8 +49,10 @@ const NO_WORDS: u8 = 40;
 /// One command: the words after the program's name, over a machine with two flashes of DEVICE_SIZE bytes and a cabinet.
 ///
 /// `carga TABLES ROLL ZONE SECTION` loads both flashes for a section of the tables. `vota TABLES ROLL KEYS OUT` takes the three files,
-/// recovers the poll that the flashes hold, and runs the session of the keys over it; the word OUT is not used. `confere TABLES REPORT`
-/// tells whether the file of a report is whole and fits the tables. Where the command was refused, a line tells why.
+/// recovers the poll that the flashes hold, runs the session of the keys over it, and where the poll is sealed then puts its report and
+/// its record as `OUT.bu` and `OUT.rdv`. `emite TABLES ROLL OUT` puts these two files of the sealed poll that the flashes hold, and writes
+/// nothing on a flash. `confere TABLES REPORT` tells whether the file of a report is whole and fits the tables. Where the command was
+/// refused, a line tells why.
 pub fn urna<M: Machine, C: Cabinet>(
     alloc: Global,
     words: &[String],

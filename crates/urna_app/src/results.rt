@@ -4,8 +4,9 @@ ghost use Rattle.std.specs.List.{Contains};
 ghost use Rattle.election_tables.specs.TablesData.{IsTables};
 ghost use Rattle.turnout.specs.declared.phase.Phase.TheVariants as phase;
 ghost use Rattle.image_codec.specs.Encoding.{IsStateOf};
-ghost use Rattle.urna_app.specs.Putting.{HavePut, StopPutting, result_files};
+ghost use Rattle.urna_app.specs.Putting.{HavePut, PutsResults, StopPutting, result_files};
 ghost use Rattle.urna_app.specs.Results.{entries_of};
+ghost use Rattle.urna_app.specs.Taking.{status_in};
 
 use crate::status::Status;
 use election_tables::{Section, Tables};
@@ -14,6 +15,7 @@ use image_codec::State;
 use poll_report::Report;
 use qr_text::write_fields;
 use std::alloc::Global;
+use turnout::Phase;
 use urna_base::Memory;
 use urna_outside::Cabinet;
 use vote_record::rdv_text;
@@ -77,5 +79,27 @@ pub(crate) fn put_results<C: Cabinet>(cabinet: &mut C, results: &Results) -> Res
 {
     cabinet.put(results.report_name.as_str(), &results.report)?;
     cabinet.put(results.record_name.as_str(), &results.record)?;
+    Ok(())
+}
+
+/// Puts the files of results of a poll, if it is sealed.
+pub(crate) fn deliver<C: Cabinet>(
+    alloc: Global,
+    cabinet: &mut C,
+    out: &str,
+    tables: &Tables,
+    section: Section,
+    state: &State,
+) -> Result<(), Status>
+    requires valid { IsTables tables.now }
+    requires section { Contains tables.now.sections section }
+    requires state { IsStateOf tables.now section.voters state.now }
+    ensures { PutsResults out.now tables.now section state.now (C.told cabinet.old) (C.told cabinet.new) (status_in result) }
+{
+    let Phase::Sealed { opened, closed } = state.phase() else {
+        return Ok(());
+    };
+    let results = results_of(alloc, out, tables, section, state, opened, closed)?;
+    put_results(cabinet, &results)?;
     Ok(())
 }

@@ -1,12 +1,14 @@
-//! The command `vota TABLES ROLL KEYS OUT`: the session of a section's poll.
-ghost use Rattle.std.specs.Prelude.{ℕ, List, IfErr, OnOk};
+//! The command `vota TABLES ROLL KEYS OUT`: the session of a section's poll, and its files of results.
+ghost use Rattle.std.specs.Prelude.{◌≡◌, IfErr, IfOk};
 ghost use Rattle.state_store.specs.Store.{AreDevices};
+ghost use Rattle.station.specs.Station.{IsStationed};
 ghost use Rattle.urna_app.specs.Holding.{FailsToHold};
 ghost use Rattle.urna_app.specs.Taking.{status_in};
 ghost use Rattle.urna_app.specs.Vota.{HasVoted, VotaEnds};
 
 use crate::command::VotaNames;
 use crate::documents::{take_documents, take_keys};
+use crate::results::deliver;
 use crate::status::Status;
 use election_tables::{Roll, Tables};
 use key_script::Script;
@@ -23,16 +25,18 @@ pub(crate) enum HoldError {
     Port(Port),
 }
 
-/// The session of the keys over the poll that the flashes hold.
+/// Holds the session of the keys over the poll that the flashes hold, and gives the station as it then stands.
 fn hold<M: Machine>(
     alloc: Global,
     tables: &Tables,
     roll: &Roll,
     script: &Script,
     machine: &mut M,
-) -> Result<(), HoldError>
+) -> Result<Station, HoldError>
     requires devices { AreDevices (M.told machine.old).sizes }
-    ensures ok { OnOk result (HasVoted tables.now roll.now script.now (M.told machine.old) (M.told machine.new)) }
+    ensures ok { IfOk result (λ end. (held : HasVoted tables.now roll.now script.now (M.told machine.old) (M.told machine.new))
+        × (held.load ≡ end.store.load) × (held.last ≡ end.standing.state)) }
+    ensures stationed { IfOk result (IsStationed tables.now roll.now (M.told machine.new)) }
     ensures err { IfErr result (FailsToHold tables.now roll.now script.now (M.told machine.old) (M.told machine.new)) }
 {
     let station = match Station::start(alloc, tables, roll, machine) {
@@ -40,12 +44,13 @@ fn hold<M: Machine>(
         Err(error) => return Err(HoldError::Start(error)),
     };
     match station.run(tables, roll, machine, script) {
-        Ok(_end) => Ok(()),
+        Ok(end) => Ok(end),
         Err(port) => Err(HoldError::Port(port)),
     }
 }
 
-/// The session of the files of these names: each is taken and read, and then the keys are pressed.
+/// The session of the files of these names: each is taken and read, the keys are pressed, and where the poll is sealed then its
+/// files of results are put.
 pub(crate) fn vota<M: Machine, C: Cabinet>(
     alloc: Global,
     names: VotaNames<'_>,
@@ -53,11 +58,18 @@ pub(crate) fn vota<M: Machine, C: Cabinet>(
     cabinet: &mut C,
 ) -> Result<(), Status>
     requires { AreDevices (M.told machine.old).sizes }
-    ensures { (out : List ℕ) → VotaEnds (record { tables = names.entry.tables.now; roll = names.entry.roll.now; keys = names.entry.keys.now; out = out })
+    ensures { VotaEnds (record { tables = names.entry.tables.now; roll = names.entry.roll.now; keys = names.entry.keys.now; out = names.entry.out.now })
         (C.told cabinet.old) (C.told cabinet.new) (M.told machine.old) (M.told machine.new) (status_in result) }
 {
     let (tables, roll) = take_documents(alloc, cabinet, names.tables, names.roll)?;
     let script = take_keys(alloc, cabinet, names.keys)?;
-    hold(alloc, &tables, &roll, &script, machine)?;
-    Ok(())
+    let station = hold(alloc, &tables, &roll, &script, machine)?;
+    deliver(
+        alloc,
+        cabinet,
+        names.out,
+        &tables,
+        station.section(),
+        station.state(),
+    )
 }

@@ -21,7 +21,7 @@ neither v w x o y p none nor emits checks =
     ∙ (ap (λ (z : Option Emite). command_in None None z y) emits ∙ ap (λ (z : Option Confere). command_in None None o z) checks))
 
 pub returns-in-Some : goal.returns-in-Some
-returns-in-Some g c = let found = c.in-Some.ensures.names in vota (to_vote _ _ _ _ _ found.1) (c.vota.ensures found.0)
+returns-in-Some g c = vota (to_vote _ _ _ _ _ c.in-Some.ensures.names) c.vota.ensures
 
 pub returns-in-Some-carga_words : goal.returns-in-Some-carga_words
 returns-in-Some-carga_words g c = carga (to_load _ _ _ _ _ c.in_default.ensures.none c.in-Some-carga_words.ensures.names) c.carga.ensures

@@ -1,4 +1,4 @@
-use Rattle.std.proofs.Common.{ap}
+use Rattle.std.proofs.Common.{ap, sym, ◌∙◌}
 use Rattle.station.specs.Press.{Standing}
 use Rattle.urna_app.proofs.Sessions.{cut_short, devices_after, voted}
 use Rattle.urna_app.proofs.vota.hold.Goals as goal
@@ -14,8 +14,10 @@ run-requires-clause-idle g c = ap (λ (x : Standing). x.mode) c.in-Ok.ensures.st
 pub returns-in-Ok-run-clause-ok : goal.returns-in-Ok-run-clause-ok
 returns-in-Ok-run-clause-ok g c =
     let run = c.in-Ok-run.ensures.run in
+    let held =
     voted c.args.tables.now c.args.roll.now c.args.script.now (g.M.Machine.told c.args.machine.now) (g.M.Machine.told c.start.new.m) (g.M.Machine.told c.run.new.m)
-    c.in-Ok.station c.in-Ok.ensures.started c.in-Ok-run._end.standing.state run.0 run.1 run.3
+    c.in-Ok.station c.in-Ok.ensures.started c.in-Ok-run.end.standing.state run.0 run.1 run.3 in
+    (held.0, held.1 ∙ sym c.in-Ok-run.ensures.load, held.2)
 
 pub returns-in-Err-run-clause-err : goal.returns-in-Err-run-clause-err
 returns-in-Err-run-clause-err g c =
