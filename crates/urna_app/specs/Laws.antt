@@ -1,9 +1,13 @@
 -- Laws of endings
 use Rattle.std.specs.Prelude.{◌≡◌, ℕ, List, Some}
 use Rattle.urna_outside.specs.Cabinet.{Files}
-use Rattle.election_tables.specs.Roll.{RollData}
-use Rattle.election_tables.specs.TablesData.{TablesData}
+use Rattle.urna_outside.specs.Flash.{Flashes}
+use Rattle.election_tables.specs.Roll.{IsRoll, RollData}
+use Rattle.election_tables.specs.TablesData.{IsTables, TablesData}
+use Rattle.election_tables.specs.declared.tables.sections.Section.{Section}
 use Rattle.key_script.specs.declared.keys.Event.{Event}
+use Rattle.image_codec.specs.State.{State}
+use Rattle.state_store.specs.Calls.{AreFound}
 use Rattle.urna_app.specs.Carga.{IsGivenLoad}
 use Rattle.section_intake.specs.declared.verdict.Verdict.{Verdict}
 use Rattle.urna_app.specs.Command.{Carga, Confere, Emite, Vota}
@@ -34,3 +38,8 @@ RefusedOrGiven =
     → HasVerdict (Some files) names v → ⊥)
     × ((files : Files) (names : Emite) (s : Status) (t : TablesData) (r : RollData) → IsFirstFault (Some files) names.tables doc.Roll names.roll s
     → IsGivenPoll (Some files) names t r → ⊥)
+
+-- Flashes hold one poll at most: one section, and one state. So whether the poll that they hold is sealed is said by them alone.
+abbrev pub FoundOnce : Type 0
+FoundOnce = (t : TablesData) (r : RollData) (section other : Section) (s u : State) (flashes : Flashes) → IsTables t → IsRoll r
+    → AreFound t r section s flashes → AreFound t r other u flashes → (section ≡ other) × (s ≡ u)

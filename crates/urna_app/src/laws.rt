@@ -2,7 +2,7 @@
 //! headline (`specs/Headline.antt`).
 ghost use Rattle.urna_app.specs.AtRest.{SameAtRest};
 ghost use Rattle.urna_app.specs.Headline.{AllAreCounted, DayKeepsVotes, KeysHaveRun, LoadBeginsDay, VotesAreKept};
-ghost use Rattle.urna_app.specs.Laws.{RefusedOnce, RefusedOrGiven};
+ghost use Rattle.urna_app.specs.Laws.{FoundOnce, RefusedOnce, RefusedOrGiven};
 ghost use Rattle.urna_app.specs.Reports.{SealedHasReport, SealedHasText, SealedIsAccepted};
 
 /// Where the cabinet tells its files, the words and the files determine whether they are refused, with which status, and which verdict
@@ -11,6 +11,14 @@ pub fn one_ending()
     ensures once { RefusedOnce }
     ensures either { RefusedOrGiven }
 {}
+
+/// Where the machine tells its flashes, they say which poll they hold, and so whether `emite` finds it sealed.
+pub fn one_poll()
+    ensures { FoundOnce }
+{
+    state_store::laws::one_finding();
+    state_store::laws::one_held();
+}
 
 /// The headline. Wherever the power stops a call of `vota` behind its two opening syncs, both flashes, and from the first shown byte on
 /// each alone, hold the poll that was found with the ballots whose FIM was shown, and with at most one more; over a day of calls, which
