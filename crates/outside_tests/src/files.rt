@@ -1,6 +1,6 @@
 //! What is done to real files, and what is left of them.
 use crate::calls::{Call, check_put, check_take, make_all};
-use crate::watched::{Fault, Step, Watch, Watched};
+use crate::watched::{Fault, OWN_FOLDER, Step, Watch, Watched};
 use std::alloc::Global;
 use std::fs;
 use std::io::ErrorKind;
@@ -482,6 +482,34 @@ fn a_put_is_whole_on_the_disk_before_it_has_its_name(rt: HostRuntime) {
         Step::SyncFolder,
     ];
     check_steps(&rt, rt.alloc(), &watch, &steps);
+}
+
+/// Puts a file into a folder of its own.
+fn check_put_in_folder(abort: &impl Abort, rt: &HostRuntime, watch: &Watch) {
+    let watched = Watched { rt, watch };
+    let mut folder = FolderCabinet::new(&watched);
+    check_put(abort, &mut folder, "own.tmp/put.tmp", b"1", true);
+    let _ = fs::remove_file(rt, "own.tmp/put.tmp");
+}
+
+#[test]
+fn a_put_syncs_the_folder_of_its_own_path(rt: HostRuntime) -> Result<(), Fail> {
+    fs::create_dir(&rt, OWN_FOLDER)?;
+    let watch = Watch::new(rt.alloc(), Fault::Nothing);
+    check_put_in_folder(&rt, &rt, &watch);
+    let steps = [
+        Step::Create,
+        Step::Lock,
+        Step::Duplicate,
+        Step::Write,
+        Step::SyncAll,
+        Step::Rename,
+        Step::OpenOwnFolder,
+        Step::SyncFolder,
+    ];
+    check_steps(&rt, rt.alloc(), &watch, &steps);
+    fs::remove_dir(&rt, OWN_FOLDER)?;
+    Ok(())
 }
 
 #[test]

@@ -8,10 +8,14 @@ use std::rt::Files;
 use std::{fs, io};
 use urna_outside::FileLock;
 
+/// The folder of a test that puts a file elsewhere than in the working folder.
+pub(crate) const OWN_FOLDER: &str = "own.tmp";
+
 #[derive(Clone, Copy, PartialEq, Eq, Debug)]
 pub(crate) enum Step {
     Open,
     OpenFolder,
+    OpenOwnFolder,
     Create,
     Duplicate,
     Lock,
@@ -99,8 +103,11 @@ impl<'a> Files for Watched<'a> {
     type Dir = fs::File;
 
     fn open_file(&self, how: &OpenOptions, path: &str) -> io::Result<WatchedFile<'a>> {
-        let is_folder = path == ".";
-        self.watch.note(if is_folder {
+        let is_own = path == OWN_FOLDER;
+        let is_folder = is_own || path == ".";
+        self.watch.note(if is_own {
+            Step::OpenOwnFolder
+        } else if is_folder {
             Step::OpenFolder
         } else if how.asks_create_new() {
             Step::Create
