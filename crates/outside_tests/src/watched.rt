@@ -25,7 +25,9 @@ pub(crate) enum Step {
     SyncFolder,
     Link,
     Rename,
+    // Of a file that is locked, and of another.
     Remove,
+    RemoveUnlocked,
     Show,
 }
 
@@ -97,6 +99,14 @@ pub(crate) struct WatchedFile<'a> {
     watch: &'a Watch,
 }
 
+/// Whether the file of a name is locked.
+fn is_locked(rt: &HostRuntime, path: &str) -> bool {
+    match fs::open(rt, path) {
+        Ok(file) => file.try_lock().is_err(),
+        Err(_) => false,
+    }
+}
+
 impl<'a> Files for Watched<'a> {
     type File = WatchedFile<'a>;
 
@@ -143,7 +153,11 @@ impl<'a> Files for Watched<'a> {
     }
 
     fn remove_file(&self, path: &str) -> io::Result<()> {
-        self.watch.note(Step::Remove)?;
+        self.watch.note(if is_locked(self.rt, path) {
+            Step::Remove
+        } else {
+            Step::RemoveUnlocked
+        })?;
         self.rt.remove_file(path)
     }
 

@@ -42,6 +42,6 @@ where
 
 /// The same open file, with its lock, under a descriptor above those of the three standard streams. The system opens a
 /// file under the lowest free descriptor: where standard output is closed, what is shown would be written into that file.
-pub(crate) fn above_streams<F: OpenFile + Drop>(opened: F) -> io::Result<F> {
+pub(crate) fn above_streams<F: OpenFile>(opened: &F) -> io::Result<F> {
     opened.try_clone()
 }

@@ -32,7 +32,7 @@ fn unfinished_name(dev: Dev) -> &'static str {
 /// Fills a new file with zeros and gives it the flash's name. The zeros are written, since a file that was only made
 /// long would show a full disk later. A name can't be given where something has it: a file that came meanwhile stays,
 /// and so does a link that leads nowhere.
-fn fill_and_name<R: Files>(rt: &R, created: R::File, dev: Dev, size: u32) -> io::Result<R::File> {
+fn fill_and_name<R: Files>(rt: &R, created: &R::File, dev: Dev, size: u32) -> io::Result<R::File> {
     let file = fill(created, &mut io::repeat(0).take(u64::from(size)))?;
     fs::hard_link(rt, unfinished_name(dev), file_name(dev))?;
     // Where a link stood under the other name, a second run may have removed this file in its place.
@@ -48,7 +48,8 @@ where
 {
     let name = unfinished_name(dev);
     let created = create(rt, name)?;
-    let made = fill_and_name(rt, created, dev, size);
+    let made = fill_and_name(rt, &created, dev, size);
+    // While it is locked.
     let removed = fs::remove_file(rt, name);
     let file = made?;
     removed?;
@@ -63,7 +64,7 @@ where
     match OpenOptions::new().read(true).write(true).open(rt, name) {
         Ok(opened) => {
             lock_named(rt, &opened, name)?;
-            above_streams(opened)
+            above_streams(&opened)
         }
         Err(error) if error.kind() == ErrorKind::NotFound => make(rt, dev, size),
         Err(error) => Err(error),

@@ -78,7 +78,7 @@ fn read_file<R: Files>(
         Ok(opened) => opened,
         Err(error) => return Err(error_of_open(error.kind())),
     };
-    let file = match above_streams(opened) {
+    let file = match above_streams(&opened) {
         Ok(file) => file,
         Err(error) => return Err(error_of_read(error.kind())),
     };

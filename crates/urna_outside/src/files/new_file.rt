@@ -39,9 +39,9 @@ where
     Ok(created)
 }
 
-/// Fills a new file with all that the reader gives, and brings it to the disk.
+/// Fills a new file with all that the reader gives, and brings it to the disk. Where this fails, the file has its lock still.
 pub(crate) fn fill<F: Write + OpenFile + Drop, S: Read>(
-    created: F,
+    created: &F,
     content: &mut S,
 ) -> io::Result<F> {
     let mut file = above_streams(created)?;

@@ -42,7 +42,7 @@ fn folder_of(name: &str) -> &str {
 /// is a fault.
 fn fill_and_rename<R: Files>(
     rt: &R,
-    created: R::File,
+    created: &R::File,
     unfinished: &str,
     name: &str,
     mut bytes: &[u8],
@@ -61,9 +61,10 @@ where
     let mut buffer = [0; PATH_MAX];
     let unfinished = unfinished_name(name, &mut buffer)?;
     let created = create(rt, unfinished)?;
-    let file = match fill_and_rename(rt, created, unfinished, name, bytes) {
+    let file = match fill_and_rename(rt, &created, unfinished, name, bytes) {
         Ok(file) => file,
         Err(error) => {
+            // While it is locked.
             let _ = fs::remove_file(rt, unfinished);
             return Err(error);
         }
