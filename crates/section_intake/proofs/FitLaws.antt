@@ -1,5 +1,5 @@
 -- The tests of a report say whether it fits the tables.
-use Rattle.std.proofs.Common.{◌≡◌, ◌≢◌, ℕ, suc, ◌+◌, ◌<◌, ◌≤◌, ◌==◌, ◌&&◌, Bool, true, false, List, [], ◌∷◌, length, drop, get_or, map, nat_eq, slice_get, Some, None, Option, option_map, unwrap_or, ◌⊎◌, inl, inr, eq-eqb, refl, sym, ap, ◌∙◌, arith}
+use Rattle.std.proofs.Common.{◌≡◌, ◌≢◌, ℕ, zero, suc, ◌+◌, ◌<◌, ◌≤◌, ◌==◌, ◌&&◌, Bool, true, false, List, [], ◌∷◌, length, drop, get_or, map, nat_eq, slice_get, Some, None, Option, option_map, unwrap_or, ◌⊎◌, inl, inr, eq-eqb, refl, sym, ap, ◌∙◌, arith}
 use Rattle.std.specs.Prelude.{nat_le}
 use Rattle.std.specs.List.{All, AllByRecursion, list_all, list_any}
 use Rattle.std.specs.Option.{option_map_or}
@@ -7,7 +7,9 @@ use Rattle.std.proofs.lemmas.Bool.{and_parts, cases_Bool, eqb-true}
 use Rattle.std.proofs.lemmas.Bool.Decides.{nat_tests}
 use Rattle.std.proofs.lemmas.List.{drop_all, drop_more}
 use Rattle.std.proofs.lemmas.Option.{get_or_from_slice_get, slice_get_cases}
-use Rattle.election_tables.specs.TablesData.{IsParty, IsTables, TablesData, places_at, places_in, section_with}
+use Rattle.election_tables.specs.TablesData.{IsParty, IsTables, TablesData, candidates_at, places_at, places_in, section_with, without_name}
+use Rattle.election_tables.specs.declared.tables.candidates.Candidate.{Candidate}
+use Rattle.election_tables.specs.declared.tables.candidates.NamedCandidate.{NamedCandidate}
 use Rattle.election_tables.specs.declared.tables.panels.Panel.{Panel}
 use Rattle.election_tables.specs.declared.tables.parties.Party.{Party}
 use Rattle.election_tables.specs.declared.tables.sections.Section.{Section}
@@ -15,14 +17,30 @@ use Rattle.election_tables.proofs.PlacesOfPanels.{one_place}
 use Rattle.poll_report.specs.declared.report.Count.{Count}
 use Rattle.poll_report.specs.declared.report.OfficeCount.{OfficeCount}
 use Rattle.poll_report.specs.declared.report.Report.{Report}
-use Rattle.vote_kinds.specs.Ballot.{BallotLine, is_choice, is_proportional, line_for, line_of, lines_by_panel, lines_from, no_panel}
-use Rattle.vote_kinds.proofs.Lookups.{by_panel_get, by_panel_length}
+use Rattle.vote_kinds.specs.Ballot.{BallotLine, is_choice, is_proportional, line_for, line_of, lines_by_panel, lines_from, no_panel, panel_at}
+use Rattle.vote_kinds.proofs.Lookups.{by_panel_get, by_panel_length, candidates_known}
 use Rattle.vote_kinds.specs.declared.choice.Choice.TheVariants as choice
 use Rattle.section_intake.specs.Fits.{FitLines, Fits, FitsLine}
 use Rattle.section_intake.specs.Fitting.{are_candidates, are_parties, fit_lines, fits, fits_election, fits_line, fits_section, is_party}
 
 pub places_known : (t : TablesData) (panel : ℕ) → panel < length t.panels → places_at t panel ≡ (line_of t panel).places
 places_known t panel lt = one_place t panel lt
+
+-- ---- candidate by candidate
+
+any_at : (n i : ℕ) (candidates : List NamedCandidate) (r : Candidate) → option_map without_name (slice_get candidates i) ≡ Some r → r.number ≡ n
+    → list_any (nat_eq n) (map (λ c. c.number) candidates) ≡ true
+any_at n i [] r e same = absurd (cc)
+any_at n zero (c ∷ candidates) r e same = let first : c.number ≡ n = cc in rw (eq-eqb n c.number (sym first)) refl
+any_at n (suc i) (c ∷ candidates) r e same = elim (cases_Bool (nat_eq n c.number)) [
+  | inl first ↦ rw first refl
+  | inr other ↦ rw other (any_at n i candidates r e same)
+]
+
+-- the number of a candidate who stands at some place is one of a candidate
+pub stands_there : (t : TablesData) (panel i n : ℕ) (r : Candidate) → option_map without_name (slice_get (candidates_at panel t) i) ≡ Some r → r.number ≡ n
+    → is_choice (line_of t panel) (choice.Nominal n) ≡ true
+stands_there t panel i n r e same = let known = candidates_known t panel in any_at n i (panel_at t panel).candidates r (rw known at e) same
 
 -- ---- panel by panel
 

@@ -1,7 +1,8 @@
 //! Whether a report is of the election of some tables.
-ghost use Rattle.std.specs.Prelude.{◌≡◌, ◌<◌, length};
-ghost use Rattle.election_tables.specs.TablesData.{IsTables};
-ghost use Rattle.vote_kinds.specs.Ballot.{line_of, lines_by_panel};
+ghost use Rattle.std.specs.Prelude.{◌≡◌, ◌<◌, ◌≤◌, Some, length, slice_get};
+ghost use Rattle.election_tables.specs.TablesData.{IsTables, candidates_at};
+ghost use Rattle.election_tables.specs.declared.tables.candidates.NamedCandidate.{NamedCandidate};
+ghost use Rattle.vote_kinds.specs.Ballot.{is_choice, line_of, lines_by_panel};
 ghost use Rattle.section_intake.specs.Fitting.{are_candidates, are_parties, fit_lines, fits, fits_election, fits_line, fits_section, is_party};
 
 use election_tables::Tables;
@@ -62,13 +63,41 @@ fn fits_panel(tables: &Tables, panel: u32, office: &OfficeCount) -> bool
             && are_parties(tables, panel, office.parties.as_slice()))
 }
 
-/// Whether each of these numbers is one of a candidate of the panel.
+/// The first place from this one on where a candidate of the panel has this number or a greater one; the end of the list where none
+/// has.
+fn next_place(tables: &Tables, panel: u32, from: u32, number: u32) -> u32
+    requires { panel < length tables.now.panels }
+    ensures { (c : NamedCandidate) → slice_get (candidates_at panel tables.now) result ≡ Some c → number ≤ c.number }
+{
+    let end = tables.candidate_count(panel);
+    for place in from..end {
+        if number <= tables.candidate(panel, place).number {
+            return place;
+        }
+    }
+    end
+}
+
+/// Whether the number is one of a candidate of the panel, who is looked for at this place first.
+#[tactic(auto, using(crate::proofs::FitLaws::stands_there))]
+fn is_candidate(tables: &Tables, panel: u32, place: u32, number: u32) -> bool
+    requires { panel < length tables.now.panels }
+    ensures { result ≡ is_choice (line_of tables.now panel) (Choice.Nominal number) }
+{
+    (place < tables.candidate_count(panel) && tables.candidate(panel, place).number == number)
+        || is_choice(tables, panel, Choice::Nominal(number))
+}
+
+/// Whether each of these numbers is one of a candidate of the panel. As the numbers of a report and those of the tables rise,
+/// one walk over both finds them.
 fn are_candidates(tables: &Tables, panel: u32, counts: &[Count]) -> bool
     requires { panel < length tables.now.panels }
     ensures { result ≡ are_candidates (line_of tables.now panel) counts.now }
 {
+    let mut place = 0;
     for count in counts {
-        if !is_choice(tables, panel, Choice::Nominal(count.number)) {
+        place = next_place(tables, panel, place, count.number);
+        if !is_candidate(tables, panel, place, count.number) {
             return false;
         }
     }
