@@ -6,14 +6,17 @@ pub mod Flattening
 pub mod Following
 pub mod Going
 pub mod Grouping
+pub mod HeadGoing
 pub mod HeadJoin
 pub mod HeadRows
 pub mod Joining
 pub mod Lengths
+pub mod OfficeGoing
 pub mod OfficeJoin
 pub mod OfficesJoin
 pub mod PieceLaws
 pub mod Plain
+pub mod Reached
 pub mod Rebuilding
 pub mod Regrouping
 pub mod Reporting
@@ -22,6 +25,7 @@ pub mod Rows
 pub mod Samples
 pub mod Saying
 pub mod Spellings
+pub mod SumGoing
 pub mod Telling
 pub mod Texts
 pub mod VoteLaws
