@@ -1,6 +1,7 @@
 /* For tests/crash-trial: makes the n-th write to a flash file or the n-th sync fail, with only half of the bytes of a write put.
    URNA_FAIL is `write N` or `sync N`, counted from 1 over files whose names end in `.flash`; or `new-write N` or `new-sync N`, over
-   those whose names end in `.new`, or `new-kill N`, where the process is killed in such a write. */
+   those whose names end in `.new`, or `new-kill N`, where the process is killed in such a write; or `named-kill N`, where it is
+   killed as soon as the n-th of these has its own name. */
 #define _GNU_SOURCE
 #include <dlfcn.h>
 #include <errno.h>
@@ -40,7 +41,8 @@ static int fails(const char *kind, long *calls) {
 static ssize_t (*real_write)(int, const void *, size_t);
 static int (*real_fsync)(int);
 static int (*real_fdatasync)(int);
-static long writes, syncs, new_writes, new_syncs, new_kills;
+static int (*real_rename)(const char *, const char *);
+static long writes, syncs, new_writes, new_syncs, new_kills, named_kills;
 
 ssize_t write(int file, const void *bytes, size_t count) {
     if (!real_write) {
@@ -56,6 +58,17 @@ ssize_t write(int file, const void *bytes, size_t count) {
         return -1;
     }
     return real_write(file, bytes, count);
+}
+
+int rename(const char *from, const char *to) {
+    if (!real_rename) {
+        real_rename = (int (*)(const char *, const char *))dlsym(RTLD_NEXT, "rename");
+    }
+    int answer = real_rename(from, to);
+    if (fails("named-kill ", &named_kills)) {
+        raise(SIGKILL);
+    }
+    return answer;
 }
 
 static int sync_or_fail(int file, int (*sync)(int)) {

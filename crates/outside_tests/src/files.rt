@@ -477,6 +477,9 @@ fn a_put_is_whole_on_the_disk_before_it_has_its_name(rt: HostRuntime) {
         Step::Duplicate,
         Step::Write,
         Step::SyncAll,
+        // The file that has the name is tried.
+        Step::Open,
+        Step::Lock,
         Step::Rename,
         Step::OpenFolder,
         Step::SyncFolder,
@@ -526,6 +529,56 @@ fn a_put_that_fails_leaves_the_old_file_or_the_new_one(rt: HostRuntime) {
         let watch = Watch::new(rt.alloc(), Fault::Kind(step));
         check_watched_put(&rt, &rt, &watch, false, left);
     }
+}
+
+/// Whoever has it locked goes on with it.
+#[test]
+fn one_run_at_a_time_puts_a_file(rt: HostRuntime) -> Result<(), Fail> {
+    // Another run has made its file and fills it.
+    place(&rt, &rt, "put.tmp.new", b"0");
+    let other = fs::open(&rt, "put.tmp.new")?;
+    other.lock()?;
+    let mut folder = FolderCabinet::new(&rt);
+    check_put(&rt, &mut folder, "put.tmp", b"1", false);
+    check_left(&rt, &rt, "put.tmp.new", b"0");
+    assert!(rt; !is_there(&rt, "put.tmp"));
+    // That run is killed.
+    other.unlock()?;
+    check_put(&rt, &mut folder, "put.tmp", b"1", true);
+    assert!(rt; !is_there(&rt, "put.tmp.new"));
+    fs::remove_file(&rt, "put.tmp")?;
+    Ok(())
+}
+
+#[test]
+fn a_put_replaces_no_flash_that_is_open(rt: HostRuntime) -> Result<(), Fail> {
+    remove_files(&rt);
+    place(&rt, &rt, "put.tmp", &[7; 4]);
+    symlink(&rt, "put.tmp", "internal.flash")?;
+    let mut m = FileMachine::new(&rt, 4);
+    make_all(&rt, &mut m, &[(Call::Sync(Dev::Internal), true)]);
+    let mut folder = FolderCabinet::new(&rt);
+    check_put(&rt, &mut folder, "put.tmp", b"1", false);
+    check_left(&rt, &rt, "put.tmp", &[7; 4]);
+    assert!(rt; !is_there(&rt, "put.tmp.new"));
+    // The link is replaced, and not the flash that it leads to.
+    check_put(&rt, &mut folder, "internal.flash", b"1", true);
+    check_left(&rt, &rt, "put.tmp", &[7; 4]);
+    fs::remove_file(&rt, "put.tmp")?;
+    remove_files(&rt);
+    Ok(())
+}
+
+/// A name has 255 bytes at most, also while its file is made.
+#[test]
+fn a_put_has_room_for_the_end_of_its_other_name(rt: HostRuntime) -> Result<(), Fail> {
+    let name = "0123456789".repeat(rt.alloc(), 26)?;
+    let mut folder = FolderCabinet::new(&rt);
+    for (len, is_ok) in [(251, true), (252, false), (255, false), (256, false)] {
+        check_put(&rt, &mut folder, &name[..len], b"1", is_ok);
+        let _ = fs::remove_file(&rt, &name[..len]);
+    }
+    Ok(())
 }
 
 /// Over links, which aren't followed, and over what an earlier run left.

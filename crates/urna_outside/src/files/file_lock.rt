@@ -40,6 +40,21 @@ where
     check_name(rt, opened, name)
 }
 
+/// Fails where a file of this name is locked: a flash that is open under another name, or what another run makes. A link isn't
+/// followed. A file that can't be opened is no flash of this run.
+pub(crate) fn check_free<R: Files>(rt: &R, name: &str) -> io::Result<()>
+where
+    R::File: FileLock,
+{
+    match fs::symlink_metadata(rt, name) {
+        Ok(named) if named.is_file() => match fs::open(rt, name) {
+            Ok(file) => file.try_lock(),
+            Err(_) => Ok(()),
+        },
+        _ => Ok(()),
+    }
+}
+
 /// The same open file, with its lock, under a descriptor above those of the three standard streams. The system opens a
 /// file under the lowest free descriptor: where standard output is closed, what is shown would be written into that file.
 pub(crate) fn above_streams<F: OpenFile>(opened: &F) -> io::Result<F> {

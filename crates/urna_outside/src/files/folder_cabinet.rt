@@ -17,8 +17,9 @@ use std::rt::Files;
 ///
 /// `put`: a file is never put half. It is made as `NAME.new` beside the name, where what an earlier run left is removed and
 /// no link is followed, and takes its name when it is on the disk; then the folder is synced. A link of that name is
-/// replaced. Every refusal of the system is Failed, want of memory too: a folder of that name, an absent folder on its
-/// path, a `NAME.new` that another run makes, a path that is too long with `.new`. A put that fails removes `NAME.new`
+/// replaced; a file of that name too, unless it is locked, as a flash is that is open under another name. Every refusal of
+/// the system is Failed, want of memory too: a folder of that name, an absent folder on its path, a `NAME.new` that another
+/// run makes or that can't be opened, a name or a path that is too long with `.new`. A put that fails removes `NAME.new`
 /// again, unless it could not lock it: that may be another run's, and if it isn't, the next put removes it.
 #[derive(Drop)]
 pub struct FolderCabinet<'a, R> {

@@ -1,7 +1,7 @@
 //! A file that is put whole or not at all.
 ghost use Rattle.std.specs.Prelude.{◌++◌, ◌≡◌, IfOk};
 
-use crate::files::file_lock::{FileLock, check_name};
+use crate::files::file_lock::{FileLock, check_free, check_name};
 use crate::files::new_file::{create, fill, sync_folder};
 use std::io::ErrorKind;
 use std::rt::Files;
@@ -39,15 +39,21 @@ fn folder_of(name: &str) -> &str {
 }
 
 /// Fills a new file and gives it its name, in the stead of a file or a link that has it. A folder of that name stays, and
-/// is a fault.
+/// so does a flash that is open; both are faults. Where a link stood under the other name, a second run may have removed this
+/// file in its place.
 fn fill_and_rename<R: Files>(
     rt: &R,
     created: &R::File,
     unfinished: &str,
     name: &str,
     mut bytes: &[u8],
-) -> io::Result<R::File> {
+) -> io::Result<R::File>
+where
+    R::File: FileLock,
+{
     let file = fill(created, &mut bytes)?;
+    check_name(rt, &file, unfinished)?;
+    check_free(rt, name)?;
     fs::rename(rt, unfinished, name)?;
     Ok(file)
 }
@@ -69,7 +75,7 @@ where
             return Err(error);
         }
     };
-    // Where a link stood under the other name, a second run may have removed this file in its place.
+    // That second run may have done so since.
     check_name(rt, &file, name)?;
     sync_folder(rt, folder_of(name))
 }
