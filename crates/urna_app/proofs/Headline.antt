@@ -55,6 +55,7 @@ use Rattle.urna_app.specs.Vota.{HasVoted, HasVotedTo, IsGiven, VotaEnds, cut, se
 use Rattle.urna_app.specs.declared.status.Doc.TheVariants as doc
 use Rattle.urna_app.specs.declared.status.Status.{Status}
 use Rattle.urna_app.specs.declared.status.Status.TheVariants as status
+use Rattle.urna_app.proofs.Completion.{port_silent}
 use Rattle.urna_app.proofs.Keeping.{behind_is, found_roll, kept_silent, not_done, not_within, safe_stops, session_kept}
 use Rattle.urna_app.proofs.Once.{refused_or_given, same_bytes, same_roll, same_tables}
 
@@ -199,11 +200,6 @@ given_once files names t u r q es fs a b =
 -- ---- the headline
 
 -- where a status has no fault line, nothing is done after the command
-port_silent : (p : Port) (b n : Told) → Tells (fault_text (port_status p)) b n → n ≡ b
-port_silent port.Internal b n tells = tells
-port_silent port.External b n tells = tells
-port_silent port.Display b n tells = tells
-
 results_silent : (word : List ℕ) (t : TablesData) (section : Section) (s : State) (c d : CabinetTold) (answer : Status) (b n : Told)
     → PutsResults word t section s c d answer → Tells (fault_text answer) b n → n ≡ b
 results_silent word t section s c d _ b n (no_results unsealed same) tells = tells

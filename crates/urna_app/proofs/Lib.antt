@@ -1,6 +1,8 @@
 mod Asked
 mod AtRest
+mod BothFiles
 mod Calls
+mod Completion
 mod Days
 mod Endings
 mod Faults

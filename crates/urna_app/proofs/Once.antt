@@ -134,7 +134,7 @@ bad_not_roll : (bytes : List ℕ) (s : Status) (r : RollData) → IsBad doc.Roll
 bad_not_roll bytes s r (count h) read = let p = read.count in absurd (cc)
 bad_not_roll bytes s r (roll_line h) read = let p = h.bad in let q = read.lines in absurd (cc)
 
-tables_not_fault : (files : Files) (name : List ℕ) (s : Status) (t : TablesData) → IsFault (Some files) name doc.Tables s → HasTables (Some files) name t → ⊥
+pub tables_not_fault : (files : Files) (name : List ℕ) (s : Status) (t : TablesData) → IsFault (Some files) name doc.Tables s → HasTables (Some files) name t → ⊥
 tables_not_fault files name s t (lacks h) has = lacks_not_taken files doc.Tables name has.bytes h has.taken
 tables_not_fault files name s t (longer h) has = longer_not_taken files doc.Tables name has.bytes h has.taken
 tables_not_fault files name s t (bad {bytes} taken h) has =
@@ -193,7 +193,7 @@ refused_or_given_poll files a s t r h given = first_not_there files a.tables a.r
 
 -- The tables and the report of some names
 
-report_not_fault : (files : Files) (name bytes : List ℕ) (s : Status) → IsFault (Some files) name doc.Report s → IsTaken (Some files) doc.Report name bytes → ⊥
+pub report_not_fault : (files : Files) (name bytes : List ℕ) (s : Status) → IsFault (Some files) name doc.Report s → IsTaken (Some files) doc.Report name bytes → ⊥
 report_not_fault files name bytes s (lacks h) taken = lacks_not_taken files doc.Report name bytes h taken
 report_not_fault files name bytes s (longer h) taken = longer_not_taken files doc.Report name bytes h taken
 report_not_fault files name bytes s (bad {bytes = other} _ h) taken = report_not_bad other s h

@@ -2,6 +2,7 @@ pub mod AtRest
 pub mod Carga
 pub mod Codes
 pub mod Command
+pub mod Completion
 pub mod Confere
 pub mod Documents
 pub mod Emite

@@ -1,8 +1,8 @@
 -- Files of results: which they are, and what the cabinet tells when they are put
-use Rattle.std.specs.Prelude.{◌≡◌, ◌≢◌, ◌⊎◌, ℕ, List, [], ◌∷◌, ◌++◌, codes}
+use Rattle.std.specs.Prelude.{◌≡◌, ◌≢◌, ◌⊎◌, ℕ, List, [], ◌∷◌, ◌++◌, Some, codes}
 use Rattle.std.specs.Option.{ForSome, option_map}
 use Rattle.urna_outside.specs.Told.{one_more}
-use Rattle.urna_outside.specs.Cabinet.{CabinetTold, CountsFault, Entry, Holds, PutsInto}
+use Rattle.urna_outside.specs.Cabinet.{CabinetTold, CountsFault, Entry, Files, Holds, PutsInto, file_at}
 use Rattle.election_tables.specs.TablesData.{TablesData}
 use Rattle.election_tables.specs.declared.tables.sections.Section.{Section}
 use Rattle.turnout.specs.declared.phase.Phase.TheVariants as phase
@@ -54,3 +54,11 @@ pub data PutsResults (out : List ℕ) (t : TablesData) (section : Section) (s : 
   -- The cabinet failed at one of them.
   results_not_put : {opened closed : ℕ} → s.phase ≡ phase.Sealed opened closed → StopPutting (result_files out t section s opened closed) old new
       → PutsResults out t section s old new status.Cabinet
+
+-- Where both files were put into a cabinet that tells its files, both are there, and all other names are as before.
+abbrev pub BothAreThere : Type 0
+BothAreThere = (out : List ℕ) (t : TablesData) (section : Section) (s : State) (opened closed : ℕ) (old new : CabinetTold) (before : Files)
+    → old.files ≡ Some before → HavePut (result_files out t section s opened closed) old new
+    → (now : Files) × (new.files ≡ Some now) × Holds (out ++ codes ".bu") (report_file t section s opened closed) now
+    × Holds (out ++ codes ".rdv") (record_text t section s.bags) now
+    × ((name : List ℕ) → name ≢ out ++ codes ".bu" → name ≢ out ++ codes ".rdv" → file_at name now ≡ file_at name before)

@@ -1,8 +1,10 @@
-//! Laws of endings (`specs/Laws.antt`), of reports (`specs/Reports.antt`), of what is left at rest (`specs/AtRest.antt`), and the
+//! Laws of endings (`specs/Laws.antt`, `specs/Completion.antt`), of reports (`specs/Reports.antt`), of what is left at rest (`specs/AtRest.antt`), and the
 //! headline (`specs/Headline.antt`).
 ghost use Rattle.urna_app.specs.AtRest.{SameAtRest};
+ghost use Rattle.urna_app.specs.Completion.{CompletesWhereItCan};
 ghost use Rattle.urna_app.specs.Headline.{AllAreCounted, DayKeepsVotes, KeysHaveRun, LoadBeginsDay, VotesAreKept};
 ghost use Rattle.urna_app.specs.Laws.{FoundOnce, RefusedOnce, RefusedOrGiven};
+ghost use Rattle.urna_app.specs.Putting.{BothAreThere};
 ghost use Rattle.urna_app.specs.Reports.{SealedHasReport, SealedHasText, SealedIsAccepted};
 
 /// Where the cabinet tells its files, the words and the files determine whether they are refused, with which status, and which verdict
@@ -16,6 +18,16 @@ pub fn one_ending()
 pub fn one_poll()
     ensures { FoundOnce }
 {
+    state_store::laws::one_finding();
+    state_store::laws::one_held();
+}
+
+/// A call whose words, files and flashes are what its command needs, and in which nothing failed, does all its steps, or memory was
+/// wanted; `confere` may refuse the report besides.
+pub fn completion()
+    ensures { CompletesWhereItCan }
+{
+    one_poll();
     state_store::laws::one_finding();
     state_store::laws::one_held();
 }
@@ -37,6 +49,11 @@ pub fn reports()
     ensures report { SealedHasReport }
     ensures text { SealedHasText }
     ensures accepted { SealedIsAccepted }
+{}
+
+/// Where both files of results were put, both are in the cabinet, under two names, and all other names are as before.
+pub fn both_files()
+    ensures { BothAreThere }
 {}
 
 /// Two polls of one load with the same moments, voters and votes leave the same flashes and the same files of results, in whatever order

@@ -1,0 +1,287 @@
+-- Where a call has what it needs, each other ending shows a fault
+use Rattle.std.proofs.Common.{◌≡◌, ◌⊎◌, inl, inr, ℕ, ◌≤◌, List, [], ◌∷◌, length, Option, Some, refl, sym, ap, subst, ◌∙◌, arith}
+use Rattle.std.specs.Option.{ForSome}
+use Rattle.urna_outside.specs.Cabinet.{CabinetTold, Entry, Files, Tally}
+use Rattle.urna_outside.specs.Flash.{Flashes}
+use Rattle.urna_outside.specs.ShownLines.{IsCutOff}
+use Rattle.urna_outside.specs.Told.{Faults, Rose, Told, faults_of, port_of}
+use Rattle.urna_outside.specs.declared.device.Dev.{Dev}
+use Rattle.urna_outside.specs.declared.device.Dev.TheVariants as dev
+use Rattle.urna_outside.specs.declared.device.Port.{Port}
+use Rattle.urna_outside.specs.declared.device.Port.TheVariants.{Internal, External, Display}
+use Rattle.election_tables.specs.Limits.{most_voters}
+use Rattle.election_tables.specs.Roll.{IsRoll, RollData}
+use Rattle.election_tables.specs.TablesData.{IsTables, TablesData}
+use Rattle.election_tables.specs.declared.tables.sections.Section.{Section}
+use Rattle.election_tables.proofs.Determined.{roll_is}
+use Rattle.key_script.specs.declared.keys.Event.{Event}
+use Rattle.image_codec.specs.State.{State}
+use Rattle.section_intake.specs.declared.verdict.Verdict.{Verdict}
+use Rattle.section_intake.specs.declared.verdict.Verdict.TheVariants as verdict
+use Rattle.state_store.specs.Calls.{AreFound, FailsToLoad, FailsToPeek}
+use Rattle.state_store.specs.Held.{HeldByNone, IsForeign}
+use Rattle.state_store.specs.Laws.{HeldIsDecoded, LoadedOrForeign}
+use Rattle.state_store.specs.declared.store.LoadError.{LoadError}
+use Rattle.state_store.specs.declared.store.LoadError.TheVariants as load
+use Rattle.state_store.specs.declared.store.StoreError.{StoreError}
+use Rattle.state_store.specs.declared.store.StoreError.TheVariants as store
+use Rattle.station.specs.Start.{FailsToStart}
+use Rattle.station.specs.declared.station.StartError.{StartError}
+use Rattle.station.specs.declared.station.StartError.TheVariants as start
+use Rattle.urna_app.specs.Carga.{CargaEnds, IsGivenLoad, IsSectionAsked, load_no_cabinet, load_no_memory, load_refused, loaded, no_section, not_loaded, not_told}
+use Rattle.urna_app.specs.Command.{Carga, Confere, Emite, ToCheck, ToEmit, ToLoad, ToVote, Vota, command_of}
+use Rattle.urna_app.specs.Completion.{CanCheck, CanEmit, CanLoad, CanVote, CompletesWhereItCan, IsDoneOrMemory}
+use Rattle.urna_app.specs.Confere.{ConfereEnds, check_no_cabinet, check_no_memory, check_not_told, check_refused, checked}
+use Rattle.urna_app.specs.Documents.{HasRoll, HasTables, IsFirstFault, first_other, first_tables}
+use Rattle.urna_app.specs.Emite.{EmiteEnds, IsGivenPoll, emit_no_cabinet, emit_no_memory, emit_refused, emitted, files_stopped, no_files, not_emitted, not_found, not_sealed}
+use Rattle.urna_app.specs.Ending.{CommandEnds, carga, confere, emite, no_command, vota}
+use Rattle.urna_app.specs.Errors.{load_status, port_status, start_status, store_status}
+use Rattle.urna_app.specs.FaultLines.{Tells, fault_text}
+use Rattle.urna_app.specs.Laws.{FoundOnce}
+use Rattle.urna_app.specs.Putting.{PutsResults, StopPutting, no_results, result_files, results_not_made, results_not_put, results_put}
+use Rattle.urna_app.specs.Verdicts.{verdict_status}
+use Rattle.urna_app.specs.Vota.{HasVotedTo, IsGiven, IsRefused, VotaEnds, cut, no_cabinet, no_memory, not_started, refused, session_held}
+use Rattle.urna_app.specs.declared.status.Doc.TheVariants as doc
+use Rattle.urna_app.specs.declared.status.Status.{Status}
+use Rattle.urna_app.specs.declared.status.Status.TheVariants as status
+use Rattle.urna_app.proofs.Once.{refused_or_given, refused_or_given_load, refused_or_given_poll, report_not_fault, same_roll, same_tables, tables_not_fault}
+
+-- ---- faults
+
+-- a status of a port has no line
+pub port_silent : (p : Port) (b n : Told) → Tells (fault_text (port_status p)) b n → n ≡ b
+port_silent Internal b n h = h
+port_silent External b n h = h
+port_silent Display b n h = h
+
+-- whatever the status says, no port failed before its line
+abbrev pub Calm : Status → Told → Told → Type 0
+Calm s m b = (p : Port) → s ≡ port_status p → Rose (faults_of p m.faults) (faults_of p b.faults) → ⊥
+
+pub calm : (s : Status) (m b n : Told) → ((p : Port) → ¬ Rose (faults_of p m.faults) (faults_of p n.faults)) → Tells (fault_text s) b n → Calm s m b
+calm s m b n none told p is rose =
+    let no_line = subst (λ (x : Status). Tells (fault_text x) b n) is told in
+    none p (subst (λ (x : Told). Rose (faults_of p m.faults) (faults_of p x.faults)) (sym (port_silent p b n no_line)) rose)
+
+-- a count that rose since a later moment rose since an earlier one where no call failed between
+since : (p : Port) (m between b : Told) → between.faults ≡ m.faults → Rose (faults_of p between.faults) (faults_of p b.faults)
+    → Rose (faults_of p m.faults) (faults_of p b.faults)
+since p m between b same rose = subst (λ (f : Faults). Rose (faults_of p f) (faults_of p b.faults)) same rose
+
+-- where a file was not put, the cabinet's count rose
+stopped_rose : (files : List Entry) (c d : CabinetTold) → StopPutting files c d → Rose c.tally.faults d.tally.faults
+stopped_rose [] c d h = absurd h
+stopped_rose (file ∷ files) c d (inl fails) = fails.counts.faults.rose
+stopped_rose (file ∷ files) c d (inr (between, put, rest)) =
+    subst (λ (tally : Tally). Rose tally.faults d.tally.faults) put.counts (stopped_rose files between d rest)
+
+-- ---- what is found on the flashes
+
+-- flashes that hold a poll are not foreign, and some slot stands
+not_missed : LoadedOrForeign → HeldIsDecoded → (t : TablesData) (r : RollData) → IsTables t → IsRoll r → {section : Section} {s : State} (flashes : Flashes)
+    → AreFound t r section s flashes
+    → ((d : Dev) → IsForeign t r d flashes.internal.content flashes.external.content → ⊥)
+    × (HeldByNone t (length r.titles) flashes.internal.content flashes.external.content → ⊥)
+not_missed either decoded t r valid roll {section} {s} flashes found =
+    let few : length r.titles ≤ most_voters = roll.count.1 in
+    let answers = (decoded t (length r.titles) flashes.internal.content flashes.external.content valid few).0 in (
+      λ d h. either t r section d flashes.internal.content flashes.external.content valid found.loaded h,
+      λ none. let some = (answers.0 s).0 found.held in let nothing = answers.1.0 none in absurd (cc),
+    )
+
+-- ---- vota
+
+-- a station that doesn't start
+starts : LoadedOrForeign → HeldIsDecoded → (t : TablesData) (r : RollData) → IsTables t → IsRoll r → {section : Section} {s : State} (flashes : Flashes)
+    → AreFound t r section s flashes → (m b : Told) → m.flashes ≡ Some flashes → (e : StartError) → Calm (start_status e) m b
+    → FailsToStart t r m b e → IsDoneOrMemory (start_status e)
+starts either decoded t r valid roll flashes found m b told start.Memory calm h = inr refl
+starts either decoded t r valid roll flashes found m b told (start.Port Internal) calm h = absurd (calm Internal refl h.0.faults.rose)
+starts either decoded t r valid roll flashes found m b told (start.Port External) calm h = absurd (calm External refl h.0.faults.rose)
+starts either decoded t r valid roll flashes found m b told (start.Port Display) calm h =
+    absurd (calm Display refl (since Display m h.between b h.recovered.fine.faults h.stopped.fault.faults.rose))
+starts either decoded t r valid roll flashes found m b told (start.Foreign d) calm h =
+    absurd ((not_missed either decoded t r valid roll flashes found).0 d (h.1 flashes told))
+starts either decoded t r valid roll flashes found m b told start.NoImage calm h =
+    absurd ((not_missed either decoded t r valid roll flashes found).1 ((h.1.2 flashes told).1))
+
+-- a session that was cut off
+voted_rose : (t : TablesData) (r : RollData) (es : List Event) (p : Port) (m b : Told) → HasVotedTo t r es p m b
+    → Rose (faults_of p m.faults) (faults_of p b.faults)
+voted_rose t r es p m b h =
+    since p m h.between b (h.opens.shown.fine.faults ∙ h.opens.recovered.fine.faults) h.stopped.fault.faults.rose
+
+-- files of results that are to be put
+put_ends : (out : List ℕ) (t : TablesData) (section : Section) (u : State) (c d : CabinetTold) (s : Status) → ¬ Rose c.tally.faults d.tally.faults
+    → PutsResults out t section u c d s → IsDoneOrMemory s
+put_ends out t section u c d s none (no_results unsealed same) = inl refl
+put_ends out t section u c d s none (results_put sealed put) = inl refl
+put_ends out t section u c d s none (results_not_made sealed same) = inr refl
+put_ends out t section u c d s none (results_not_put {opened} {closed} sealed stop) =
+    absurd (none (stopped_rose (result_files out t section u opened closed) c d stop))
+
+pub vota_completes : LoadedOrForeign → HeldIsDecoded → (names : Vota) (c d : CabinetTold) (m b : Told) (s : Status) (files : Files) (flashes : Flashes)
+    → c.files ≡ Some files → ¬ Rose c.tally.faults d.tally.faults → Calm s m b → m.flashes ≡ Some flashes → CanVote names (Some files) flashes
+    → VotaEnds names c d m b s → IsDoneOrMemory s
+vota_completes either decoded names c d m b s files flashes told none calm flashes_told can (refused h taken untouched) =
+    absurd (refused_or_given files names s can.t can.r can.es (subst (λ (f : Option Files). IsRefused f names s) told h) can.given)
+vota_completes either decoded names c d m b s files flashes told none calm flashes_told can (no_memory taken untouched) = inr refl
+vota_completes either decoded names c d m b s files flashes told none calm flashes_told can (no_cabinet taken untouched) =
+    absurd (none taken.counts.faults.rose)
+vota_completes either decoded names c d m b s files flashes told none calm flashes_told can (not_started {t} {r} {es} e given taken fails) =
+    let found = subst (λ (f : Option Files). IsGiven f names t r es) told given in
+    let tables = same_tables files names.tables t can.t found.tables can.given.tables in
+    let roll = same_roll files names.roll r can.r found.roll can.given.roll in
+    let same = subst (λ (x : RollData). FailsToStart can.t x m b e) roll (subst (λ (x : TablesData). FailsToStart x r m b e) tables fails) in
+    starts either decoded can.t can.r can.given.tables.valid (roll_is can.given.roll.bytes can.r can.given.roll.read) flashes can.found m b flashes_told e calm
+    same
+vota_completes either decoded names c d m b s files flashes told none calm flashes_told can (cut {t} {r} {es} p given taken voted) =
+    absurd (calm p refl (voted_rose t r es p m b voted))
+vota_completes either decoded names c d m b s files flashes told none calm flashes_told can (session_held {t} between given taken h one_of state puts) =
+    put_ends names.out t h.load.section h.last between d s (λ rose. none (subst (λ (tally : Tally). Rose tally.faults d.tally.faults) taken.counts rose)) puts
+
+-- ---- carga
+
+pub carga_completes : (names : Carga) (c d : CabinetTold) (m b : Told) (s : Status) (files : Files) (flashes : Flashes)
+    → c.files ≡ Some files → ¬ Rose c.tally.faults d.tally.faults → Calm s m b → m.flashes ≡ Some flashes → CanLoad names (Some files) flashes
+    → CargaEnds names c d m b s → IsDoneOrMemory s
+carga_completes names c d m b s files flashes told none calm flashes_told can (load_refused h taken untouched) =
+    absurd (refused_or_given_load files names s can.t can.r
+    (subst (λ (f : Option Files). IsFirstFault f names.tables doc.Roll names.roll s) told h) can.given)
+carga_completes names c d m b s files flashes told none calm flashes_told can (load_no_memory taken untouched) = inr refl
+carga_completes names c d m b s files flashes told none calm flashes_told can (load_no_cabinet taken untouched) =
+    absurd (none taken.counts.faults.rose)
+carga_completes names c d m b s files flashes told none calm flashes_told can (no_section {t} {r} given lacks taken untouched) =
+    let found = subst (λ (f : Option Files). IsGivenLoad f names t r) told given in
+    let tables = same_tables files names.tables t can.t found.tables can.given.tables in
+    let roll = same_roll files names.roll r can.r found.roll can.given.roll in
+    absurd (lacks can.section
+    (subst (λ (x : TablesData). IsSectionAsked names x r can.section) (sym tables)
+    (subst (λ (x : RollData). IsSectionAsked names can.t x can.section) (sym roll) can.asked)))
+carga_completes names c d m b s files flashes told none calm flashes_told can (not_loaded e given asked taken fails) = loads e calm fails
+  where
+    loads : (e : LoadError) → Calm (load_status e) m b → FailsToLoad m b e → IsDoneOrMemory (load_status e)
+    loads load.Memory calm h = inr refl
+    loads (load.Flash d) calm h = absurd (calm (port_of d) refl h.0.faults.rose)
+    loads (load.Busy dev.Internal) calm h = absurd (can.free dev.Internal (h.1 flashes flashes_told))
+    loads (load.Busy dev.External) calm h = absurd (can.free dev.External ((h.1 flashes flashes_told).1))
+carga_completes names c d m b s files flashes told none calm flashes_told can (not_told between given asked taken load off) =
+    absurd (calm Display refl (since Display m between b load.fine.faults off.faults.rose))
+carga_completes names c d m b s files flashes told none calm flashes_told can (loaded between given asked taken load shown) = inl refl
+
+-- ---- emite
+
+pub emite_completes : LoadedOrForeign → HeldIsDecoded → FoundOnce → (names : Emite) (c d : CabinetTold) (m b : Told) (s : Status) (files : Files)
+    (flashes : Flashes) → c.files ≡ Some files → ¬ Rose c.tally.faults d.tally.faults → Calm s m b → m.flashes ≡ Some flashes
+    → CanEmit names (Some files) flashes → EmiteEnds names c d m b s → IsDoneOrMemory s
+emite_completes either decoded once names c d m b s files flashes told none calm flashes_told can (emit_refused h taken untouched) =
+    absurd (refused_or_given_poll files names s can.t can.r
+    (subst (λ (f : Option Files). IsFirstFault f names.tables doc.Roll names.roll s) told h) can.given)
+emite_completes either decoded once names c d m b s files flashes told none calm flashes_told can (emit_no_memory taken untouched) = inr refl
+emite_completes either decoded once names c d m b s files flashes told none calm flashes_told can (emit_no_cabinet taken untouched) =
+    absurd (none taken.counts.faults.rose)
+emite_completes either decoded once names c d m b s files flashes told none calm flashes_told can (not_found {t} {r} e given taken fails) =
+    let found = subst (λ (f : Option Files). IsGivenPoll f names t r) told given in
+    let tables = same_tables files names.tables t can.t found.tables can.given.tables in
+    let roll = same_roll files names.roll r can.r found.roll can.given.roll in
+    peeks e calm (subst (λ (x : RollData). FailsToPeek can.t x m b e) roll (subst (λ (x : TablesData). FailsToPeek x r m b e) tables fails))
+  where
+    whole : IsRoll can.r
+    whole = roll_is can.given.roll.bytes can.r can.given.roll.read
+
+    peeks : (e : StoreError) → Calm (store_status e) m b → FailsToPeek can.t can.r m b e → IsDoneOrMemory (store_status e)
+    peeks store.Memory calm h = inr refl
+    peeks (store.Flash d) calm h = absurd (calm (port_of d) refl h.0.faults.rose)
+    peeks (store.Foreign d) calm h =
+        absurd ((not_missed either decoded can.t can.r can.given.tables.valid whole flashes can.found).0 d (h.1 flashes flashes_told))
+    peeks store.NoImage calm h =
+        absurd ((not_missed either decoded can.t can.r can.given.tables.valid whole flashes can.found).1 ((h.1.2 flashes flashes_told).1))
+emite_completes either decoded once names c d m b s files flashes told none calm flashes_told can (not_sealed {t} {r} {section} {s = u} given taken peeked unsealed) =
+    let found = subst (λ (f : Option Files). IsGivenPoll f names t r) told given in
+    let tables = same_tables files names.tables t can.t found.tables can.given.tables in
+    let roll = same_roll files names.roll r can.r found.roll can.given.roll in
+    let here = subst (λ (x : RollData). AreFound can.t x section u flashes) roll
+    (subst (λ (x : TablesData). AreFound x r section u flashes) tables (peeked.found flashes flashes_told)) in
+    let whole = roll_is can.given.roll.bytes can.r can.given.roll.read in
+    let same = (once can.t can.r section can.section u can.state flashes can.given.tables.valid whole here can.found).1 in
+    absurd (unsealed can.opened can.closed (ap (λ (x : State). x.phase) same ∙ can.sealed))
+emite_completes either decoded once names c d m b s files flashes told none calm flashes_told can (no_files given taken peeked sealed) = inr refl
+emite_completes either decoded once names c d m b s files flashes told none calm flashes_told can (files_stopped {t} {section} {s = u} {opened} {closed} between given taken peeked sealed stop) =
+    absurd (none (subst (λ (tally : Tally). Rose tally.faults d.tally.faults) taken.counts
+    (stopped_rose (result_files names.out t section u opened closed) between d stop)))
+emite_completes either decoded once names c d m b s files flashes told none calm flashes_told can (not_emitted put_to between given taken peeked sealed put off) =
+    absurd (calm Display refl (since Display m between b peeked.synced.fine.faults off.faults.rose))
+emite_completes either decoded once names c d m b s files flashes told none calm flashes_told can (emitted put_to between given taken peeked sealed put shown) = inl refl
+
+-- ---- confere
+
+pub confere_completes : (names : Confere) (c d : CabinetTold) (m b : Told) (s : Status) (files : Files) → c.files ≡ Some files
+    → ¬ Rose c.tally.faults d.tally.faults → Calm s m b → CanCheck names (Some files) → ConfereEnds names c d m b s
+    → IsDoneOrMemory s ⊎ ((v : Verdict) × (s ≡ status.ReportRefused v))
+confere_completes names c d m b s files told none calm can (check_refused h taken untouched) =
+    absurd (refused (subst (λ (f : Option Files). IsFirstFault f names.tables doc.Report names.report s) told h))
+  where
+    refused : IsFirstFault (Some files) names.tables doc.Report names.report s → ⊥
+    refused (first_tables h) = tables_not_fault files names.tables s can.t h can.tables
+    refused (first_other has h) = report_not_fault files names.report can.bytes s h can.report
+confere_completes names c d m b s files told none calm can (check_no_memory taken untouched) = inl (inr refl)
+confere_completes names c d m b s files told none calm can (check_no_cabinet taken untouched) = absurd (none taken.counts.faults.rose)
+confere_completes names c d m b s files told none calm can (check_not_told given taken off) = absurd (calm Display refl off.faults.rose)
+confere_completes names c d m b s files told none calm can (checked {v} given taken shown) = by_verdict v
+  where
+    by_verdict : (v : Verdict) → IsDoneOrMemory (verdict_status v) ⊎ ((w : Verdict) × (verdict_status v ≡ status.ReportRefused w))
+    by_verdict (verdict.Accepted zone number) = inl (inl refl)
+    by_verdict (verdict.Part f) = inr (verdict.Part f, refl)
+    by_verdict (verdict.Fields f) = inr (verdict.Fields f, refl)
+    by_verdict verdict.Strange = inr (verdict.Strange, refl)
+    by_verdict (verdict.Repeated zone number) = inr (verdict.Repeated zone number, refl)
+    by_verdict (verdict.Conflict zone number) = inr (verdict.Conflict zone number, refl)
+
+-- ---- the program
+
+of_vota : (words : List (List ℕ)) (names : Vota) (c d : CabinetTold) (m b : Told) (s : Status) → command_of words ≡ Some (ToVote names)
+    → CommandEnds words c d m b s → VotaEnds names c d m b s
+of_vota words names c d m b s is (no_command none h untouched) = absurd (cc)
+of_vota words names c d m b s is (vota {names = other} also h) = let same : other ≡ names = cc in subst (λ (x : Vota). VotaEnds x c d m b s) same h
+of_vota words names c d m b s is (carga also h) = absurd (cc)
+of_vota words names c d m b s is (emite also h) = absurd (cc)
+of_vota words names c d m b s is (confere also h) = absurd (cc)
+
+of_carga : (words : List (List ℕ)) (names : Carga) (c d : CabinetTold) (m b : Told) (s : Status) → command_of words ≡ Some (ToLoad names)
+    → CommandEnds words c d m b s → CargaEnds names c d m b s
+of_carga words names c d m b s is (no_command none h untouched) = absurd (cc)
+of_carga words names c d m b s is (vota also h) = absurd (cc)
+of_carga words names c d m b s is (carga {names = other} also h) = let same : other ≡ names = cc in subst (λ (x : Carga). CargaEnds x c d m b s) same h
+of_carga words names c d m b s is (emite also h) = absurd (cc)
+of_carga words names c d m b s is (confere also h) = absurd (cc)
+
+of_emite : (words : List (List ℕ)) (names : Emite) (c d : CabinetTold) (m b : Told) (s : Status) → command_of words ≡ Some (ToEmit names)
+    → CommandEnds words c d m b s → EmiteEnds names c d m b s
+of_emite words names c d m b s is (no_command none h untouched) = absurd (cc)
+of_emite words names c d m b s is (vota also h) = absurd (cc)
+of_emite words names c d m b s is (carga also h) = absurd (cc)
+of_emite words names c d m b s is (emite {names = other} also h) = let same : other ≡ names = cc in subst (λ (x : Emite). EmiteEnds x c d m b s) same h
+of_emite words names c d m b s is (confere also h) = absurd (cc)
+
+of_confere : (words : List (List ℕ)) (names : Confere) (c d : CabinetTold) (m b : Told) (s : Status) → command_of words ≡ Some (ToCheck names)
+    → CommandEnds words c d m b s → ConfereEnds names c d m b s
+of_confere words names c d m b s is (no_command none h untouched) = absurd (cc)
+of_confere words names c d m b s is (vota also h) = absurd (cc)
+of_confere words names c d m b s is (carga also h) = absurd (cc)
+of_confere words names c d m b s is (emite also h) = absurd (cc)
+of_confere words names c d m b s is (confere {names = other} also h) = let same : other ≡ names = cc in subst (λ (x : Confere). ConfereEnds x c d m b s) same h
+
+pub completes : LoadedOrForeign → HeldIsDecoded → FoundOnce → CompletesWhereItCan
+completes either decoded once words c d m n s files told failed ends =
+    let b = ends.between in
+    let quietly = calm s m b n failed.ports ends.told in (
+      λ names flashes is flashes_told can.
+          vota_completes either decoded names c d m b s files flashes told failed.cabinet quietly flashes_told can (of_vota words names c d m b s is ends.command),
+      λ names flashes is flashes_told can.
+          carga_completes names c d m b s files flashes told failed.cabinet quietly flashes_told can (of_carga words names c d m b s is ends.command),
+      λ names flashes is flashes_told can.
+          emite_completes either decoded once names c d m b s files flashes told failed.cabinet quietly flashes_told can
+          (of_emite words names c d m b s is ends.command),
+      λ names is can.
+          confere_completes names c d m b s files told failed.cabinet quietly can (of_confere words names c d m b s is ends.command),
+    )

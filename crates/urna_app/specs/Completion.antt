@@ -1,0 +1,89 @@
+-- Calls that have what they need and meet no fault: they do all their steps, or memory was wanted
+use Rattle.std.specs.Prelude.{◌≡◌, ◌⊎◌, ℕ, List, Option, Some}
+use Rattle.urna_outside.specs.Cabinet.{CabinetTold, Files}
+use Rattle.urna_outside.specs.Flash.{Flashes}
+use Rattle.urna_outside.specs.Told.{Rose, Told, faults_of}
+use Rattle.urna_outside.specs.declared.device.Port.{Port}
+use Rattle.election_tables.specs.Roll.{RollData}
+use Rattle.election_tables.specs.TablesData.{TablesData}
+use Rattle.election_tables.specs.declared.tables.sections.Section.{Section}
+use Rattle.key_script.specs.declared.keys.Event.{Event}
+use Rattle.turnout.specs.declared.phase.Phase.TheVariants as phase
+use Rattle.image_codec.specs.State.{State}
+use Rattle.section_intake.specs.declared.verdict.Verdict.{Verdict}
+use Rattle.state_store.specs.Calls.{AreFound, AreFree}
+use Rattle.urna_app.specs.Carga.{IsGivenLoad, IsSectionAsked}
+use Rattle.urna_app.specs.Command.{Carga, Confere, Emite, ToCheck, ToEmit, ToLoad, ToVote, Vota, command_of}
+use Rattle.urna_app.specs.Documents.{HasTables, IsTaken}
+use Rattle.urna_app.specs.Emite.{IsGivenPoll}
+use Rattle.urna_app.specs.Ending.{Ends}
+use Rattle.urna_app.specs.Vota.{IsGiven}
+use Rattle.urna_app.specs.declared.status.Doc.TheVariants as doc
+use Rattle.urna_app.specs.declared.status.Status.{Status}
+use Rattle.urna_app.specs.declared.status.Status.TheVariants as status
+
+-- in a call no count of faults rose: neither the cabinet's nor a port's
+pub record NothingFailed (c d : CabinetTold) (m n : Told) : Type 0 where
+  pub cabinet : ¬ Rose c.tally.faults d.tally.faults
+  pub ports : (p : Port) → ¬ Rose (faults_of p m.faults) (faults_of p n.faults)
+
+-- the call did all its steps, or memory was wanted
+abbrev pub IsDoneOrMemory : Status → Type 0
+IsDoneOrMemory s = (s ≡ status.Done) ⊎ (s ≡ status.Memory)
+
+-- ---- what the commands need
+
+-- the files of these names are tables and a roll of a section that is asked for, and neither flash is in use
+pub record CanLoad (names : Carga) (files : Option Files) (flashes : Flashes) : Type 0 where
+  pub t : TablesData
+  pub r : RollData
+  pub section : Section
+  pub given : IsGivenLoad files names t r
+  pub asked : IsSectionAsked names t r section
+  pub free : AreFree flashes
+
+-- the files of these names are tables, a roll and keys, and the flashes hold a poll of this load, as after a load and after any session,
+-- wherever it was stopped
+pub record CanVote (names : Vota) (files : Option Files) (flashes : Flashes) : Type 0 where
+  pub t : TablesData
+  pub r : RollData
+  pub es : List Event
+  pub section : Section
+  pub state : State
+  pub given : IsGiven files names t r es
+  pub found : AreFound t r section state flashes
+
+-- the files of these names are tables and a roll, and the flashes hold a sealed poll of this load
+pub record CanEmit (names : Emite) (files : Option Files) (flashes : Flashes) : Type 0 where
+  pub t : TablesData
+  pub r : RollData
+  pub section : Section
+  pub state : State
+  pub opened : ℕ
+  pub closed : ℕ
+  pub given : IsGivenPoll files names t r
+  pub found : AreFound t r section state flashes
+  pub sealed : state.phase ≡ phase.Sealed opened closed
+
+-- the files of these names are tables, and one no longer than a report may be
+pub record CanCheck (names : Confere) (files : Option Files) : Type 0 where
+  pub t : TablesData
+  pub bytes : List ℕ
+  pub tables : HasTables files names.tables t
+  pub report : IsTaken files doc.Report names.report bytes
+
+-- ---- and then they complete
+
+-- A call of the program that has what its command needs, and in which no count of faults rose, is Done, or memory was wanted; a check may
+-- refuse the report besides.
+abbrev pub CompletesWhereItCan : Type 0
+CompletesWhereItCan = (words : List (List ℕ)) (c d : CabinetTold) (m n : Told) (s : Status) (files : Files)
+    → c.files ≡ Some files → NothingFailed c d m n → Ends words c d m n s
+    → ((names : Vota) (flashes : Flashes) → command_of words ≡ Some (ToVote names) → m.flashes ≡ Some flashes
+    → CanVote names (Some files) flashes → IsDoneOrMemory s)
+    × ((names : Carga) (flashes : Flashes) → command_of words ≡ Some (ToLoad names) → m.flashes ≡ Some flashes
+    → CanLoad names (Some files) flashes → IsDoneOrMemory s)
+    × ((names : Emite) (flashes : Flashes) → command_of words ≡ Some (ToEmit names) → m.flashes ≡ Some flashes
+    → CanEmit names (Some files) flashes → IsDoneOrMemory s)
+    × ((names : Confere) → command_of words ≡ Some (ToCheck names) → CanCheck names (Some files)
+    → IsDoneOrMemory s ⊎ ((v : Verdict) × (s ≡ status.ReportRefused v)))
