@@ -1,0 +1,117 @@
+-- Averages stand in one strict order.
+use Rattle.std.proofs.Common.{◌≡◌, ℕ, ◌*◌, ◌<◌, ◌≤◌, ◌⊎◌, Bool, true, false, ◌&&◌, ◌||◌, nat_lt, ◌==◌, inl, inr, ap, ◌∙◌, subst, arith}
+use Rattle.std.proofs.lemmas.Bool.{cases_eq, false_from_ne_true}
+use Rattle.std.proofs.lemmas.Bool.Decides.{nat_tests}
+use Rattle.std.proofs.Math.Nat.{mul-le-mul_right, le_of_mul-le-mul_right, mul-lt-mul_of_pos_right, lt_of_mul-lt-mul_right}
+use Rattle.quotients.specs.Average.{Average, comes_before}
+
+-- The test and what it tests, over plain numbers: x and y are the two products
+
+abbrev precedes : (x y va vb pa pb da db : ℕ) → Bool
+precedes x y va vb pa pb da db = nat_lt y x || (x == y && (nat_lt vb va || (va == vb && (nat_lt pa pb || (pa == pb && nat_lt da db)))))
+
+abbrev Precedes : (x y va vb pa pb da db : ℕ) → Type 0
+Precedes x y va vb pa pb da db = (y < x) ⊎ ((x ≡ y) × ((vb < va) ⊎ ((va ≡ vb) × ((pa < pb) ⊎ ((pa ≡ pb) × (da < db))))))
+
+from_test : (x y va vb pa pb da db : ℕ) → precedes x y va vb pa pb da db ≡ true → Precedes x y va vb pa pb da db
+from_test x y va vb pa pb da db h = grind (arith, nat_tests)
+
+to_test : (x y va vb pa pb da db : ℕ) → Precedes x y va vb pa pb da db → precedes x y va vb pa pb da db ≡ true
+to_test x y va vb pa pb da db h = grind (arith, nat_tests)
+
+-- Fractions in order, by products
+
+-- vb/db ≤ va/da and vc/dc ≤ vb/db
+products_le : (va da vb db vc dc : ℕ) → 1 ≤ db → vb * da ≤ va * db → vc * db ≤ vb * dc → vc * da ≤ va * dc
+products_le va da vb db vc dc pos h g =
+    let one = mul-le-mul_right da g in
+    let two = mul-le-mul_right dc h in
+    let both : vc * da * db ≤ va * dc * db = omega arith in
+    le_of_mul-le-mul_right both pos
+
+products_lt_left : (va da vb db vc dc : ℕ) → 1 ≤ dc → vb * da < va * db → vc * db ≤ vb * dc → vc * da < va * dc
+products_lt_left va da vb db vc dc pos h g =
+    let one = mul-le-mul_right da g in
+    let two = mul-lt-mul_of_pos_right {k = dc} h pos in
+    let both : vc * da * db < va * dc * db = omega arith in
+    lt_of_mul-lt-mul_right db both
+
+products_lt_right : (va da vb db vc dc : ℕ) → 1 ≤ da → vb * da ≤ va * db → vc * db < vb * dc → vc * da < va * dc
+products_lt_right va da vb db vc dc pos h g =
+    let one = mul-lt-mul_of_pos_right {k = da} g pos in
+    let two = mul-le-mul_right dc h in
+    let both : vc * da * db < va * dc * db = omega arith in
+    lt_of_mul-lt-mul_right db both
+
+-- the order of equal averages
+ties_join : (va vb vc pa pb pc da db dc : ℕ)
+    → (vb < va) ⊎ ((va ≡ vb) × ((pa < pb) ⊎ ((pa ≡ pb) × (da < db))))
+    → (vc < vb) ⊎ ((vb ≡ vc) × ((pb < pc) ⊎ ((pb ≡ pc) × (db < dc))))
+    → (vc < va) ⊎ ((va ≡ vc) × ((pa < pc) ⊎ ((pa ≡ pc) × (da < dc))))
+ties_join va vb vc pa pb pc da db dc h g = grind arith
+
+not_less : (x y va vb pa pb da db : ℕ) → Precedes x y va vb pa pb da db → y ≤ x
+not_less x y va vb pa pb da db h = grind arith
+
+transitive : (va da pa vb db pb vc dc pc : ℕ) → 1 ≤ da → 1 ≤ db → 1 ≤ dc
+    → Precedes (va * db) (vb * da) va vb pa pb da db
+    → Precedes (vb * dc) (vc * db) vb vc pb pc db dc
+    → Precedes (va * dc) (vc * da) va vc pa pc da dc
+transitive va da pa vb db pb vc dc pc some_a some_b some_c (inl h) g = inl (products_lt_left va da vb db vc dc some_c h (not_less _ _ _ _ _ _ _ _ g))
+transitive va da pa vb db pb vc dc pc some_a some_b some_c (inr h) (inl g) = inl (products_lt_right va da vb db vc dc some_a (omega (arith, h.0)) g)
+transitive va da pa vb db pb vc dc pc some_a some_b some_c (inr h) (inr g) =
+    let le = products_le va da vb db vc dc some_b (omega (arith, h.0)) (omega (arith, g.0)) in
+    elim (cases_eq (va * dc) (vc * da)) [
+      | inl e ↦ inr (e, ties_join va vb vc pa pb pc da db dc h.1 g.1)
+      | inr ne ↦ inl (omega (arith, le, ne))
+    ]
+
+-- The laws
+
+pub before_all_behind : (a b c : Average) → 1 ≤ a.divisor → 1 ≤ b.divisor → 1 ≤ c.divisor → comes_before a b ≡ true → comes_before b c ≡ true → comes_before a c ≡ true
+before_all_behind a b c some_a some_b some_c h g =
+    to_test _ _ _ _ _ _ _ _ (transitive a.votes a.divisor a.party b.votes b.divisor b.party c.votes c.divisor c.party some_a some_b some_c
+    (from_test (a.votes * b.divisor) (b.votes * a.divisor) a.votes b.votes a.party b.party a.divisor b.divisor h)
+    (from_test (b.votes * c.divisor) (c.votes * b.divisor) b.votes c.votes b.party c.party b.divisor c.divisor g))
+
+not_itself_at : (x va pa da : ℕ) → precedes x x va va pa pa da da ≡ false
+not_itself_at x va pa da = grind (arith, nat_tests)
+
+pub not_itself : (a : Average) → comes_before a a ≡ false
+not_itself a = not_itself_at (a.votes * a.divisor) a.votes a.party a.divisor
+
+one_precedes : (x y va vb pa pb da db : ℕ) → (Precedes x y va vb pa pb da db) ⊎ ((Precedes y x vb va pb pa db da) ⊎ ((va ≡ vb) × ((pa ≡ pb) × (da ≡ db))))
+one_precedes x y va vb pa pb da db = grind arith
+
+same_average : (a b : Average) → a.votes ≡ b.votes → a.party ≡ b.party → a.divisor ≡ b.divisor → a ≡ b
+same_average a b e f g =
+    let make : ℕ → ℕ → ℕ → Average = λ v d p. record { votes = v; divisor = d; party = p } in
+    ap (λ v. make v a.divisor a.party) e ∙ ap (λ p. make b.votes a.divisor p) f ∙ ap (λ d. make b.votes d b.party) g
+
+pub some_order : (a b : Average) → (comes_before a b ≡ true) ⊎ ((comes_before b a ≡ true) ⊎ (a ≡ b))
+some_order a b = elim (one_precedes (a.votes * b.divisor) (b.votes * a.divisor) a.votes b.votes a.party b.party a.divisor b.divisor) [
+  | inl h ↦ inl (to_test (a.votes * b.divisor) (b.votes * a.divisor) a.votes b.votes a.party b.party a.divisor b.divisor h)
+  | inr w ↦ elim w [
+    | inl h ↦ inr (inl (to_test (b.votes * a.divisor) (a.votes * b.divisor) b.votes a.votes b.party a.party b.divisor a.divisor h))
+    | inr e ↦ inr (inr (same_average a b e.0 e.1.0 e.1.1))
+  ]
+]
+
+-- For the crates above
+
+not_both_at : (x y va vb pa pb da db : ℕ) → precedes x y va vb pa pb da db ≡ true → precedes y x vb va pb pa db da ≡ false
+not_both_at x y va vb pa pb da db h = grind (arith, nat_tests)
+
+-- of two averages one at most comes before the other
+pub not_both : (a b : Average) → comes_before a b ≡ true → comes_before b a ≡ false
+not_both a b h = not_both_at (a.votes * b.divisor) (b.votes * a.divisor) a.votes b.votes a.party b.party a.divisor b.divisor h
+
+-- what does not come before an average doesn't come before one that isn't behind it
+pub not_before_all : (a b c : Average) → 1 ≤ a.divisor → 1 ≤ b.divisor → 1 ≤ c.divisor → comes_before b a ≡ false → comes_before c b ≡ false → comes_before c a ≡ false
+not_before_all a b c some_a some_b some_c h g = false_from_ne_true (comes_before c a) (λ ca. elim (some_order a b) [
+  | inl ab ↦ let cb = before_all_behind c a b some_c some_a some_b ca ab in cc
+  | inr w ↦ elim w [
+    | inl ba ↦ cc
+    | inr e ↦ let cb = subst (λ (x : Average). comes_before c x ≡ true) e ca in cc
+  ]
+])

@@ -1,0 +1,11 @@
+use Rattle.quotients.proofs.Averages.{before_all_behind, not_itself, some_order}
+use Rattle.quotients.proofs.laws.averages.Goals as goal
+
+pub returns-clause-strict : goal.returns-clause-strict
+returns-clause-strict _ = not_itself
+
+pub returns-clause-total : goal.returns-clause-total
+returns-clause-total _ = some_order
+
+pub returns-clause-transitive : goal.returns-clause-transitive
+returns-clause-transitive _ = before_all_behind

@@ -1,0 +1,13 @@
+//! The quotients of the seat law (Código Eleitoral arts. 106 to 109), in whole numbers.
+//!
+//! The layer above asks `quotient` and `party_quotient` for the two quotients, and `tenth`, `fifth` and `four_fifths` for the three
+//! minimums. `specs/Quotients.antt` says what they are, and `specs/Average.antt` which of two averages comes first; `laws` says that the
+//! electoral quotient is the nearest whole number, and that averages stand in one order.
+#![tactic(auto)]
+
+mod division;
+pub mod laws;
+mod minimum;
+
+pub use division::{party_quotient, quotient};
+pub use minimum::{fifth, four_fifths, tenth};

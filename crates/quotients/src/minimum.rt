@@ -1,0 +1,30 @@
+//! The minimums of votes, as shares of the electoral quotient `qe`. The caller owes that both numbers are at most 10^12.
+ghost use Rattle.std.specs.Prelude.{◌≡◌, ◌≤◌, ◌^◌};
+ghost use Rattle.quotients.specs.Quotients.{has_tenth, has_fifth, has_four_fifths};
+
+/// Whether a candidate with `n` votes has at least 10% of the quotient (art. 108). Both are at most 10^12.
+pub fn tenth(n: u64, qe: u64) -> bool
+    requires votes { n ≤ 10 ^ 12 }
+    requires quotient { qe ≤ 10 ^ 12 }
+    ensures { result ≡ has_tenth n qe }
+{
+    10 * n >= qe
+}
+
+/// Whether a candidate with `n` votes has at least 20% of the quotient (art. 109, paragraph 2). Both are at most 10^12.
+pub fn fifth(n: u64, qe: u64) -> bool
+    requires votes { n ≤ 10 ^ 12 }
+    requires quotient { qe ≤ 10 ^ 12 }
+    ensures { result ≡ has_fifth n qe }
+{
+    5 * n >= qe
+}
+
+/// Whether a party with `v` votes has at least 80% of the quotient (art. 109, paragraph 2). Both are at most 10^12.
+pub fn four_fifths(v: u64, qe: u64) -> bool
+    requires votes { v ≤ 10 ^ 12 }
+    requires quotient { qe ≤ 10 ^ 12 }
+    ensures { result ≡ has_four_fifths v qe }
+{
+    5 * v >= 4 * qe
+}
