@@ -1,0 +1,60 @@
+-- What is so of all contests, and of all candidates
+use Rattle.std.specs.Prelude.{◌≡◌, ◌↔◌, ℕ, Bool, true, ◌+◌, ◌/◌, ◌≤◌, ◌<◌, List, length, sum_by}
+use Rattle.std.specs.List.Sorted.{IsPermutation}
+use Rattle.seat_remainders.specs.declared.contest.Entry.{Entry}
+use Rattle.seat_remainders.specs.declared.contest.Contest.{Contest}
+use Rattle.seat_remainders.specs.declared.outcome.Outcome.{Outcome}
+use Rattle.seat_remainders.specs.declared.outcome.Seats.{Seats as SeatsData}
+use Rattle.seat_remainders.specs.declared.outcome.MajorityOutcome.TheVariants.{Runoff, Nobody}
+use Rattle.seat_remainders.specs.Candidates.{in_order, AreInOrder}
+use Rattle.seat_remainders.specs.Contest.{PartiesRise}
+use Rattle.seat_remainders.specs.Parties.{nominal_votes, quotient_of, first_phase}
+use Rattle.seat_remainders.specs.Outcome.{AreSeats, IsOver, IsOutcome, is_without_quotient, is_over}
+use Rattle.seat_remainders.specs.Computed.{outcome_of}
+use Rattle.seat_remainders.specs.Majority.{majority_outcome, NobodyHasMajority}
+
+-- each contest has an outcome
+abbrev pub HasOutcome : Type 0
+HasOutcome = (contest : Contest) → IsOutcome contest (outcome_of contest)
+
+-- and no other
+abbrev pub HasOneOutcome : Type 0
+HasOneOutcome = (contest : Contest) (o : Outcome) → IsOutcome contest o → o ≡ outcome_of contest
+
+-- there is no quotient exactly where it is 0
+abbrev pub NoQuotientAtZero : Type 0
+NoQuotientAtZero = (contest : Contest) (o : Outcome) → IsOutcome contest o → (is_without_quotient o ≡ true) ↔ (quotient_of contest ≡ 0)
+
+-- and the first phase comes to too many seats exactly where there is one and these seats are more than there are
+abbrev pub OverBeyondAllSeats : Type 0
+OverBeyondAllSeats = (contest : Contest) (o : Outcome) → IsOutcome contest o
+    → (is_over o ≡ true) ↔ ((1 ≤ quotient_of contest) × (contest.seats < first_phase (quotient_of contest) contest.parties))
+
+-- the seats of the parties and the vacant ones are all seats
+abbrev pub SeatsAddUp : Type 0
+SeatsAddUp = (contest : Contest) (s : SeatsData) → PartiesRise contest.parties → AreSeats contest s → sum_by (λ p. p.seats) s.parties + s.vacant ≡ contest.seats
+
+-- for each seat of a party a candidate is elected
+abbrev pub EachSeatIsFilled : Type 0
+EachSeatIsFilled = (contest : Contest) (s : SeatsData) → PartiesRise contest.parties → AreSeats contest s → length s.elected ≡ sum_by (λ p. p.seats) s.parties
+
+-- the first phase comes to more seats than there are only where the quotient is at most half of them
+abbrev pub OverOnlyBelowHalf : Type 0
+OverOnlyBelowHalf = (contest : Contest) (first seats : ℕ) → 1 ≤ contest.seats → IsOver contest first seats → quotient_of contest ≤ contest.seats / 2
+
+-- candidates in their order stand in order
+abbrev pub StandInOrder : Type 0
+StandInOrder = (candidates : List Entry) → AreInOrder (in_order candidates)
+
+-- and are the same candidates
+abbrev pub AreTheSame : Type 0
+AreTheSame = (candidates : List Entry) → IsPermutation candidates (in_order candidates)
+
+-- nobody is elected exactly where all votes are 0
+abbrev pub NobodyWithoutVotes : Type 0
+NobodyWithoutVotes = (candidates : List Entry) (absolute : Bool) → (majority_outcome candidates absolute ≡ Nobody) ↔ (nominal_votes candidates ≡ 0)
+
+-- by the absolute rule there is a second round exactly where there are votes and nobody has more than half of them
+abbrev pub RunoffWithoutMajority : Type 0
+RunoffWithoutMajority = (candidates : List Entry)
+    → ((x : ℕ) × (y : ℕ) × (majority_outcome candidates true ≡ Runoff x y)) ↔ ((1 ≤ nominal_votes candidates) × NobodyHasMajority candidates)

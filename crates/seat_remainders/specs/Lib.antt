@@ -1,0 +1,12 @@
+pub mod Candidates
+pub mod Parties
+pub mod Contest
+pub mod Rounds
+pub mod Outcome
+pub mod Computed
+pub mod Majority
+pub mod Standing
+pub mod Leading
+pub mod Scan
+pub mod Played
+pub mod Laws

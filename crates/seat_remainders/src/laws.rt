@@ -1,0 +1,30 @@
+//! What is so of all contests, and of all candidates. Each function here does nothing: its contract is the law.
+ghost use Rattle.seat_remainders.specs.Laws.{AreTheSame, EachSeatIsFilled, HasOneOutcome, HasOutcome, NoQuotientAtZero, NobodyWithoutVotes, OverBeyondAllSeats, OverOnlyBelowHalf, RunoffWithoutMajority, SeatsAddUp, StandInOrder};
+
+/// A contest has exactly one outcome, which can be computed, and the numbers of the contest say of which kind it is.
+pub fn outcomes()
+    ensures some { HasOutcome }
+    ensures one { HasOneOutcome }
+    ensures no_quotient { NoQuotientAtZero }
+    ensures over { OverBeyondAllSeats }
+{}
+
+/// All seats are given or vacant, and each that is given is filled; the first phase comes to too many only where the quotient is at most
+/// half of the seats.
+pub fn seats()
+    ensures add_up { SeatsAddUp }
+    ensures filled { EachSeatIsFilled }
+    ensures over { OverOnlyBelowHalf }
+{}
+
+/// The candidates in their order are the same candidates, each before all that are behind it.
+pub fn candidate_order()
+    ensures order { StandInOrder }
+    ensures same { AreTheSame }
+{}
+
+/// When nobody is elected, and when two go to a second round.
+pub fn majorities()
+    ensures nobody { NobodyWithoutVotes }
+    ensures runoff { RunoffWithoutMajority }
+{}

@@ -1,0 +1,25 @@
+//! The seats of a proportional office by electoral quotient and greatest averages (Código Eleitoral arts. 106 to 110), and the winner of
+//! a majority office.
+//!
+//! The layer above makes a `Contest` of an office's votes and asks `distribute` what comes of it, which `specs/Outcome.antt` says with
+//! `specs/Parties.antt` (the first phase), `specs/Rounds.antt` (the seats that remain) and `specs/Candidates.antt` (the order of
+//! candidates); it asks `majority` by `specs/Majority.antt`. `laws` says that each contest has one outcome, that its seats add up and are
+//! filled, and when nobody is elected or two go to a second round.
+#![tactic(auto)]
+
+mod contest;
+mod distribution;
+mod elected;
+pub mod laws;
+mod majority_rule;
+mod outcome;
+mod rounds;
+mod standing;
+mod votes;
+
+pub use contest::{Contest, Contestant, Contestants, Entries, Entry};
+pub use distribution::distribute;
+pub use majority_rule::majority;
+pub use outcome::{
+    Award, Awards, MajorityOutcome, Numbers, Outcome, PartySeatList, PartySeats, Seats,
+};

@@ -1,0 +1,212 @@
+//! What comes of a contest, and of a majority office. Contracts see each list as its list.
+ghost use Rattle.std.specs.Prelude.{◌≡◌, ◌+◌, ◌<◌, ◌^◌, [], ◌∷◌, ◌++◌, length, OnErr, OnOk, Some, slice_get};
+
+use std::alloc::Global;
+use std::marker::Model;
+use urna_base::Memory;
+
+/// The seat of one round (art. 109): the phase of the round, which is 2 or 3, and the party that takes the seat.
+#[derive(Clone, Copy, Debug, PartialEq, Eq)]
+pub struct Award {
+    pub phase: u8,
+    pub party: u8,
+}
+
+/// Awards in the order of the rounds, which contracts see as their list.
+#[derive(Debug, Drop)]
+pub struct Awards {
+    items: Vec<Award>,
+}
+
+impl Model for Awards {
+    ghost use Rattle.std.specs.Prelude.{◌<◌, ◌^◌, List, length};
+    ghost use Rattle.seat_remainders.specs.declared.outcome.Award.{Award};
+
+    ghost Value = { List Award };
+
+    ghost view = { λ l. l.items.items };
+
+    ghost invariant = { λ l. length l.items.items < 2 ^ 32 };
+}
+
+impl Awards {
+    /// No awards.
+    pub fn new(alloc: Global) -> Awards
+        ensures { result ≡ [] }
+    {
+        Awards {
+            items: Vec::new(alloc),
+        }
+    }
+
+    /// One award more, behind the others. The caller owes that there are fewer than 2^32 - 1. `Memory` comes only where an allocation
+    /// failed, and then nothing has changed.
+    pub fn push(&mut self, item: Award) -> Result<(), Memory>
+        requires { length self.old + 1 < 2 ^ 32 }
+        ensures pushed { OnOk result (self.new ≡ self.old ++ item ∷ []) }
+        ensures kept { OnErr result (self.new ≡ self.old) }
+    {
+        self.items.push(item)?;
+        Ok(())
+    }
+
+    /// How many there are.
+    pub fn len(&self) -> u32
+        ensures { result ≡ length self.now }
+    {
+        self.items.len() as u32
+    }
+
+    /// The i-th, counted from 0.
+    pub fn get(&self, i: u32) -> &Award
+        requires { i < length self.now }
+        ensures { slice_get self.now i ≡ Some result.now }
+    {
+        &self.items[i as usize]
+    }
+}
+
+/// What a party has: its number, its valid votes, its quotient (art. 107) and its seats.
+#[derive(Clone, Copy, Debug, PartialEq, Eq)]
+pub struct PartySeats {
+    pub number: u8,
+    pub votes: u64,
+    pub quotient: u64,
+    pub seats: u32,
+}
+
+/// What each party has, in a row, which contracts see as its list.
+#[derive(Debug, Drop)]
+pub struct PartySeatList {
+    items: Vec<PartySeats>,
+}
+
+impl Model for PartySeatList {
+    ghost use Rattle.std.specs.Prelude.{◌<◌, ◌^◌, List, length};
+    ghost use Rattle.seat_remainders.specs.declared.outcome.PartySeats.{PartySeats};
+
+    ghost Value = { List PartySeats };
+
+    ghost view = { λ l. l.items.items };
+
+    ghost invariant = { λ l. length l.items.items < 2 ^ 32 };
+}
+
+impl PartySeatList {
+    /// No parties.
+    pub fn new(alloc: Global) -> PartySeatList
+        ensures { result ≡ [] }
+    {
+        PartySeatList {
+            items: Vec::new(alloc),
+        }
+    }
+
+    /// One party more, behind the others. The caller owes that there are fewer than 2^32 - 1. `Memory` comes only where an allocation
+    /// failed, and then nothing has changed.
+    pub fn push(&mut self, item: PartySeats) -> Result<(), Memory>
+        requires { length self.old + 1 < 2 ^ 32 }
+        ensures pushed { OnOk result (self.new ≡ self.old ++ item ∷ []) }
+        ensures kept { OnErr result (self.new ≡ self.old) }
+    {
+        self.items.push(item)?;
+        Ok(())
+    }
+
+    /// How many there are.
+    pub fn len(&self) -> u32
+        ensures { result ≡ length self.now }
+    {
+        self.items.len() as u32
+    }
+
+    /// The i-th, counted from 0.
+    pub fn get(&self, i: u32) -> &PartySeats
+        requires { i < length self.now }
+        ensures { slice_get self.now i ≡ Some result.now }
+    {
+        &self.items[i as usize]
+    }
+}
+
+/// Numbers of candidates in a row, which contracts see as their list.
+#[derive(Debug, Drop)]
+pub struct Numbers {
+    items: Vec<u32>,
+}
+
+impl Model for Numbers {
+    ghost use Rattle.std.specs.Prelude.{ℕ, ◌<◌, ◌^◌, List, length};
+
+    ghost Value = { List ℕ };
+
+    ghost view = { λ l. l.items.items };
+
+    ghost invariant = { λ l. length l.items.items < 2 ^ 32 };
+}
+
+impl Numbers {
+    /// No numbers.
+    pub fn new(alloc: Global) -> Numbers
+        ensures { result ≡ [] }
+    {
+        Numbers {
+            items: Vec::new(alloc),
+        }
+    }
+
+    /// One number more, behind the others. The caller owes that there are fewer than 2^32 - 1. `Memory` comes only where an allocation
+    /// failed, and then nothing has changed.
+    pub fn push(&mut self, item: u32) -> Result<(), Memory>
+        requires { length self.old + 1 < 2 ^ 32 }
+        ensures pushed { OnOk result (self.new ≡ self.old ++ item ∷ []) }
+        ensures kept { OnErr result (self.new ≡ self.old) }
+    {
+        self.items.push(item)?;
+        Ok(())
+    }
+
+    /// How many there are.
+    pub fn len(&self) -> u32
+        ensures { result ≡ length self.now }
+    {
+        self.items.len() as u32
+    }
+
+    /// The i-th, counted from 0.
+    pub fn get(&self, i: u32) -> &u32
+        requires { i < length self.now }
+        ensures { slice_get self.now i ≡ Some result.now }
+    {
+        &self.items[i as usize]
+    }
+}
+
+/// The seats of a contest: the electoral quotient, what each party has, rising by number, the awards of the rounds, the numbers of the
+/// elected, party by party and within a party in the order of candidates, and how many seats stay vacant.
+#[derive(Debug, Drop)]
+pub struct Seats {
+    pub quotient: u64,
+    pub parties: PartySeatList,
+    pub awards: Awards,
+    pub elected: Numbers,
+    pub vacant: u32,
+}
+
+/// What comes of a contest: its seats; or no quotient, for so few valid votes and so many seats; or a first phase that comes to more
+/// seats than there are.
+#[derive(Debug, Drop)]
+pub enum Outcome {
+    Seats(Seats),
+    NoQuotient { valid: u64, seats: u32 },
+    Over { first: u64, seats: u32 },
+}
+
+/// What comes of a majority office: a candidate is elected, by number; or two go to a second round, the first of them first; or there
+/// are no votes.
+#[derive(Clone, Copy, Debug, PartialEq, Eq)]
+pub enum MajorityOutcome {
+    Elected(u32),
+    Runoff(u32, u32),
+    Nobody,
+}
