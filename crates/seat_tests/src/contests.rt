@@ -1,0 +1,167 @@
+//! What comes of a contest.
+use crate::owed::is_contest;
+use crate::rows::CONTESTS;
+use seat_remainders::{
+    Award, Awards, Contest, Contestant, Contestants, Entries, Entry, Numbers, Outcome,
+    PartySeatList, PartySeats, distribute,
+};
+use std::alloc::{AllocError, Global};
+use std::test::Fail;
+use urna_base::Memory;
+
+/// The date of birth of a candidate whose row tells none.
+const BIRTH: &str = "19600101";
+
+/// A number of a row; rows have no other words.
+fn number(word: &str) -> Option<u64> {
+    word.parse::<u64>().ok()
+}
+
+/// One candidate more of a party, by its votes and a date of birth behind `@`, or its party votes behind `L`; false where the row is no
+/// such word. A candidate has the number of its party and its place in it, counted from 1, with three digits.
+fn add_word(party: &mut Contestant, word: &str) -> Result<bool, Memory> {
+    if let Some(votes) = word.strip_prefix("L") {
+        return Ok(match number(votes) {
+            Some(votes) => {
+                party.party_votes = votes;
+                true
+            }
+            None => false,
+        });
+    }
+    let (votes, birth) = word.split_once("@").unwrap_or((word, BIRTH));
+    let place = party.candidates.len();
+    match (number(votes), birth.parse::<u32>()) {
+        (Some(votes), Ok(birth)) if place < 999 => {
+            party.candidates.push(Entry {
+                number: u32::from(party.number) * 1000 + place + 1,
+                birth,
+                votes,
+            })?;
+            Ok(true)
+        }
+        _ => Ok(false),
+    }
+}
+
+/// The party of a piece of a row.
+fn party_of(alloc: Global, piece: &str) -> Result<Option<Contestant>, Memory> {
+    let Some((number, words)) = piece.split_once(": ") else {
+        return Ok(None);
+    };
+    let Ok(number) = number.parse::<u8>() else {
+        return Ok(None);
+    };
+    let mut party = Contestant {
+        number,
+        party_votes: 0,
+        candidates: Entries::new(alloc),
+    };
+    for word in words.split(' ') {
+        if !add_word(&mut party, word)? {
+            return Ok(None);
+        }
+    }
+    Ok(Some(party))
+}
+
+/// The contest of a row.
+fn contest_of(alloc: Global, row: &str) -> Result<Option<Contest>, Memory> {
+    let Some((seats, pieces)) = row.split_once(" seats, ") else {
+        return Ok(None);
+    };
+    let Ok(seats) = seats.parse::<u32>() else {
+        return Ok(None);
+    };
+    let mut parties = Contestants::new(alloc);
+    for piece in pieces.split(", ") {
+        let Some(party) = party_of(alloc, piece)? else {
+            return Ok(None);
+        };
+        if parties.len() >= 40 {
+            return Ok(None);
+        }
+        parties.push(party)?;
+    }
+    Ok(Some(Contest { seats, parties }))
+}
+
+/// What each party has: its number, its valid votes, its quotient and its seats.
+fn told_parties(alloc: Global, parties: &PartySeatList) -> Result<String, AllocError> {
+    let mut text = String::new(alloc);
+    for i in 0..parties.len() {
+        let PartySeats {
+            number,
+            votes,
+            quotient,
+            seats,
+        } = *parties.get(i);
+        write!(text, ", {number}: {votes} {quotient} {seats}")?;
+    }
+    Ok(text)
+}
+
+/// Each award, by the phase of its round and the party.
+fn told_awards(alloc: Global, awards: &Awards) -> Result<String, AllocError> {
+    let mut text = String::new(alloc);
+    for i in 0..awards.len() {
+        let Award { phase, party } = *awards.get(i);
+        write!(text, " {phase}>{party}")?;
+    }
+    Ok(text)
+}
+
+fn told_numbers(alloc: Global, numbers: &Numbers) -> Result<String, AllocError> {
+    let mut text = String::new(alloc);
+    for i in 0..numbers.len() {
+        let number = *numbers.get(i);
+        write!(text, " {number}")?;
+    }
+    Ok(text)
+}
+
+/// How the rows tell an outcome.
+fn told(alloc: Global, outcome: &Outcome) -> Result<String, AllocError> {
+    match outcome {
+        Outcome::NoQuotient { valid, seats } => format!(in alloc; "no quotient {valid} {seats}"),
+        Outcome::Over { first, seats } => format!(in alloc; "over {first} {seats}"),
+        Outcome::Seats(seats) => {
+            let quotient = seats.quotient;
+            let vacant = seats.vacant;
+            let parties = told_parties(alloc, &seats.parties)?;
+            let awards = told_awards(alloc, &seats.awards)?;
+            let elected = told_numbers(alloc, &seats.elected)?;
+            format!(in alloc;
+                "QE {quotient}{parties}, rounds{awards}, elected{elected}, vacant {vacant}"
+            )
+        }
+    }
+}
+
+/// Whether a contest comes to what a row tells.
+fn comes_to(alloc: Global, row: &str, outcome: &str) -> Result<bool, Memory> {
+    match contest_of(alloc, row)? {
+        Some(contest) if is_contest(&contest) => {
+            let comes = distribute(alloc, &contest)?;
+            Ok(told(alloc, &comes)?.as_str() == outcome)
+        }
+        _ => Ok(false),
+    }
+}
+
+/// The first row that comes to something else.
+fn wrong_contest(alloc: Global) -> Result<Option<&'static str>, Memory> {
+    for (name, row, outcome) in CONTESTS {
+        if !comes_to(alloc, row, outcome)? {
+            return Ok(Some(*name));
+        }
+    }
+    Ok(None)
+}
+
+#[test]
+fn each_contest_has_its_outcome(rt: HostRuntime) -> Result<(), Fail> {
+    assert_eq!(rt; CONTESTS.len(), 40);
+    assert_eq!(rt; wrong_contest(rt.alloc())?, None);
+    Ok(())
+}
