@@ -11,7 +11,7 @@ mod general;
 mod panels;
 
 use crate::status::Status;
-use crate::tests::{Given, Images, LOAD, ON, copied, left, loaded, run};
+use crate::tests::given::{Given, Images, LOAD, ON, copied, left, loaded, run};
 use clerk::{IDENTIFIED, IDLE, ONE_VOTED, READY, SEALED};
 use general::{GENERAL_LOAD, GENERAL_ON, GENERAL_PANELS, GENERAL_READY};
 use panels::{FIELDS, FIRST_PANEL, SECOND_PANEL};

@@ -3,7 +3,7 @@ ghost use Rattle.std.specs.Prelude.{◌≤◌, length};
 ghost use Rattle.urna_outside.specs.Recorder.{trail_of};
 
 use crate::status::Status;
-use crate::tests::{Given, Images, LOAD, ON, copied, left, loaded, run, run_failing, shut};
+use crate::tests::given::{Given, Images, LOAD, ON, copied, left, loaded, run, run_failing, shut};
 use std::process::Abort;
 use std::test::Fail;
 use urna_base::Memory;

@@ -1,5 +1,5 @@
 //! A general election, and transcripts of it.
-use crate::tests::{CARGA, Given, NO_KEYS};
+use crate::tests::given::{CARGA, Given, NO_KEYS};
 
 /// The five offices of a general election: numbers of four, five, three, two and two digits, and a name of 70 bytes.
 const GENERAL_ELECTION: &[u8] = br#"
