@@ -3,7 +3,7 @@ ghost use Rattle.std.specs.Prelude.{◌≤◌, length};
 ghost use Rattle.urna_outside.specs.Recorder.{trail_of};
 
 use crate::status::Status;
-use crate::tests::given::{Given, Images, LOAD, ON, copied, left, loaded, run, run_failing, shut};
+use crate::tests::given::{Given, Images, LOAD, ON, alone, copied, left, loaded, run, run_failing};
 use std::process::Abort;
 use std::test::Fail;
 use urna_base::Memory;
@@ -74,21 +74,6 @@ fn stopped(
         internal: m.stop(rt.alloc(), Dev::Internal, ops, tear)?,
         external: m.stop(rt.alloc(), Dev::External, ops, tear)?,
     })
-}
-
-/// Of these images the one alone: the other device has no open slot.
-fn alone(images: Images, dev: Dev) -> Images {
-    let Images { internal, external } = images;
-    match dev {
-        Dev::Internal => Images {
-            internal,
-            external: shut(external),
-        },
-        Dev::External => Images {
-            internal: shut(internal),
-            external,
-        },
-    }
 }
 
 /// What `vota` without keys shows over some images.

@@ -175,6 +175,21 @@ pub(crate) fn shut(mut image: Vec<u8>) -> Vec<u8> {
     image
 }
 
+/// Of these images the one alone: the other device has no open slot.
+pub(crate) fn alone(images: Images, dev: Dev) -> Images {
+    let Images { internal, external } = images;
+    match dev {
+        Dev::Internal => Images {
+            internal,
+            external: shut(external),
+        },
+        Dev::External => Images {
+            internal: shut(internal),
+            external,
+        },
+    }
+}
+
 /// A machine over two images, with room for some commits.
 fn machine(
     rt: &(impl Abort + AllocGlobal),
@@ -193,6 +208,16 @@ fn place(shelf: &mut Shelf, name: &str, bytes: Option<&[u8]>) -> Result<(), Memo
         shelf.place(name, bytes)?;
     }
     Ok(())
+}
+
+/// Whether a command of these words that ended so may have put a file. The files of results come behind all that `vota` does on the
+/// machine, and before the line of `emite`.
+fn may_have_put(words: &[&str], status: Status) -> bool {
+    match words.first().copied() {
+        Some("vota") => matches!(status, Status::Done | Status::Cabinet),
+        Some("emite") => matches!(status, Status::Done | Status::Cabinet | Status::Display),
+        _ => false,
+    }
 }
 
 /// The status of a command over these images, and the machine that it was run on.
@@ -229,6 +254,8 @@ pub(super) fn run_on(
     }
     let mut m = machine(rt, images, failing)?;
     let status = urna(alloc, &words, &mut m, shelf);
+    let has_put = shelf.get("o.bu").is_some() || shelf.get("o.rdv").is_some();
+    assert!(rt; may_have_put(given.words, status) || !has_put, "{status:?}");
     Ok((status, m))
 }
 

@@ -1,10 +1,10 @@
 //! Files of results, which `vota` and `emite` put.
 use super::confere::REPORT;
 use super::given::{
-    CARGA, Given, Images, LOAD, NO_KEYS, ON, Row, VISIT_SHOWN, VOTA, copied, left, loaded, run,
-    run_on, shelf_of,
+    CARGA, Given, Images, LOAD, NO_KEYS, ON, Row, VISIT_SHOWN, VOTA, alone, copied, left, loaded,
+    run, run_on, shelf_of,
 };
-use crate::status::Status;
+use crate::status::{Doc, Status};
 use std::process::Abort;
 use std::test::Fail;
 use urna_outside::{Dev, Shelf};
@@ -63,6 +63,68 @@ fn results_are_of_a_sealed_poll(rt: HostRuntime) -> Result<(), Fail> {
     let refused: Row = (EMITE, Status::NotSealed, 33, b"ERRO NAO LACRADA\n");
     for flashes in [ready, left(&rt, &m)?] {
         let shelf = emitted(&rt, refused, &flashes)?;
+        assert!(rt; shelf.get("o.bu").is_none());
+        assert!(rt; shelf.get("o.rdv").is_none());
+    }
+    Ok(())
+}
+
+/// Calls of `emite` with documents at fault, the tables first.
+const AT_FAULT: [Row; 5] = [
+    (
+        Given {
+            tables: Some(b"processo"),
+            ..EMITE
+        },
+        Status::TablesNotToml,
+        3,
+        b"ERRO TABELAS TOML\n",
+    ),
+    (
+        Given {
+            tables: None,
+            roll: None,
+            ..EMITE
+        },
+        Status::Missing(Doc::Tables),
+        12,
+        b"ERRO FALTA TABELAS\n",
+    ),
+    (
+        Given {
+            roll: Some(b"010000000001\n01000000002\n"),
+            ..EMITE
+        },
+        Status::RollLine(2),
+        3,
+        b"ERRO ROL LINHA 2\n",
+    ),
+    (
+        Given {
+            roll: Some(b""),
+            ..EMITE
+        },
+        Status::RollCount,
+        3,
+        b"ERRO ROL CONTAGEM\n",
+    ),
+    (
+        Given {
+            roll: None,
+            ..EMITE
+        },
+        Status::Missing(Doc::Roll),
+        12,
+        b"ERRO FALTA ROL\n",
+    ),
+];
+
+/// A sealed poll has no files of results where a document is at fault.
+#[test]
+fn results_are_of_documents_that_are_whole(rt: HostRuntime) -> Result<(), Fail> {
+    let flashes = sealed(&rt)?;
+    for row in AT_FAULT {
+        let shelf = emitted(&rt, row, &flashes)?;
         assert!(rt; shelf.get("o.bu").is_none());
         assert!(rt; shelf.get("o.rdv").is_none());
     }
@@ -138,6 +200,45 @@ fn a_session_whose_results_are_not_put_is_kept(rt: HostRuntime) -> Result<(), Fa
         let (again, _) = voted(&rt, NO_KEYS, sealed, Status::Done, b"URNA LACRADA 1\n")?;
         assert_eq!(rt; again.get("o.bu"), Some(ONE_VOTE_REPORT));
         assert_eq!(rt; again.get("o.rdv"), Some(ONE_VOTE_RECORD));
+    }
+    Ok(())
+}
+
+/// Two slots of one flash are torn: `emite` finds the poll and leaves them so, and `vota` heals them.
+#[test]
+fn results_of_a_poll_with_torn_slots(rt: HostRuntime) -> Result<(), Fail> {
+    let whole = sealed(&rt)?;
+    for dev in [Dev::Internal, Dev::External] {
+        let torn = alone(copied(&rt, &whole)?, dev);
+        let shelf = emitted(&rt, EMITTED, &torn)?;
+        assert_eq!(rt; shelf.get("o.bu"), Some(ONE_VOTE_REPORT));
+        assert_eq!(rt; shelf.get("o.rdv"), Some(ONE_VOTE_RECORD));
+        let (_, healed) = voted(&rt, NO_KEYS, torn, Status::Done, b"URNA LACRADA 1\n")?;
+        assert!(rt; healed.internal == whole.internal);
+        assert!(rt; healed.external == whole.external);
+    }
+    Ok(())
+}
+
+/// The documents, and a file with the name of the word OUT, are what they were.
+#[test]
+fn no_other_file_changes(rt: HostRuntime) -> Result<(), Fail> {
+    let emite = Given {
+        keys: VOTA.keys,
+        ..EMITE
+    };
+    let mut flashes = loaded(&rt, CARGA)?;
+    for given in [VOTA, emite] {
+        let mut shelf = shelf_of(&rt, given)?;
+        shelf.place("o", b"de outrem")?;
+        let (status, m) = run_on(&rt, given, &mut shelf, flashes, given.failing)?;
+        assert_eq!(rt; status, Status::Done);
+        assert!(rt; shelf.get("o.bu").is_some() && shelf.get("o.rdv").is_some());
+        assert_eq!(rt; shelf.get("t"), given.tables);
+        assert_eq!(rt; shelf.get("r"), given.roll);
+        assert_eq!(rt; shelf.get("k"), given.keys);
+        assert_eq!(rt; shelf.get("o"), Some(b"de outrem".as_slice()));
+        flashes = left(&rt, &m)?;
     }
     Ok(())
 }
