@@ -7,7 +7,7 @@ ghost use Rattle.urna_app.specs.Carga.{CargaEnds, loaded_line};
 ghost use Rattle.urna_app.specs.Taking.{status_in};
 
 use crate::command::CargaNames;
-use crate::documents::take_documents;
+use crate::documents::take_tables_and_roll;
 use crate::status::Status;
 use election_tables::{Roll, Section, Tables};
 use state_store::Store;
@@ -57,7 +57,7 @@ pub(crate) fn carga<M: Machine, C: Cabinet>(
     ensures { CargaEnds (record { tables = names.entry.tables.now; roll = names.entry.roll.now; zone = names.entry.zone; number = names.entry.number })
         (C.told cabinet.old) (C.told cabinet.new) (M.told machine.old) (M.told machine.new) (status_in result) }
 {
-    let (tables, roll) = take_documents(alloc, cabinet, names.tables, names.roll)?;
+    let (tables, roll) = take_tables_and_roll(alloc, cabinet, names.tables, names.roll)?;
     let Some(section) = asked_section(&tables, &roll, names.zone, names.number) else {
         return Err(Status::NoSection);
     };

@@ -3,9 +3,9 @@ ghost use Rattle.urna_app.specs.Confere.{ConfereEnds};
 ghost use Rattle.urna_app.specs.Taking.{status_in};
 
 use crate::command::ConfereNames;
-use crate::documents::take_report;
+use crate::documents::take_tables_and_report;
 use crate::status::Status;
-use crate::verdict::{accepted, verdict_line};
+use crate::verdict::{ended_by, verdict_line};
 use section_intake::check;
 use std::alloc::Global;
 use urna_outside::{Cabinet, Machine, show_line};
@@ -20,10 +20,10 @@ pub(crate) fn confere<M: Machine, C: Cabinet>(
     ensures { ConfereEnds (record { tables = names.entry.tables.now; report = names.entry.report.now })
         (C.told cabinet.old) (C.told cabinet.new) (M.told machine.old) (M.told machine.new) (status_in result) }
 {
-    let (tables, bytes) = take_report(alloc, cabinet, names.tables, names.report)?;
+    let (tables, bytes) = take_tables_and_report(alloc, cabinet, names.tables, names.report)?;
     let verdict = check(alloc, &tables, &bytes)?;
     match show_line(machine, verdict_line(verdict).as_bytes()) {
-        Ok(()) => accepted(verdict),
+        Ok(()) => ended_by(verdict),
         Err(_) => Err(Status::Display),
     }
 }

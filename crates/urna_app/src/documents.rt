@@ -65,7 +65,7 @@ fn take_roll<C: Cabinet>(alloc: Global, cabinet: &mut C, name: &str) -> Result<R
 }
 
 /// The tables and the roll of a command, in the order of its words.
-pub(crate) fn take_documents<C: Cabinet>(
+pub(crate) fn take_tables_and_roll<C: Cabinet>(
     alloc: Global,
     cabinet: &mut C,
     tables: &str,
@@ -96,7 +96,7 @@ pub(crate) fn take_keys<C: Cabinet>(
 }
 
 /// The tables of a command, and the bytes of a report.
-pub(crate) fn take_report<C: Cabinet>(
+pub(crate) fn take_tables_and_report<C: Cabinet>(
     alloc: Global,
     cabinet: &mut C,
     tables: &str,

@@ -6,7 +6,7 @@ ghost use Rattle.urna_app.specs.Emite.{EmiteEnds, emitted_line};
 ghost use Rattle.urna_app.specs.Taking.{status_in};
 
 use crate::command::EmiteNames;
-use crate::documents::take_documents;
+use crate::documents::take_tables_and_roll;
 use crate::results::{put_results, results_of};
 use crate::status::Status;
 use election_tables::Section;
@@ -42,7 +42,7 @@ pub(crate) fn emite<M: Machine, C: Cabinet>(
     ensures { EmiteEnds (record { tables = names.entry.tables.now; roll = names.entry.roll.now; out = names.entry.out.now })
         (C.told cabinet.old) (C.told cabinet.new) (M.told machine.old) (M.told machine.new) (status_in result) }
 {
-    let (tables, roll) = take_documents(alloc, cabinet, names.tables, names.roll)?;
+    let (tables, roll) = take_tables_and_roll(alloc, cabinet, names.tables, names.roll)?;
     let (section, state) = Store::peek(alloc, &tables, &roll, machine)?;
     let Phase::Sealed { opened, closed } = state.phase() else {
         return Err(Status::NotSealed);

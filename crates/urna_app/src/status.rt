@@ -35,7 +35,7 @@ pub enum Status {
     Line(u32),
     /// The file is longer than its limit.
     TooLong(Doc),
-    /// The verdict on the report is another than that it is accepted.
+    /// The verdict on the report isn't Accepted.
     ReportRefused(Verdict),
     /// The file isn't there.
     Missing(Doc),

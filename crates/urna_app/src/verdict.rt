@@ -21,7 +21,7 @@ pub(crate) fn verdict_line(verdict: Verdict) -> LineBuffer
 }
 
 /// How a command ends by a verdict: a report that is not accepted is refused.
-pub(crate) fn accepted(verdict: Verdict) -> Result<(), Status>
+pub(crate) fn ended_by(verdict: Verdict) -> Result<(), Status>
     ensures { status_in result ≡ verdict_status verdict }
 {
     match verdict {

@@ -7,7 +7,7 @@ ghost use Rattle.urna_app.specs.Taking.{status_in};
 ghost use Rattle.urna_app.specs.Vota.{HasVoted, VotaEnds};
 
 use crate::command::VotaNames;
-use crate::documents::{take_documents, take_keys};
+use crate::documents::{take_keys, take_tables_and_roll};
 use crate::results::deliver;
 use crate::status::Status;
 use election_tables::{Roll, Tables};
@@ -61,7 +61,7 @@ pub(crate) fn vota<M: Machine, C: Cabinet>(
     ensures { VotaEnds (record { tables = names.entry.tables.now; roll = names.entry.roll.now; keys = names.entry.keys.now; out = names.entry.out.now })
         (C.told cabinet.old) (C.told cabinet.new) (M.told machine.old) (M.told machine.new) (status_in result) }
 {
-    let (tables, roll) = take_documents(alloc, cabinet, names.tables, names.roll)?;
+    let (tables, roll) = take_tables_and_roll(alloc, cabinet, names.tables, names.roll)?;
     let script = take_keys(alloc, cabinet, names.keys)?;
     let station = hold(alloc, &tables, &roll, &script, machine)?;
     deliver(

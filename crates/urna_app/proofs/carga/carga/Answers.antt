@@ -17,7 +17,7 @@ pub returns-in_err-tables : goal.returns-in_err-tables
 returns-in_err-tables g c =
     let names : Carga = record { tables = c.args.names.tables.now; roll = c.args.names.roll.now; zone = c.args.names.zone; number = c.args.names.number } in
     let x = g.C.Cabinet.told c.args.cabinet.now in
-    let y = g.C.Cabinet.told c.take_documents.new.cabinet in
+    let y = g.C.Cabinet.told c.take_tables_and_roll.new.cabinet in
     let m = g.M.Machine.told c.args.machine.now in
     let s = c.in_err-tables.field-0.0 in
     subst (CargaEnds names x y m m) (sym (passed_on c.from_residual.result s c.from_residual.ensures.1 (λ e h. h)))
@@ -28,7 +28,7 @@ pub returns-in_default : goal.returns-in_default
 returns-in_default g c =
     let names : Carga = record { tables = c.args.names.tables.now; roll = c.args.names.roll.now; zone = c.args.names.zone; number = c.args.names.number } in
     let x = g.C.Cabinet.told c.args.cabinet.now in
-    let y = g.C.Cabinet.told c.take_documents.new.cabinet in
+    let y = g.C.Cabinet.told c.take_tables_and_roll.new.cabinet in
     let m = g.M.Machine.told c.args.machine.now in
     let taken : HasTaken 2 status.Done x y = c.in_ok-tables.ensures.taken in
     let given : IsGivenLoad x.files names c.in_ok-tables.tables c.in_ok-tables.roll = record { tables = c.in_ok-tables.ensures.tables; roll = c.in_ok-tables.ensures.roll } in
@@ -39,7 +39,7 @@ pub returns-in_err-_store : goal.returns-in_err-_store
 returns-in_err-_store g c =
     let names : Carga = record { tables = c.args.names.tables.now; roll = c.args.names.roll.now; zone = c.args.names.zone; number = c.args.names.number } in
     let x = g.C.Cabinet.told c.args.cabinet.now in
-    let y = g.C.Cabinet.told c.take_documents.new.cabinet in
+    let y = g.C.Cabinet.told c.take_tables_and_roll.new.cabinet in
     let m = g.M.Machine.told c.args.machine.now in
     let n = g.M.Machine.told c.format.new.m in
     let taken : HasTaken 2 status.Done x y = c.in_ok-tables.ensures.taken in
@@ -54,7 +54,7 @@ pub returns-in-Ok : goal.returns-in-Ok
 returns-in-Ok g c =
     let names : Carga = record { tables = c.args.names.tables.now; roll = c.args.names.roll.now; zone = c.args.names.zone; number = c.args.names.number } in
     let x = g.C.Cabinet.told c.args.cabinet.now in
-    let y = g.C.Cabinet.told c.take_documents.new.cabinet in
+    let y = g.C.Cabinet.told c.take_tables_and_roll.new.cabinet in
     let m = g.M.Machine.told c.args.machine.now in
     let b = g.M.Machine.told c.format.new.m in
     let n = g.M.Machine.told c.show_line.new.machine in
@@ -77,7 +77,7 @@ pub returns : goal.returns
 returns g c =
     let names : Carga = record { tables = c.args.names.tables.now; roll = c.args.names.roll.now; zone = c.args.names.zone; number = c.args.names.number } in
     let x = g.C.Cabinet.told c.args.cabinet.now in
-    let y = g.C.Cabinet.told c.take_documents.new.cabinet in
+    let y = g.C.Cabinet.told c.take_tables_and_roll.new.cabinet in
     let m = g.M.Machine.told c.args.machine.now in
     let b = g.M.Machine.told c.format.new.m in
     let n = g.M.Machine.told c.show_line.new.machine in

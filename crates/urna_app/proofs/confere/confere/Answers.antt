@@ -14,7 +14,7 @@ pub returns-in_err-tables : goal.returns-in_err-tables
 returns-in_err-tables g c =
     let names : Confere = record { tables = c.args.names.tables.now; report = c.args.names.report.now } in
     let x = g.C.Cabinet.told c.args.cabinet.now in
-    let y = g.C.Cabinet.told c.take_report.new.cabinet in
+    let y = g.C.Cabinet.told c.take_tables_and_report.new.cabinet in
     let m = g.M.Machine.told c.args.machine.now in
     let s = c.in_err-tables.field-0.0 in
     subst (ConfereEnds names x y m m) (sym (passed_on c.from_residual.result s c.from_residual.ensures.1 (λ e h. h)))
@@ -24,7 +24,7 @@ pub returns-in_err-verdict : goal.returns-in_err-verdict
 returns-in_err-verdict g c =
     let names : Confere = record { tables = c.args.names.tables.now; report = c.args.names.report.now } in
     let x = g.C.Cabinet.told c.args.cabinet.now in
-    let y = g.C.Cabinet.told c.take_report.new.cabinet in
+    let y = g.C.Cabinet.told c.take_tables_and_report.new.cabinet in
     let m = g.M.Machine.told c.args.machine.now in
     let taken : HasTaken 2 status.Done x y = c.in_ok-tables.ensures.taken in
     subst (ConfereEnds names x y m m) (sym (passed_on c.from_residual-in_err-verdict.result status.Memory c.from_residual-in_err-verdict.ensures.1 (λ s h. h)))
@@ -34,7 +34,7 @@ pub returns-in-Ok : goal.returns-in-Ok
 returns-in-Ok g c =
     let names : Confere = record { tables = c.args.names.tables.now; report = c.args.names.report.now } in
     let x = g.C.Cabinet.told c.args.cabinet.now in
-    let y = g.C.Cabinet.told c.take_report.new.cabinet in
+    let y = g.C.Cabinet.told c.take_tables_and_report.new.cabinet in
     let m = g.M.Machine.told c.args.machine.now in
     let n = g.M.Machine.told c.show_line.new.machine in
     let t = c.in_ok-tables.tables in
@@ -48,7 +48,7 @@ returns-in-Ok g c =
       report = c.in_ok-tables.ensures.report;
       verdict = subst (λ (b : List ℕ). IsVerdict t b v) c.deref.ensures.value c.in_ok-verdict.ensures.verdict;
     } in
-    subst (ConfereEnds names x y m n) (sym c.accepted.ensures)
+    subst (ConfereEnds names x y m n) (sym c.ended_by.ensures)
     (checked given (taken_as 2 (verdict_status v) x y (counts_verdict v x.tally y.tally) taken)
     (subst (λ (bytes : List ℕ). HasShown (bytes ∷ []) m n) (c.as_bytes.ensures.bytes ∙ c.verdict_line.ensures) c.in-Ok.ensures))
 
@@ -56,7 +56,7 @@ pub returns : goal.returns
 returns g c =
     let names : Confere = record { tables = c.args.names.tables.now; report = c.args.names.report.now } in
     let x = g.C.Cabinet.told c.args.cabinet.now in
-    let y = g.C.Cabinet.told c.take_report.new.cabinet in
+    let y = g.C.Cabinet.told c.take_tables_and_report.new.cabinet in
     let m = g.M.Machine.told c.args.machine.now in
     let n = g.M.Machine.told c.show_line.new.machine in
     let t = c.in_ok-tables.tables in

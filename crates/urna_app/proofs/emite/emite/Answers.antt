@@ -15,7 +15,7 @@ pub returns-in_err-tables : goal.returns-in_err-tables
 returns-in_err-tables g c =
     let names : Emite = record { tables = c.args.names.tables.now; roll = c.args.names.roll.now; out = c.args.names.out.now } in
     let x = g.C.Cabinet.told c.args.cabinet.now in
-    let y = g.C.Cabinet.told c.take_documents.new.cabinet in
+    let y = g.C.Cabinet.told c.take_tables_and_roll.new.cabinet in
     let m = g.M.Machine.told c.args.machine.now in
     let s = c.in_err-tables.field-0.0 in
     subst (EmiteEnds names x y m m) (sym (passed_on c.from_residual.result s c.from_residual.ensures.1 (λ e h. h)))
@@ -25,7 +25,7 @@ pub returns-in_err-section : goal.returns-in_err-section
 returns-in_err-section g c =
     let names : Emite = record { tables = c.args.names.tables.now; roll = c.args.names.roll.now; out = c.args.names.out.now } in
     let x = g.C.Cabinet.told c.args.cabinet.now in
-    let y = g.C.Cabinet.told c.take_documents.new.cabinet in
+    let y = g.C.Cabinet.told c.take_tables_and_roll.new.cabinet in
     let m = g.M.Machine.told c.args.machine.now in
     let n = g.M.Machine.told c.peek.new.m in
     let t = c.in_ok-tables.tables in
@@ -41,7 +41,7 @@ pub returns-in_default : goal.returns-in_default
 returns-in_default g c =
     let names : Emite = record { tables = c.args.names.tables.now; roll = c.args.names.roll.now; out = c.args.names.out.now } in
     let x = g.C.Cabinet.told c.args.cabinet.now in
-    let y = g.C.Cabinet.told c.take_documents.new.cabinet in
+    let y = g.C.Cabinet.told c.take_tables_and_roll.new.cabinet in
     let m = g.M.Machine.told c.args.machine.now in
     let n = g.M.Machine.told c.peek.new.m in
     let t = c.in_ok-tables.tables in
@@ -58,7 +58,7 @@ pub returns-in_err-results : goal.returns-in_err-results
 returns-in_err-results g c =
     let names : Emite = record { tables = c.args.names.tables.now; roll = c.args.names.roll.now; out = c.args.names.out.now } in
     let x = g.C.Cabinet.told c.args.cabinet.now in
-    let y = g.C.Cabinet.told c.take_documents.new.cabinet in
+    let y = g.C.Cabinet.told c.take_tables_and_roll.new.cabinet in
     let m = g.M.Machine.told c.args.machine.now in
     let n = g.M.Machine.told c.peek.new.m in
     let t = c.in_ok-tables.tables in
@@ -77,7 +77,7 @@ pub returns-in_err-put_results : goal.returns-in_err-put_results
 returns-in_err-put_results g c =
     let names : Emite = record { tables = c.args.names.tables.now; roll = c.args.names.roll.now; out = c.args.names.out.now } in
     let x = g.C.Cabinet.told c.args.cabinet.now in
-    let y = g.C.Cabinet.told c.take_documents.new.cabinet in
+    let y = g.C.Cabinet.told c.take_tables_and_roll.new.cabinet in
     let m = g.M.Machine.told c.args.machine.now in
     let n = g.M.Machine.told c.peek.new.m in
     let t = c.in_ok-tables.tables in
@@ -99,7 +99,7 @@ pub returns-in-Ok : goal.returns-in-Ok
 returns-in-Ok g c =
     let names : Emite = record { tables = c.args.names.tables.now; roll = c.args.names.roll.now; out = c.args.names.out.now } in
     let x = g.C.Cabinet.told c.args.cabinet.now in
-    let y = g.C.Cabinet.told c.take_documents.new.cabinet in
+    let y = g.C.Cabinet.told c.take_tables_and_roll.new.cabinet in
     let m = g.M.Machine.told c.args.machine.now in
     let n = g.M.Machine.told c.peek.new.m in
     let t = c.in_ok-tables.tables in
@@ -120,7 +120,7 @@ pub returns : goal.returns
 returns g c =
     let names : Emite = record { tables = c.args.names.tables.now; roll = c.args.names.roll.now; out = c.args.names.out.now } in
     let x = g.C.Cabinet.told c.args.cabinet.now in
-    let y = g.C.Cabinet.told c.take_documents.new.cabinet in
+    let y = g.C.Cabinet.told c.take_tables_and_roll.new.cabinet in
     let m = g.M.Machine.told c.args.machine.now in
     let n = g.M.Machine.told c.peek.new.m in
     let t = c.in_ok-tables.tables in

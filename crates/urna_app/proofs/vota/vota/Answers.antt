@@ -21,7 +21,7 @@ pub returns-in_err-tables : goal.returns-in_err-tables
 returns-in_err-tables g c =
     let names : Vota = record { tables = c.args.names.tables.now; roll = c.args.names.roll.now; keys = c.args.names.keys.now; out = c.args.names.out.now } in
     let x = g.C.Cabinet.told c.args.cabinet.now in
-    let y = g.C.Cabinet.told c.take_documents.new.cabinet in
+    let y = g.C.Cabinet.told c.take_tables_and_roll.new.cabinet in
     let m = g.M.Machine.told c.args.machine.now in
     let s = c.in_err-tables.field-0.0 in
     subst (VotaEnds names x y m m) (sym (passed_on c.from_residual.result s c.from_residual.ensures.1 (λ e h. h)))
@@ -32,7 +32,7 @@ pub returns-in_err-script : goal.returns-in_err-script
 returns-in_err-script g c =
     let names : Vota = record { tables = c.args.names.tables.now; roll = c.args.names.roll.now; keys = c.args.names.keys.now; out = c.args.names.out.now } in
     let x = g.C.Cabinet.told c.args.cabinet.now in
-    let y = g.C.Cabinet.told c.take_documents.new.cabinet in
+    let y = g.C.Cabinet.told c.take_tables_and_roll.new.cabinet in
     let z = g.C.Cabinet.told c.take_keys.new.cabinet in
     let m = g.M.Machine.told c.args.machine.now in
     let s = c.in_err-script.field-0.0 in
@@ -47,7 +47,7 @@ pub returns-in_err-station : goal.returns-in_err-station
 returns-in_err-station g c =
     let names : Vota = record { tables = c.args.names.tables.now; roll = c.args.names.roll.now; keys = c.args.names.keys.now; out = c.args.names.out.now } in
     let x = g.C.Cabinet.told c.args.cabinet.now in
-    let y = g.C.Cabinet.told c.take_documents.new.cabinet in
+    let y = g.C.Cabinet.told c.take_tables_and_roll.new.cabinet in
     let z = g.C.Cabinet.told c.take_keys.new.cabinet in
     let m = g.M.Machine.told c.args.machine.now in
     let n = g.M.Machine.told c.hold.new.machine in
@@ -65,7 +65,7 @@ pub returns : goal.returns
 returns g c =
     let names : Vota = record { tables = c.args.names.tables.now; roll = c.args.names.roll.now; keys = c.args.names.keys.now; out = c.args.names.out.now } in
     let x = g.C.Cabinet.told c.args.cabinet.now in
-    let y = g.C.Cabinet.told c.take_documents.new.cabinet in
+    let y = g.C.Cabinet.told c.take_tables_and_roll.new.cabinet in
     let z = g.C.Cabinet.told c.take_keys.new.cabinet in
     let w = g.C.Cabinet.told c.deliver.new.cabinet in
     let t = c.in_ok-tables.tables in

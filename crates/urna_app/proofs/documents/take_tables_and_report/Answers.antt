@@ -6,7 +6,7 @@ use Rattle.urna_app.specs.Taking.{HasTaken}
 use Rattle.urna_app.specs.declared.status.Doc.TheVariants as doc
 use Rattle.urna_app.specs.declared.status.Status.TheVariants as status
 use Rattle.urna_app.proofs.Calls.{taken_more}
-use Rattle.urna_app.proofs.documents.take_report.Goals as goal
+use Rattle.urna_app.proofs.documents.take_tables_and_report.Goals as goal
 
 pub returns-in_err-tables-clause-fault : goal.returns-in_err-tables-clause-fault
 returns-in_err-tables-clause-fault g c =
