@@ -1,8 +1,8 @@
 -- The keys of candidates, parties and sections: how they compare, in the document and in the tables.
-use Rattle.std.proofs.Common.{◌≡◌, ℕ, ℤ, pos, true, false, not, ◌&&◌, ◌==◌, List, [], ◌∷◌, map, Ordering, Less, Equal, Greater, nat_cmp, refl, ap, sym, ◌∙◌, subst, inl, inr, arith}
+use Rattle.std.proofs.Common.{◌≡◌, ℕ, ℤ, pos, true, false, not, ◌&&◌, ◌==◌, List, [], ◌∷◌, map, nat_cmp, refl, ap, sym, ◌∙◌, subst, inl, inr, arith}
 use Rattle.std.specs.Cmp.{IsTotalOrder}
 use Rattle.std.specs.List.{list_any}
-use Rattle.std.specs.Ordering.{is_eq, eq_by_cmp, int_eq, ordering_then}
+use Rattle.std.specs.Ordering.{eq_by_cmp, int_eq}
 use Rattle.std.proofs.lemmas.Bool.Decides.{nat_tests}
 use Rattle.std.proofs.lemmas.Bool.{and_parts, and_from, or_parts, or_from, cases_Bool, not-true, not_from_false}
 use Rattle.std.proofs.lemmas.Cmp.{nat_cmp_total, on_total, then_total, int_eq_equiv, on_equiv, and_equiv}

@@ -1,7 +1,8 @@
 -- Lists that rise strictly by a key: how a sort makes them, and what a binary search finds in them.
-use Rattle.std.proofs.Common.{◌≡◌, ℕ, suc, ◌+◌, ◌<◌, Bool, true, false, List, [], ◌∷◌, length, map, get_or, slice_get, Some, None, Ordering, Less, Equal, Greater, IsPermutation, refl, ap, sym, ◌∙◌, subst, inl, inr, arith}
+use Rattle.std.proofs.Common.{◌≡◌, ℕ, suc, ◌+◌, ◌<◌, Bool, true, false, List, [], ◌∷◌, length, map, get_or, slice_get, Some, None, ◌≤◌, Ordering, Less, Equal, Greater, IsPermutation, refl, ap, sym, ◌∙◌, subst, inl, inr, arith}
 use Rattle.std.specs.Cmp.{IsTotalOrder}
-use Rattle.std.specs.List.{All, HoldsAt, find, list_any, position_or_len}
+use Rattle.std.specs.Prelude.{nat_lt}
+use Rattle.std.specs.List.{All, HoldsAt, find, list_any, position, position_or_len}
 use Rattle.std.specs.List.Sorted.{IsSortedByKey, IsStrictlySortedBy, IsPartitionPoint}
 use Rattle.std.specs.Ordering.{is_eq, is_lt, eq_by_cmp, ordering_reverse}
 use Rattle.std.proofs.lemmas.Bool.{cases_Bool, cases_lt}
@@ -12,7 +13,8 @@ use Rattle.std.proofs.lemmas.List.Sorted.{IsPermutation-map}
 use Rattle.std.proofs.lemmas.List.Sums.{position_or_len_is}
 use Rattle.std.proofs.lemmas.Map.Keys.{apart_from_distinct, sorted_from_all_adjacent, Less-from_sorted}
 use Rattle.std.proofs.lemmas.Map.Lookups.{CmpEqualImpliesEq}
-use Rattle.std.proofs.lemmas.Option.{slice_get-get_or}
+use Rattle.std.proofs.lemmas.Bool.Decides.{nat_tests}
+use Rattle.std.proofs.lemmas.Option.{slice_get-get_or, slice_get_cases, slice_get_past}
 use Rattle.election_tables.specs.Rules.{are_distinct}
 use Rattle.election_tables.proofs.Distinct.{IsDistinct-from_test, are_distinct-IsPermutation, below}
 
@@ -60,11 +62,11 @@ distinct_keys same flips entry_key entry key R tests entries xs moved distinct =
 
 -- ---- a search
 
--- what stands at the key is the one that a search from the front finds
-pub found : {X K : Type 0} {R : K → K → Ordering} (exact : CmpEqualImpliesEq R) (key : X → K) (q : K) (p : X → Bool)
+-- the place where the key stands is the one that a search from the front finds
+found_place : {X K : Type 0} {R : K → K → Ordering} (exact : CmpEqualImpliesEq R) (key : X → K) (q : K) (p : X → Bool)
     → ((x : X) → p x ≡ eq_by_cmp R (key x) q) → (xs : List X) → IsStrictlySortedBy R (map key xs) → (i : ℕ) (x : X) → i < length xs
-    → HoldsAt (λ y. R (key y) q ≡ Equal) xs i → x ≡ get_or xs i x → find p xs ≡ Some x
-found {X} {K} {R} exact key q p tests xs rise i x within at here =
+    → HoldsAt (λ y. R (key y) q ≡ Equal) xs i → position_or_len p xs ≡ i
+found_place {X} {K} {R} exact key q p tests xs rise i x within at =
     let tied : R (key (get_or xs i x)) q ≡ Equal = at x in
     let same : key (get_or xs i x) ≡ q = exact _ _ tied in
     let same_length : length (map key xs) ≡ length xs = length-map xs key in
@@ -75,8 +77,25 @@ found {X} {K} {R} exact key q p tests xs rise i x within at here =
     let second : get_or (map key xs) i (key x) ≡ key (get_or xs i x) = get_or-map key xs i x (key x) within in
     let lower : R (key (get_or xs k x)) q ≡ Less = rw (first, second, same) at less in
     tests (get_or xs k x) ∙ ap is_eq lower) in
-    let place : position_or_len p xs ≡ i = position_or_len_is p xs i x (omega arith) before (λ _. tests (get_or xs i x) ∙ ap is_eq tied) in
-    find_at p xs ∙ ap (slice_get xs) place ∙ slice_get-get_or xs i x within ∙ ap Some (sym here)
+    position_or_len_is p xs i x (omega arith) before (λ _. tests (get_or xs i x) ∙ ap is_eq tied)
+
+pub found_at : {X K : Type 0} {R : K → K → Ordering} (exact : CmpEqualImpliesEq R) (key : X → K) (q : K) (p : X → Bool)
+    → ((x : X) → p x ≡ eq_by_cmp R (key x) q) → (xs : List X) → IsStrictlySortedBy R (map key xs) → (i : ℕ) → i < length xs
+    → HoldsAt (λ y. R (key y) q ≡ Equal) xs i → position p xs ≡ Some i
+found_at {X} exact key q p tests xs rise i within at = elim ((slice_get_cases xs i).1) [
+  | inl there ↦
+      let place : position_or_len p xs ≡ i = found_place exact key q p tests xs rise i there.0 within at in
+      let lt : nat_lt i (length xs) ≡ true = grind (arith, nat_tests) in
+      rw (place, lt) refl
+  | inr past ↦ absurd (let gone = past.0 in omega arith)
+]
+
+-- and what stands there is what it finds
+pub found : {X K : Type 0} {R : K → K → Ordering} (exact : CmpEqualImpliesEq R) (key : X → K) (q : K) (p : X → Bool)
+    → ((x : X) → p x ≡ eq_by_cmp R (key x) q) → (xs : List X) → IsStrictlySortedBy R (map key xs) → (i : ℕ) (x : X) → i < length xs
+    → HoldsAt (λ y. R (key y) q ≡ Equal) xs i → x ≡ get_or xs i x → find p xs ≡ Some x
+found exact key q p tests xs rise i x within at here =
+    find_at p xs ∙ ap (slice_get xs) (found_place exact key q p tests xs rise i x within at) ∙ slice_get-get_or xs i x within ∙ ap Some (sym here)
 
 -- where the key stands nowhere a search from the front finds nothing
 nowhere : {X : Type 0} (p : X → Bool) (xs : List X) → ((k : ℕ) (d : X) → k < length xs → p (get_or xs k d) ≡ false) → find p xs ≡ None
@@ -93,6 +112,36 @@ missing R key q p tests xs i parts =
       | inl before ↦ tests (get_or xs k d) ∙ ap is_eq (parts.0 k d (omega arith) before)
       | inr after ↦ tests (get_or xs k d) ∙ ap is_eq (parts.1 k d after h)
     ])
+
+pub missing_at : {X : Type 0} (p : X → Bool) (xs : List X) → find p xs ≡ None → position p xs ≡ None
+missing_at p xs none = elim (cases_Bool (nat_lt (position_or_len p xs) (length xs))) [
+  | inl within ↦ absurd (let e = sym (sym (find_at p xs) ∙ none) in there xs (position_or_len p xs) within e)
+  | inr past ↦ rw past refl
+]
+  where
+    there : {X : Type 0} (xs : List X) (i : ℕ) → nat_lt i (length xs) ≡ true → None ≡ slice_get xs i → ⊥
+    there xs i within e = elim ((slice_get_cases xs i).1) [
+      | inl some ↦ let both = e ∙ some.2 in cc
+      | inr past ↦ let gone = past.0 in let lt : i < length xs = grind (arith, nat_tests) in omega arith
+    ]
+
+-- what a search finds stands at the place that it finds
+pub at_place : {X : Type 0} (p : X → Bool) (xs : List X) (i : ℕ) → position p xs ≡ Some i → (i < length xs) × (find p xs ≡ slice_get xs i)
+at_place p xs i e = elim (cases_Bool (nat_lt (position_or_len p xs) (length xs))) [
+  | inl within ↦
+      let same : position_or_len p xs ≡ i = (let some : Some (position_or_len p xs) ≡ Some i = rw within at e in cc) in
+      let lt : position_or_len p xs < length xs = grind (arith, nat_tests) in
+      (omega arith, find_at p xs ∙ ap (slice_get xs) same)
+  | inr past ↦ absurd (let none : None ≡ Some i = rw past at e in cc)
+]
+
+pub no_place : {X : Type 0} (p : X → Bool) (xs : List X) → position p xs ≡ None → find p xs ≡ None
+no_place p xs e = elim (cases_Bool (nat_lt (position_or_len p xs) (length xs))) [
+  | inl within ↦ absurd (let some : Some (position_or_len p xs) ≡ None = rw within at e in cc)
+  | inr past ↦
+      let gone : length xs ≤ position_or_len p xs = grind (arith, nat_tests) in
+      find_at p xs ∙ slice_get_past xs (position_or_len p xs) gone
+]
 
 -- what is so of each element is so of the one that is found
 pub find_all : {X : Type 0} (P : X → Type 0) (p : X → Bool) (xs : List X) (x : X) → All P xs → find p xs ≡ Some x → P x

@@ -1,6 +1,6 @@
 -- What contracts see of the tables, and what is so of all tables that were read.
 use Rattle.std.specs.Prelude.{◌≡◌, ◌≢◌, ℕ, ◌≤◌, List, [], length, map, slice_get, slice_index, Option, Some, option_map, IsTrue, ◌==◌, ◌&&◌}
-use Rattle.std.specs.List.{All, AllPairs, find, list_any, sum_by}
+use Rattle.std.specs.List.{All, AllPairs, find, list_any, position, sum_by}
 use Rattle.std.specs.List.Sorted.{IsStrictlyIncreasing, IsStrictlySortedBy}
 use Rattle.std.specs.Option.{option_map_or}
 use Rattle.std.specs.Ordering.{nat_cmp, ordering_then}
@@ -58,6 +58,10 @@ party_name number parties = option_map (λ q. q.name) (find (λ q. q.number == n
 -- the section of a zone and number
 abbrev pub section_with : ℕ → ℕ → List Section → Option Section
 section_with zone number sections = find (λ s. (s.zone == zone) && (s.number == number)) sections
+
+-- the place where it stands
+abbrev pub place_with : ℕ → ℕ → List Section → Option ℕ
+place_with zone number sections = position (λ s. (s.zone == zone) && (s.number == number)) sections
 
 -- ---- order
 

@@ -7,7 +7,7 @@ ghost use Rattle.election_tables.specs.Limits.{longest_name, most_candidates, mo
 ghost use Rattle.election_tables.specs.Rules.{broken_rule, first_broken, typed_rules};
 ghost use Rattle.election_tables.specs.Tables.{AreTablesOf, BreaksFirst, IsNoDocument, IsReadAs, KeepsRules};
 ghost use Rattle.election_tables.specs.Verdict.{IsAnswerFor};
-ghost use Rattle.election_tables.specs.TablesData.{TablesData, IsOffice, IsTables, candidate_name, candidates_at, party_name, places_at, section_with, without_name};
+ghost use Rattle.election_tables.specs.TablesData.{TablesData, IsOffice, IsTables, candidate_name, candidates_at, party_name, place_with, places_at, section_with, without_name};
 
 mod candidates;
 mod panels;
@@ -273,6 +273,19 @@ impl Tables {
         ensures voters { IfSome result (λ s. (1 ≤ s.voters) × (s.voters ≤ most_voters)) }
     {
         self.sections.with(zone, number)
+    }
+
+    /// The place of the section of a zone and number, where `section` tells it; `None` exactly where the tables have no such
+    /// section.
+    pub fn section_place(&self, zone: u32, number: u32) -> Option<u32>
+        ensures place { result ≡ place_with zone number self.now.sections }
+        ensures within { IfSome result (λ i. i < length self.now.sections) }
+        ensures tables { IsTables self.now }
+    {
+        match self.sections.place_of(zone, number) {
+            Some(i) => Some(i as u32),
+            None => None,
+        }
     }
 
     /// The number of the election.

@@ -54,6 +54,9 @@ fn wrong_list(tables: &Tables) -> Option<&'static str> {
     if tables.find_section(1, 2) != None || tables.find_section(42, 1) != None {
         return Some("a section that isn't there");
     }
+    if tables.section_place(2, 1) != Some(1) || tables.section_place(1, 2) != None {
+        return Some("the place of a section");
+    }
     None
 }
 

@@ -1,9 +1,9 @@
 //! The sections, rising by zone, then by number.
-ghost use Rattle.std.specs.Prelude.{◌≡◌, ◌<◌, true, Some, length, map, slice_get, IfOk, IsPermutation};
+ghost use Rattle.std.specs.Prelude.{◌≡◌, ◌<◌, true, Some, length, map, slice_get, IfOk, IfSome, IsPermutation};
 ghost use Rattle.std.specs.List.{list_all};
 ghost use Rattle.election_tables.specs.Rules.{section_in_range, are_distinct, same_pair};
 ghost use Rattle.election_tables.specs.Tables.{entry_of_section};
-ghost use Rattle.election_tables.specs.TablesData.{SectionsRise, section_with};
+ghost use Rattle.election_tables.specs.TablesData.{SectionsRise, place_with, section_with};
 
 use super::to_u32;
 use crate::document::SectionEntry;
@@ -87,16 +87,27 @@ impl Sections {
         self.items[i]
     }
 
-    /// The section of a zone and number, by binary search.
-    pub(crate) fn with(&self, zone: u32, number: u32) -> Option<Section>
-        ensures { result ≡ section_with zone number self.now }
+    /// The place of the section of a zone and number, by binary search.
+    pub(crate) fn place_of(&self, zone: u32, number: u32) -> Option<usize>
+        ensures place { result ≡ place_with zone number self.now }
+        ensures within { IfSome result (λ i. i < length self.now) }
     {
         match self
             .items
             .binary_search_by_key(&(zone, number), |s| (s.zone, s.number))
         {
-            Ok(i) => Some(self.items[i]),
+            Ok(i) => Some(i),
             Err(_) => None,
+        }
+    }
+
+    /// The section of a zone and number.
+    pub(crate) fn with(&self, zone: u32, number: u32) -> Option<Section>
+        ensures { result ≡ section_with zone number self.now }
+    {
+        match self.place_of(zone, number) {
+            Some(i) => Some(self.items[i]),
+            None => None,
         }
     }
 }
