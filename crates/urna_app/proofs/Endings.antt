@@ -1,7 +1,9 @@
 -- How a command ends, by the answer of its steps
-use Rattle.std.proofs.Common.{◌≡◌, ◌≢◌, ◌⊎◌, inl, inr, List, Option, Result, Ok, Err, refl, sym, subst}
+use Rattle.std.proofs.Common.{◌≡◌, ◌≢◌, ◌⊎◌, inl, inr, ℕ, List, Option, Result, Ok, Err, refl, sym, subst}
+use Rattle.std.specs.Prelude.{IfErr}
 use Rattle.std.specs.Result.{IsErrAnd}
 use Rattle.urna_outside.specs.Cabinet.{CabinetTold, Files, Tally}
+use Rattle.urna_outside.specs.ShownLines.{HasShown, IsCutOff, Shows}
 use Rattle.urna_outside.specs.Told.{Told}
 use Rattle.urna_outside.specs.declared.device.Dev.TheVariants as dev
 use Rattle.urna_outside.specs.declared.device.Port.{Port}
@@ -41,6 +43,12 @@ use Rattle.urna_app.proofs.Calls.{taken_as}
 pub passed_on : {T : Type 0} {P : Status → Type 0} (r : Result T Status) (s : Status) → IsErrAnd r P → ((e : Status) → P e → e ≡ s) → status_in r ≡ s
 passed_on (Ok x) s h f = absurd h
 passed_on (Err e) s h f = f e h
+
+-- a line that tells the end of a command ends it
+pub told : {T : Type 0} (Ends : Status → Type 0) (lines : List (List ℕ)) (r : Result T Status) (old new : Told) → Shows r lines old new
+    → IfErr r (λ s. s ≡ status.Display) → (HasShown lines old new → Ends status.Done) → (IsCutOff lines old new → Ends status.Display) → Ends (status_in r)
+told Ends lines (Ok x) old new shown fails whole part = whole shown
+told Ends lines (Err s) old new shown fails whole part = subst Ends (sym fails) (part shown)
 
 -- nothing was done between a moment and itself
 pub untouched : (m : Told) → IsUntouched m m

@@ -19,8 +19,8 @@ use Rattle.state_store.specs.Laws.{AreWhole}
 use Rattle.state_store.specs.declared.store.LoadError.{LoadError}
 use Rattle.state_store.specs.declared.store.LoadError.TheVariants as load
 use Rattle.state_store.proofs.Loaded.{rest_found, rest_whole}
-use Rattle.urna_app.specs.Carga.{CargaEnds, HasLoaded, IsSectionAsked, IsGivenLoad, load_no_cabinet, load_no_memory, load_refused, loaded, loaded_line, no_section, not_loaded, not_told}
-use Rattle.urna_app.specs.Documents.{IsFirstFault}
+use Rattle.urna_app.specs.Carga.{CargaEnds, HasLoaded, IsSectionAsked, load_no_cabinet, load_no_memory, load_refused, loaded, loaded_line, no_section, not_loaded, not_told}
+use Rattle.urna_app.specs.Documents.{HasDocuments, IsFirstFault}
 use Rattle.urna_app.specs.Command.{Carga, ToLoad, command_of}
 use Rattle.urna_app.specs.Ending.{CommandEnds, carga, confere, emite, vota}
 use Rattle.urna_app.specs.Errors.{load_status}
@@ -28,9 +28,9 @@ use Rattle.urna_app.specs.Headline.{LoadBeginsDay}
 use Rattle.urna_app.specs.declared.status.Doc.TheVariants as doc
 use Rattle.urna_app.specs.declared.status.Status.{Status}
 use Rattle.urna_app.specs.declared.status.Status.TheVariants as status
-use Rattle.urna_app.proofs.Once.{refused_or_given_load, same_roll, same_tables}
+use Rattle.urna_app.proofs.Once.{refused_or_documents, same_roll, same_tables}
 
-load_given_once : (files : Files) (names : Carga) (t u : TablesData) (r q : RollData) → IsGivenLoad (Some files) names t r → IsGivenLoad (Some files) names u q → (t ≡ u) × (r ≡ q)
+load_given_once : (files : Files) (names : Carga) (t u : TablesData) (r q : RollData) → HasDocuments (Some files) names.tables names.roll t r → HasDocuments (Some files) names.tables names.roll u q → (t ≡ u) × (r ≡ q)
 load_given_once files names t u r q a b =
     (same_tables files names.tables t u a.tables b.tables, same_roll files names.roll r q a.roll b.roll)
 
@@ -40,7 +40,7 @@ error_not_done (load.Flash dev.Internal) is = absurd (cc)
 error_not_done (load.Flash dev.External) is = absurd (cc)
 error_not_done (load.Busy d) is = absurd (cc)
 
-module _ (files : Files) (names : Carga) (c d : CabinetTold) (told : c.files ≡ Some files) (t : TablesData) (r : RollData) (given : IsGivenLoad (Some files) names t r) (m b : Told)
+module _ (files : Files) (names : Carga) (c d : CabinetTold) (told : c.files ≡ Some files) (t : TablesData) (r : RollData) (given : HasDocuments (Some files) names.tables names.roll t r) (m b : Told)
     (start : Flashes) (flashes : b.flashes ≡ Some start) where
   abbrev Begins : Type 0
   Begins = (section : Section) × IsSectionAsked names t r section × AreWhole start × AreFound t r section (ready_state t (length r.titles)) start
@@ -58,14 +58,14 @@ module _ (files : Files) (names : Carga) (c d : CabinetTold) (told : c.files ≡
 
   carga_begins : (answer : Status) → answer ≡ status.Done → CargaEnds names c d m b answer → Begins
   carga_begins answer ok (load_refused bad taken un) =
-      absurd (refused_or_given_load files names answer t r (subst (λ (o : Option Files). IsFirstFault o names.tables doc.Roll names.roll answer) told bad) given)
+      absurd (refused_or_documents files names.tables names.roll answer t r (subst (λ (o : Option Files). IsFirstFault o names.tables doc.Roll names.roll answer) told bad) given)
   carga_begins _ ok (load_no_memory taken un) = absurd (cc)
   carga_begins _ ok (load_no_cabinet taken un) = absurd (cc)
   carga_begins _ ok (no_section also none taken un) = absurd (cc)
   carga_begins _ ok (not_loaded e also asked taken h) = absurd (error_not_done e ok)
   carga_begins _ ok (not_told between also asked taken h off) = absurd (cc)
   carga_begins _ ok (loaded {t = u} {r = q} {section} between also asked taken h shown) =
-      let one = load_given_once files names u t q r (subst (λ (o : Option Files). IsGivenLoad o names u q) told also) given in
+      let one = load_given_once files names u t q r (subst (λ (o : Option Files). HasDocuments o names.tables names.roll u q) told also) given in
       let there : between.flashes ≡ Some start =
       sym (shows_keep (shows (loaded_line section ∷ [])) between b (shows_lines (loaded_line section ∷ [])).shows shown.does) ∙ flashes in
       let asked_here = subst (λ (x : TablesData). IsSectionAsked names x r section) one.0 (subst (λ (x : RollData). IsSectionAsked names u x section) one.1 asked) in

@@ -11,13 +11,11 @@ use Rattle.election_tables.specs.TablesData.{TablesData}
 use Rattle.key_script.specs.Script.{events_of, first_bad}
 use Rattle.key_script.proofs.ScriptLaws.{events_or_bad}
 use Rattle.key_script.specs.declared.keys.Event.{Event}
-use Rattle.urna_app.specs.Carga.{IsGivenLoad}
 use Rattle.section_intake.specs.Verdict.{IsVerdict}
 use Rattle.section_intake.specs.declared.verdict.Verdict.{Verdict}
-use Rattle.urna_app.specs.Command.{Carga, Confere, Emite, Vota}
+use Rattle.urna_app.specs.Command.{Confere, Vota}
 use Rattle.urna_app.specs.Confere.{HasVerdict}
-use Rattle.urna_app.specs.Documents.{IsTaken, IsBad, IsFault, IsFirstFault, HasTables, HasRoll, HasKeys, first_tables, first_other, limit_of, lacks, longer, bad, no_document, rule, count, roll_line, line}
-use Rattle.urna_app.specs.Emite.{IsGivenPoll}
+use Rattle.urna_app.specs.Documents.{IsTaken, IsBad, IsFault, IsFirstFault, HasDocuments, HasTables, HasRoll, HasKeys, first_tables, first_other, limit_of, lacks, longer, bad, no_document, rule, count, roll_line, line}
 use Rattle.urna_app.specs.Vota.{IsGiven, IsRefused, documents, keys}
 use Rattle.urna_app.specs.declared.status.Doc.{Doc}
 use Rattle.urna_app.specs.declared.status.Doc.TheVariants as doc
@@ -183,13 +181,9 @@ pub refused_or_given : (files : Files) (names : Vota) (s : Status) (t : TablesDa
 refused_or_given files a s t r es (documents h) given = first_not_there files a.tables a.roll s t r h given.tables given.roll
 refused_or_given files a s t r es (keys has read h) given = keys_not_fault files a.keys s es h given.keys
 
-pub refused_or_given_load : (files : Files) (names : Carga) (s : Status) (t : TablesData) (r : RollData) → IsFirstFault (Some files) names.tables doc.Roll names.roll s
-    → IsGivenLoad (Some files) names t r → ⊥
-refused_or_given_load files a s t r h given = first_not_there files a.tables a.roll s t r h given.tables given.roll
-
-pub refused_or_given_poll : (files : Files) (names : Emite) (s : Status) (t : TablesData) (r : RollData) → IsFirstFault (Some files) names.tables doc.Roll names.roll s
-    → IsGivenPoll (Some files) names t r → ⊥
-refused_or_given_poll files a s t r h given = first_not_there files a.tables a.roll s t r h given.tables given.roll
+pub refused_or_documents : (files : Files) (tables roll : List ℕ) (s : Status) (t : TablesData) (r : RollData) → IsFirstFault (Some files) tables doc.Roll roll s
+    → HasDocuments (Some files) tables roll t r → ⊥
+refused_or_documents files a b s t r h given = first_not_there files a b s t r h given.tables given.roll
 
 -- The tables and the report of some names
 

@@ -1,8 +1,8 @@
 -- The command carga: what it is given, its load, and how it ends
-use Rattle.std.specs.Prelude.{◌≡◌, ℕ, [], ◌∷◌, ◌++◌, List, length, Option, codes}
+use Rattle.std.specs.Prelude.{◌≡◌, ℕ, [], ◌∷◌, ◌++◌, List, length, codes}
 use Rattle.std.specs.Fmt.{decimal}
 use Rattle.std.specs.Option.{ForSome}
-use Rattle.urna_outside.specs.Cabinet.{CabinetTold, Files}
+use Rattle.urna_outside.specs.Cabinet.{CabinetTold}
 use Rattle.urna_outside.specs.Faults.{IsFaultless}
 use Rattle.urna_outside.specs.Flash.{Op}
 use Rattle.urna_outside.specs.ShownLines.{HasShown, IsCutOff}
@@ -16,7 +16,7 @@ use Rattle.state_store.specs.Load.{IsSectionOf, load_of}
 use Rattle.state_store.specs.Rest.{AreAtRest}
 use Rattle.state_store.specs.declared.store.LoadError.{LoadError}
 use Rattle.urna_app.specs.Command.{Carga}
-use Rattle.urna_app.specs.Documents.{HasTables, HasRoll, IsFirstFault}
+use Rattle.urna_app.specs.Documents.{HasDocuments, IsFirstFault}
 use Rattle.urna_app.specs.Errors.{load_status}
 use Rattle.urna_app.specs.Taking.{HasTaken}
 use Rattle.urna_app.specs.declared.status.Doc.TheVariants as doc
@@ -24,11 +24,6 @@ use Rattle.urna_app.specs.declared.status.Status.{Status}
 use Rattle.urna_app.specs.declared.status.Status.TheVariants as status
 
 -- ---- what it is given
-
--- The names' files hold these tables and this roll.
-pub record IsGivenLoad (files : Option Files) (names : Carga) (t : TablesData) (r : RollData) : Type 0 where
-  pub tables : HasTables files names.tables t
-  pub roll : HasRoll files names.roll r
 
 -- the section that is to be loaded: the tables have it, with as many voters as the roll
 pub record IsSectionAsked (names : Carga) (t : TablesData) (r : RollData) (section : Section) : Type 0 where
@@ -56,15 +51,15 @@ pub data CargaEnds (names : Carga) (c d : CabinetTold) (m n : Told) : Status →
   load_no_memory : HasTaken 2 status.Memory c d → IsUntouched m n → CargaEnds names c d m n status.Memory
   load_no_cabinet : HasTaken 2 status.Cabinet c d → IsUntouched m n → CargaEnds names c d m n status.Cabinet
   -- The tables have no such section, or it has another number of voters than the roll.
-  no_section : {t : TablesData} {r : RollData} → IsGivenLoad c.files names t r → ((section : Section) → ¬ IsSectionAsked names t r section)
+  no_section : {t : TablesData} {r : RollData} → HasDocuments c.files names.tables names.roll t r → ((section : Section) → ¬ IsSectionAsked names t r section)
       → HasTaken 2 status.NoSection c d → IsUntouched m n → CargaEnds names c d m n status.NoSection
   -- The flashes were not loaded.
-  not_loaded : {t : TablesData} {r : RollData} {section : Section} (e : LoadError) → IsGivenLoad c.files names t r → IsSectionAsked names t r section
+  not_loaded : {t : TablesData} {r : RollData} {section : Section} (e : LoadError) → HasDocuments c.files names.tables names.roll t r → IsSectionAsked names t r section
       → HasTaken 2 (load_status e) c d → FailsToLoad m n e → CargaEnds names c d m n (load_status e)
   -- They were, and the display failed in the line that tells it.
-  not_told : {t : TablesData} {r : RollData} {section : Section} (between : Told) → IsGivenLoad c.files names t r → IsSectionAsked names t r section
+  not_told : {t : TablesData} {r : RollData} {section : Section} (between : Told) → HasDocuments c.files names.tables names.roll t r → IsSectionAsked names t r section
       → HasTaken 2 status.Display c d → HasLoaded t r section m between → IsCutOff (loaded_line section ∷ []) between n
       → CargaEnds names c d m n status.Display
-  loaded : {t : TablesData} {r : RollData} {section : Section} (between : Told) → IsGivenLoad c.files names t r → IsSectionAsked names t r section
+  loaded : {t : TablesData} {r : RollData} {section : Section} (between : Told) → HasDocuments c.files names.tables names.roll t r → IsSectionAsked names t r section
       → HasTaken 2 status.Done c d → HasLoaded t r section m between → HasShown (loaded_line section ∷ []) between n
       → CargaEnds names c d m n status.Done

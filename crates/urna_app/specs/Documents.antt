@@ -52,6 +52,11 @@ pub record HasRoll (files : Option Files) (name : List ℕ) (r : RollData) : Typ
   pub taken : IsTaken files doc.Roll name bytes
   pub read : IsRollOf bytes r
 
+-- files of these two names hold these tables and this roll
+pub record HasDocuments (files : Option Files) (tables_name roll_name : List ℕ) (t : TablesData) (r : RollData) : Type 0 where
+  pub tables : HasTables files tables_name t
+  pub roll : HasRoll files roll_name r
+
 -- a file of this name is taken, and holds these events
 pub record HasKeys (files : Option Files) (name : List ℕ) (es : List Event) : Type 0 where
   pub bytes : List ℕ

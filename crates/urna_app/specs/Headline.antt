@@ -29,8 +29,9 @@ use Rattle.station.specs.Run.{IsRun}
 use Rattle.station.specs.Setting.{setting_of}
 use Rattle.station.specs.Start.{opening_line}
 use Rattle.station.specs.Text.{session_pieces}
-use Rattle.urna_app.specs.Carga.{IsSectionAsked, IsGivenLoad}
+use Rattle.urna_app.specs.Carga.{IsSectionAsked}
 use Rattle.urna_app.specs.Command.{Carga, ToLoad, ToVote, Vota, command_of}
+use Rattle.urna_app.specs.Documents.{HasDocuments}
 use Rattle.urna_app.specs.Ending.{Ends}
 use Rattle.urna_app.specs.Vota.{IsGiven}
 use Rattle.urna_app.specs.declared.status.Status.{Status}
@@ -177,6 +178,6 @@ DayKeepsVotes =
 abbrev pub LoadBeginsDay : Type 0
 LoadBeginsDay =
     (words : List (List ℕ)) (c d : CabinetTold) (m n : Told) → Ends words c d m n status.Done
-    → (names : Carga) (files : Files) (t : TablesData) (r : RollData) → command_of words ≡ Some (ToLoad names) → c.files ≡ Some files → IsGivenLoad (Some files) names t r
+    → (names : Carga) (files : Files) (t : TablesData) (r : RollData) → command_of words ≡ Some (ToLoad names) → c.files ≡ Some files → HasDocuments (Some files) names.tables names.roll t r
     → (start : Flashes) → n.flashes ≡ Some start
     → (section : Section) × IsSectionAsked names t r section × AreWhole start × AreFound t r section (ready_state t (length r.titles)) start

@@ -8,12 +8,10 @@ use Rattle.election_tables.specs.declared.tables.sections.Section.{Section}
 use Rattle.key_script.specs.declared.keys.Event.{Event}
 use Rattle.image_codec.specs.State.{State}
 use Rattle.state_store.specs.Calls.{AreFound}
-use Rattle.urna_app.specs.Carga.{IsGivenLoad}
 use Rattle.section_intake.specs.declared.verdict.Verdict.{Verdict}
-use Rattle.urna_app.specs.Command.{Carga, Confere, Emite, Vota}
+use Rattle.urna_app.specs.Command.{Confere, Vota}
 use Rattle.urna_app.specs.Confere.{HasVerdict}
-use Rattle.urna_app.specs.Documents.{IsFirstFault}
-use Rattle.urna_app.specs.Emite.{IsGivenPoll}
+use Rattle.urna_app.specs.Documents.{HasDocuments, IsFirstFault}
 use Rattle.urna_app.specs.Vota.{IsGiven, IsRefused}
 use Rattle.urna_app.specs.declared.status.Doc.{Doc}
 use Rattle.urna_app.specs.declared.status.Doc.TheVariants as doc
@@ -27,17 +25,15 @@ RefusedOnce =
     → IsFirstFault (Some files) tables d name t → s ≡ t)
     × ((files : Files) (names : Confere) (v w : Verdict) → HasVerdict (Some files) names v → HasVerdict (Some files) names w → v ≡ w)
 
--- and then they give no session, no load, no poll and no verdict
+-- and then they give no session, no tables and roll of a load or a poll, and no verdict
 abbrev pub RefusedOrGiven : Type 0
 RefusedOrGiven =
     ((files : Files) (names : Vota) (s : Status) (t : TablesData) (r : RollData) (es : List Event)
     → IsRefused (Some files) names s → IsGiven (Some files) names t r es → ⊥)
-    × ((files : Files) (names : Carga) (s : Status) (t : TablesData) (r : RollData)
-    → IsFirstFault (Some files) names.tables doc.Roll names.roll s → IsGivenLoad (Some files) names t r → ⊥)
+    × ((files : Files) (tables roll : List ℕ) (s : Status) (t : TablesData) (r : RollData) → IsFirstFault (Some files) tables doc.Roll roll s
+    → HasDocuments (Some files) tables roll t r → ⊥)
     × ((files : Files) (names : Confere) (s : Status) (v : Verdict) → IsFirstFault (Some files) names.tables doc.Report names.report s
     → HasVerdict (Some files) names v → ⊥)
-    × ((files : Files) (names : Emite) (s : Status) (t : TablesData) (r : RollData) → IsFirstFault (Some files) names.tables doc.Roll names.roll s
-    → IsGivenPoll (Some files) names t r → ⊥)
 
 -- Flashes hold one poll at most: one section, and one state. So whether the poll that they hold is sealed is said by them alone.
 abbrev pub FoundOnce : Type 0

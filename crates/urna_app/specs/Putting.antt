@@ -43,9 +43,13 @@ abbrev pub StopPutting : List Entry → CabinetTold → CabinetTold → Type 0
 StopPutting [] old new = ⊥
 StopPutting (file ∷ files) old new = FailsToPutFile file old new ⊎ ((between : CabinetTold) × HasPutFile file old between × StopPutting files between new)
 
+-- the poll isn't sealed
+abbrev pub IsNotSealed : State → Type 0
+IsNotSealed s = (opened closed : ℕ) → s.phase ≢ phase.Sealed opened closed
+
 -- What is done with the files of results of a poll, and the status that it gives. A poll that isn't sealed has none.
 pub data PutsResults (out : List ℕ) (t : TablesData) (section : Section) (s : State) (old new : CabinetTold) : Status → Type 0 where
-  no_results : ((opened closed : ℕ) → s.phase ≢ phase.Sealed opened closed) → new ≡ old → PutsResults out t section s old new status.Done
+  no_results : IsNotSealed s → new ≡ old → PutsResults out t section s old new status.Done
   -- Both were put.
   results_put : {opened closed : ℕ} → s.phase ≡ phase.Sealed opened closed → HavePut (result_files out t section s opened closed) old new
       → PutsResults out t section s old new status.Done

@@ -9,11 +9,12 @@ ghost use Rattle.urna_app.specs.Taking.{status_in};
 use crate::command::CargaNames;
 use crate::documents::take_tables_and_roll;
 use crate::status::Status;
+use crate::telling::tell_line;
 use election_tables::{Roll, Section, Tables};
 use state_store::Store;
 use std::alloc::Global;
 use urna_base::LineBuffer;
-use urna_outside::{Cabinet, Machine, show_line};
+use urna_outside::{Cabinet, Machine};
 
 /// The section of a zone and number, where it has as many voters as the roll.
 fn asked_section(tables: &Tables, roll: &Roll, zone: u32, number: u32) -> Option<Section>
@@ -62,8 +63,5 @@ pub(crate) fn carga<M: Machine, C: Cabinet>(
         return Err(Status::NoSection);
     };
     let _store = Store::format(alloc, &tables, &roll, section, machine)?;
-    match show_line(machine, loaded_line(section).as_bytes()) {
-        Ok(()) => Ok(()),
-        Err(_) => Err(Status::Display),
-    }
+    tell_line(machine, &loaded_line(section))
 }

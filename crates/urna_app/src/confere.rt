@@ -5,10 +5,11 @@ ghost use Rattle.urna_app.specs.Taking.{status_in};
 use crate::command::ConfereNames;
 use crate::documents::take_tables_and_report;
 use crate::status::Status;
+use crate::telling::tell_line;
 use crate::verdict::{ended_by, verdict_line};
 use section_intake::check;
 use std::alloc::Global;
-use urna_outside::{Cabinet, Machine, show_line};
+use urna_outside::{Cabinet, Machine};
 
 /// The verdict on the report of these names: the tables and the report are taken, and a line tells the verdict.
 pub(crate) fn confere<M: Machine, C: Cabinet>(
@@ -22,8 +23,6 @@ pub(crate) fn confere<M: Machine, C: Cabinet>(
 {
     let (tables, bytes) = take_tables_and_report(alloc, cabinet, names.tables, names.report)?;
     let verdict = check(alloc, &tables, &bytes)?;
-    match show_line(machine, verdict_line(verdict).as_bytes()) {
-        Ok(()) => ended_by(verdict),
-        Err(_) => Err(Status::Display),
-    }
+    tell_line(machine, &verdict_line(verdict))?;
+    ended_by(verdict)
 }

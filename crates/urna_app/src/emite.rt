@@ -7,14 +7,15 @@ ghost use Rattle.urna_app.specs.Taking.{status_in};
 
 use crate::command::EmiteNames;
 use crate::documents::take_tables_and_roll;
-use crate::results::{put_results, results_of};
+use crate::results::deliver_sealed;
 use crate::status::Status;
+use crate::telling::tell_line;
 use election_tables::Section;
 use state_store::Store;
 use std::alloc::Global;
 use turnout::Phase;
 use urna_base::LineBuffer;
-use urna_outside::{Cabinet, Machine, show_line};
+use urna_outside::{Cabinet, Machine};
 
 /// The line that tells that the files of a section are put.
 #[tactic(auto, using(urna_base::proofs::DecimalLaws::line_lengths))]
@@ -47,10 +48,8 @@ pub(crate) fn emite<M: Machine, C: Cabinet>(
     let Phase::Sealed { opened, closed } = state.phase() else {
         return Err(Status::NotSealed);
     };
-    let results = results_of(alloc, names.out, &tables, section, &state, opened, closed)?;
-    put_results(cabinet, &results)?;
-    match show_line(machine, emitted_line(section).as_bytes()) {
-        Ok(()) => Ok(()),
-        Err(_) => Err(Status::Display),
-    }
+    deliver_sealed(
+        alloc, cabinet, names.out, &tables, section, &state, opened, closed,
+    )?;
+    tell_line(machine, &emitted_line(section))
 }

@@ -4,8 +4,9 @@ ghost use Rattle.std.specs.Fmt.{decimal};
 ghost use Rattle.urna_app.specs.FaultLines.{Tells, device_word, doc_word, fault_line, fault_text};
 
 use crate::status::{Doc, Status};
+use crate::telling::tell_line;
 use urna_base::LineBuffer;
-use urna_outside::{Dev, Machine, show_line};
+use urna_outside::{Dev, Machine};
 
 /// Shows the line that tells a status, where it has one. A fault of the display leaves it so.
 pub(crate) fn tell_fault<M: Machine>(machine: &mut M, status: &Status)
@@ -14,7 +15,7 @@ pub(crate) fn tell_fault<M: Machine>(machine: &mut M, status: &Status)
     let Some(line) = fault_line(status) else {
         return;
     };
-    let _shown = show_line(machine, line.as_bytes());
+    let _shown = tell_line(machine, &line);
 }
 
 /// The line of a status, with its line feed.

@@ -24,6 +24,7 @@ mod scripts;
 mod status;
 #[cfg(test)]
 mod stops;
+mod telling;
 #[cfg(test)]
 mod tests;
 mod verdict;

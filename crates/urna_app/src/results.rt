@@ -1,5 +1,5 @@
 //! The files of results of a sealed poll: the report in parts, and the record.
-ghost use Rattle.std.specs.Prelude.{◌≡◌, ◌++◌, IfOk, IfErr, OnOk, codes, string_bytes};
+ghost use Rattle.std.specs.Prelude.{◌≡◌, ◌≢◌, ◌++◌, IfOk, IfErr, OnOk, codes, string_bytes};
 ghost use Rattle.std.specs.List.{Contains};
 ghost use Rattle.election_tables.specs.TablesData.{IsTables};
 ghost use Rattle.turnout.specs.declared.phase.Phase.TheVariants as phase;
@@ -22,7 +22,7 @@ use vote_record::rdv_text;
 
 /// The files of results, made before the first is put, so that want of memory leaves the cabinet as it was.
 #[derive(Drop)]
-pub(crate) struct Results {
+struct Results {
     report_name: String,
     report: Vec<u8>,
     record_name: String,
@@ -30,7 +30,7 @@ pub(crate) struct Results {
 }
 
 /// The files of the sealed poll of a section, opened and closed at these moments, under the word OUT.
-pub(crate) fn results_of(
+fn results_of(
     alloc: Global,
     out: &str,
     tables: &Tables,
@@ -73,13 +73,35 @@ fn named(alloc: Global, out: &str, ending: &str) -> Result<String, Memory>
 }
 
 /// Puts both files, the report first.
-pub(crate) fn put_results<C: Cabinet>(cabinet: &mut C, results: &Results) -> Result<(), Status>
+fn put_results<C: Cabinet>(cabinet: &mut C, results: &Results) -> Result<(), Status>
     ensures ok { OnOk result (HavePut (entries_of results.now) (C.told cabinet.old) (C.told cabinet.new)) }
     ensures err { IfErr result (λ s. (s ≡ Status.Cabinet) × StopPutting (entries_of results.now) (C.told cabinet.old) (C.told cabinet.new)) }
 {
     cabinet.put(results.report_name.as_str(), &results.report)?;
     cabinet.put(results.record_name.as_str(), &results.record)?;
     Ok(())
+}
+
+/// Makes both files of the sealed poll of a section, opened and closed at these moments, and puts them.
+pub(crate) fn deliver_sealed<C: Cabinet>(
+    alloc: Global,
+    cabinet: &mut C,
+    out: &str,
+    tables: &Tables,
+    section: Section,
+    state: &State,
+    opened: u64,
+    closed: u64,
+) -> Result<(), Status>
+    requires valid { IsTables tables.now }
+    requires section { Contains tables.now.sections section }
+    requires state { IsStateOf tables.now section.voters state.now }
+    requires sealed { state.now.phase ≡ phase.Sealed opened closed }
+    ensures put { PutsResults out.now tables.now section state.now (C.told cabinet.old) (C.told cabinet.new) (status_in result) }
+    ensures err { IfErr result (λ s. s ≢ Status.Done) }
+{
+    let results = results_of(alloc, out, tables, section, state, opened, closed)?;
+    put_results(cabinet, &results)
 }
 
 /// Puts the files of results of a poll, if it is sealed.
@@ -99,7 +121,5 @@ pub(crate) fn deliver<C: Cabinet>(
     let Phase::Sealed { opened, closed } = state.phase() else {
         return Ok(());
     };
-    let results = results_of(alloc, out, tables, section, state, opened, closed)?;
-    put_results(cabinet, &results)?;
-    Ok(())
+    deliver_sealed(alloc, cabinet, out, tables, section, state, opened, closed)
 }

@@ -30,13 +30,36 @@ returns-in_err-verdict g c =
     subst (ConfereEnds names x y m m) (sym (passed_on c.from_residual-in_err-verdict.result status.Memory c.from_residual-in_err-verdict.ensures.1 (λ s h. h)))
     (check_no_memory (taken_as 2 status.Memory x y (λ same. same) taken) (untouched m))
 
-pub returns-in-Ok : goal.returns-in-Ok
-returns-in-Ok g c =
+pub returns-in_err-tell_line : goal.returns-in_err-tell_line
+returns-in_err-tell_line g c =
     let names : Confere = record { tables = c.args.names.tables.now; report = c.args.names.report.now } in
     let x = g.C.Cabinet.told c.args.cabinet.now in
     let y = g.C.Cabinet.told c.take_tables_and_report.new.cabinet in
     let m = g.M.Machine.told c.args.machine.now in
-    let n = g.M.Machine.told c.show_line.new.machine in
+    let n = g.M.Machine.told c.tell_line.new.machine in
+    let t = c.in_ok-tables.tables in
+    let v = c.in_ok-verdict.verdict in
+    let taken : HasTaken 2 status.Done x y = c.in_ok-tables.ensures.taken in
+    let given : HasVerdict x.files names v =
+    record {
+      t = t;
+      bytes = c.in_ok-tables.bytes.items;
+      tables = c.in_ok-tables.ensures.tables;
+      report = c.in_ok-tables.ensures.report;
+      verdict = subst (λ (b : List ℕ). IsVerdict t b v) c.deref.ensures.value c.in_ok-verdict.ensures.verdict;
+    } in
+    subst (ConfereEnds names x y m n)
+    (sym (passed_on c.from_residual-in_err-tell_line.result status.Display c.from_residual-in_err-tell_line.ensures.1 (λ s h. h ∙ c.in_err-tell_line.ensures.err)))
+    (check_not_told given (taken_as 2 status.Display x y (λ same. same) taken)
+    (subst (λ (bytes : List ℕ). IsCutOff (bytes ∷ []) m n) c.verdict_line.ensures c.in_err-tell_line.ensures.shown))
+
+pub returns : goal.returns
+returns g c =
+    let names : Confere = record { tables = c.args.names.tables.now; report = c.args.names.report.now } in
+    let x = g.C.Cabinet.told c.args.cabinet.now in
+    let y = g.C.Cabinet.told c.take_tables_and_report.new.cabinet in
+    let m = g.M.Machine.told c.args.machine.now in
+    let n = g.M.Machine.told c.tell_line.new.machine in
     let t = c.in_ok-tables.tables in
     let v = c.in_ok-verdict.verdict in
     let taken : HasTaken 2 status.Done x y = c.in_ok-tables.ensures.taken in
@@ -50,25 +73,4 @@ returns-in-Ok g c =
     } in
     subst (ConfereEnds names x y m n) (sym c.ended_by.ensures)
     (checked given (taken_as 2 (verdict_status v) x y (counts_verdict v x.tally y.tally) taken)
-    (subst (λ (bytes : List ℕ). HasShown (bytes ∷ []) m n) (c.as_bytes.ensures.bytes ∙ c.verdict_line.ensures) c.in-Ok.ensures))
-
-pub returns : goal.returns
-returns g c =
-    let names : Confere = record { tables = c.args.names.tables.now; report = c.args.names.report.now } in
-    let x = g.C.Cabinet.told c.args.cabinet.now in
-    let y = g.C.Cabinet.told c.take_tables_and_report.new.cabinet in
-    let m = g.M.Machine.told c.args.machine.now in
-    let n = g.M.Machine.told c.show_line.new.machine in
-    let t = c.in_ok-tables.tables in
-    let v = c.in_ok-verdict.verdict in
-    let taken : HasTaken 2 status.Done x y = c.in_ok-tables.ensures.taken in
-    let given : HasVerdict x.files names v =
-    record {
-      t = t;
-      bytes = c.in_ok-tables.bytes.items;
-      tables = c.in_ok-tables.ensures.tables;
-      report = c.in_ok-tables.ensures.report;
-      verdict = subst (λ (b : List ℕ). IsVerdict t b v) c.deref.ensures.value c.in_ok-verdict.ensures.verdict;
-    } in
-    check_not_told given (taken_as 2 status.Display x y (λ same. same) taken)
-    (subst (λ (bytes : List ℕ). IsCutOff (bytes ∷ []) m n) (c.as_bytes.ensures.bytes ∙ c.verdict_line.ensures) c.in-Err.ensures)
+    (subst (λ (bytes : List ℕ). HasShown (bytes ∷ []) m n) c.verdict_line.ensures c.in_ok-tell_line.ensures.shown))

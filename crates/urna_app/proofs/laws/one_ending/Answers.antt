@@ -1,5 +1,5 @@
-use Rattle.urna_app.proofs.Once.{first_once, one_verdict_on, refused_once, refused_or_checked, refused_or_given, refused_or_given_load, refused_or_given_poll}
+use Rattle.urna_app.proofs.Once.{first_once, one_verdict_on, refused_once, refused_or_checked, refused_or_documents, refused_or_given}
 use Rattle.urna_app.proofs.laws.one_ending.Goals as goal
 
 pub returns : goal.returns
-returns c = record { once = (refused_once, first_once, one_verdict_on); either = (refused_or_given, refused_or_given_load, refused_or_checked, refused_or_given_poll) }
+returns c = record { once = (refused_once, first_once, one_verdict_on); either = (refused_or_given, refused_or_documents, refused_or_checked) }

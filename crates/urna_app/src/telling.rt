@@ -1,0 +1,18 @@
+//! The line that tells how a command ended.
+ghost use Rattle.std.specs.Prelude.{◌≡◌, ◌∷◌, [], IfErr};
+ghost use Rattle.urna_outside.specs.ShownLines.{Shows};
+
+use crate::status::Status;
+use urna_base::LineBuffer;
+use urna_outside::{Machine, show_line};
+
+/// Shows the line of a command, and nothing else. It is Display where the display failed, which may have shown a front of the line.
+pub(crate) fn tell_line<M: Machine>(machine: &mut M, line: &LineBuffer) -> Result<(), Status>
+    ensures shown { Shows result (line.now ∷ []) (M.told machine.old) (M.told machine.new) }
+    ensures err { IfErr result (λ s. s ≡ Status.Display) }
+{
+    match show_line(machine, line.as_bytes()) {
+        Ok(()) => Ok(()),
+        Err(_) => Err(Status::Display),
+    }
+}
