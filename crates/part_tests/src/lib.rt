@@ -12,6 +12,8 @@ mod files;
 #[cfg(test)]
 mod marks;
 #[cfg(test)]
+mod names;
+#[cfg(test)]
 mod numbers;
 #[cfg(test)]
 mod panel;
