@@ -28,12 +28,12 @@ use Rattle.state_store.specs.declared.store.StoreError.TheVariants as store
 use Rattle.station.specs.Start.{FailsToStart}
 use Rattle.station.specs.declared.station.StartError.{StartError}
 use Rattle.station.specs.declared.station.StartError.TheVariants as start
-use Rattle.urna_app.specs.Carga.{CargaEnds, IsGivenLoad, IsSectionAsked, load_no_cabinet, load_no_memory, load_refused, loaded, no_section, not_loaded, not_told}
+use Rattle.urna_app.specs.Carga.{CargaEnds, IsSectionAsked, load_no_cabinet, load_no_memory, load_refused, loaded, no_section, not_loaded, not_told}
 use Rattle.urna_app.specs.Command.{Carga, Confere, Emite, ToCheck, ToEmit, ToLoad, ToVote, Vota, command_of}
 use Rattle.urna_app.specs.Completion.{CanCheck, CanEmit, CanLoad, CanVote, CompletesWhereItCan, IsDoneOrMemory}
 use Rattle.urna_app.specs.Confere.{ConfereEnds, check_no_cabinet, check_no_memory, check_not_told, check_refused, checked}
-use Rattle.urna_app.specs.Documents.{HasRoll, HasTables, IsFirstFault, first_other, first_tables}
-use Rattle.urna_app.specs.Emite.{EmiteEnds, IsGivenPoll, emit_no_cabinet, emit_no_memory, emit_refused, emitted, files_stopped, no_files, not_emitted, not_found, not_sealed}
+use Rattle.urna_app.specs.Documents.{HasDocuments, IsFirstFault, first_other, first_tables}
+use Rattle.urna_app.specs.Emite.{EmiteEnds, emit_no_cabinet, emit_no_memory, emit_refused, emitted, files_stopped, no_files, not_emitted, not_found, not_sealed}
 use Rattle.urna_app.specs.Ending.{CommandEnds, carga, confere, emite, no_command, vota}
 use Rattle.urna_app.specs.Errors.{load_status, port_status, start_status, store_status}
 use Rattle.urna_app.specs.FaultLines.{Tells, fault_text}
@@ -44,7 +44,7 @@ use Rattle.urna_app.specs.Vota.{HasVotedTo, IsGiven, IsRefused, VotaEnds, cut, n
 use Rattle.urna_app.specs.declared.status.Doc.TheVariants as doc
 use Rattle.urna_app.specs.declared.status.Status.{Status}
 use Rattle.urna_app.specs.declared.status.Status.TheVariants as status
-use Rattle.urna_app.proofs.Once.{refused_or_given, refused_or_given_load, refused_or_given_poll, report_not_fault, same_roll, same_tables, tables_not_fault}
+use Rattle.urna_app.proofs.Once.{refused_or_documents, refused_or_given, report_not_fault, same_roll, same_tables, tables_not_fault}
 
 -- ---- faults
 
@@ -146,13 +146,13 @@ pub carga_completes : (names : Carga) (c d : CabinetTold) (m b : Told) (s : Stat
     → c.files ≡ Some files → ¬ Rose c.tally.faults d.tally.faults → Calm s m b → m.flashes ≡ Some flashes → CanLoad names (Some files) flashes
     → CargaEnds names c d m b s → IsDoneOrMemory s
 carga_completes names c d m b s files flashes told none calm flashes_told can (load_refused h taken untouched) =
-    absurd (refused_or_given_load files names s can.t can.r
+    absurd (refused_or_documents files names.tables names.roll s can.t can.r
     (subst (λ (f : Option Files). IsFirstFault f names.tables doc.Roll names.roll s) told h) can.given)
 carga_completes names c d m b s files flashes told none calm flashes_told can (load_no_memory taken untouched) = inr refl
 carga_completes names c d m b s files flashes told none calm flashes_told can (load_no_cabinet taken untouched) =
     absurd (none taken.counts.faults.rose)
 carga_completes names c d m b s files flashes told none calm flashes_told can (no_section {t} {r} given lacks taken untouched) =
-    let found = subst (λ (f : Option Files). IsGivenLoad f names t r) told given in
+    let found = subst (λ (f : Option Files). HasDocuments f names.tables names.roll t r) told given in
     let tables = same_tables files names.tables t can.t found.tables can.given.tables in
     let roll = same_roll files names.roll r can.r found.roll can.given.roll in
     absurd (lacks can.section
@@ -175,13 +175,13 @@ pub emite_completes : LoadedOrForeign → HeldIsDecoded → FoundOnce → (names
     (flashes : Flashes) → c.files ≡ Some files → ¬ Rose c.tally.faults d.tally.faults → Calm s m b → m.flashes ≡ Some flashes
     → CanEmit names (Some files) flashes → EmiteEnds names c d m b s → IsDoneOrMemory s
 emite_completes either decoded once names c d m b s files flashes told none calm flashes_told can (emit_refused h taken untouched) =
-    absurd (refused_or_given_poll files names s can.t can.r
+    absurd (refused_or_documents files names.tables names.roll s can.t can.r
     (subst (λ (f : Option Files). IsFirstFault f names.tables doc.Roll names.roll s) told h) can.given)
 emite_completes either decoded once names c d m b s files flashes told none calm flashes_told can (emit_no_memory taken untouched) = inr refl
 emite_completes either decoded once names c d m b s files flashes told none calm flashes_told can (emit_no_cabinet taken untouched) =
     absurd (none taken.counts.faults.rose)
 emite_completes either decoded once names c d m b s files flashes told none calm flashes_told can (not_found {t} {r} e given taken fails) =
-    let found = subst (λ (f : Option Files). IsGivenPoll f names t r) told given in
+    let found = subst (λ (f : Option Files). HasDocuments f names.tables names.roll t r) told given in
     let tables = same_tables files names.tables t can.t found.tables can.given.tables in
     let roll = same_roll files names.roll r can.r found.roll can.given.roll in
     peeks e calm (subst (λ (x : RollData). FailsToPeek can.t x m b e) roll (subst (λ (x : TablesData). FailsToPeek x r m b e) tables fails))
@@ -197,7 +197,7 @@ emite_completes either decoded once names c d m b s files flashes told none calm
     peeks store.NoImage calm h =
         absurd ((not_missed either decoded can.t can.r can.given.tables.valid whole flashes can.found).1 ((h.1.2 flashes flashes_told).1))
 emite_completes either decoded once names c d m b s files flashes told none calm flashes_told can (not_sealed {t} {r} {section} {s = u} given taken peeked unsealed) =
-    let found = subst (λ (f : Option Files). IsGivenPoll f names t r) told given in
+    let found = subst (λ (f : Option Files). HasDocuments f names.tables names.roll t r) told given in
     let tables = same_tables files names.tables t can.t found.tables can.given.tables in
     let roll = same_roll files names.roll r can.r found.roll can.given.roll in
     let here = subst (λ (x : RollData). AreFound can.t x section u flashes) roll

@@ -12,10 +12,9 @@ use Rattle.turnout.specs.declared.phase.Phase.TheVariants as phase
 use Rattle.image_codec.specs.State.{State}
 use Rattle.section_intake.specs.declared.verdict.Verdict.{Verdict}
 use Rattle.state_store.specs.Calls.{AreFound, AreFree}
-use Rattle.urna_app.specs.Carga.{IsGivenLoad, IsSectionAsked}
+use Rattle.urna_app.specs.Carga.{IsSectionAsked}
 use Rattle.urna_app.specs.Command.{Carga, Confere, Emite, ToCheck, ToEmit, ToLoad, ToVote, Vota, command_of}
-use Rattle.urna_app.specs.Documents.{HasTables, IsTaken}
-use Rattle.urna_app.specs.Emite.{IsGivenPoll}
+use Rattle.urna_app.specs.Documents.{HasDocuments, HasTables, IsTaken}
 use Rattle.urna_app.specs.Ending.{Ends}
 use Rattle.urna_app.specs.Vota.{IsGiven}
 use Rattle.urna_app.specs.declared.status.Doc.TheVariants as doc
@@ -38,7 +37,7 @@ pub record CanLoad (names : Carga) (files : Option Files) (flashes : Flashes) : 
   pub t : TablesData
   pub r : RollData
   pub section : Section
-  pub given : IsGivenLoad files names t r
+  pub given : HasDocuments files names.tables names.roll t r
   pub asked : IsSectionAsked names t r section
   pub free : AreFree flashes
 
@@ -61,7 +60,7 @@ pub record CanEmit (names : Emite) (files : Option Files) (flashes : Flashes) : 
   pub state : State
   pub opened : ℕ
   pub closed : ℕ
-  pub given : IsGivenPoll files names t r
+  pub given : HasDocuments files names.tables names.roll t r
   pub found : AreFound t r section state flashes
   pub sealed : state.phase ≡ phase.Sealed opened closed
 
