@@ -17,7 +17,7 @@ pub enum PartFault {
     Number(u32),
     /// Its hash isn't that of the hash before and its text.
     Hash(u32),
-    /// Its fields are more than a part has, or the first of them would have fitted into the part before.
+    /// Its fields have more than 1,000 bytes, or the first of them would have fitted into the part before.
     Cut(u32),
 }
 
