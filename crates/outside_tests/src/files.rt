@@ -450,41 +450,43 @@ fn a_folder_gives_a_file_up_to_the_limit(rt: HostRuntime) -> Result<(), Fail> {
     Ok(())
 }
 
-/// Puts a file in the stead of another, where this fails. The other name is gone then.
+/// Puts a file in the stead of another, with these steps. The other name is gone then.
 fn check_watched_put(
     abort: &impl Abort,
     rt: &HostRuntime,
-    watch: &Watch,
+    fault: Fault,
     is_ok: bool,
     left: &[u8],
+    steps: &[Step],
 ) {
     place(abort, rt, "put.tmp", b"1");
-    let watched = Watched { rt, watch };
+    let watch = Watch::new(rt.alloc(), fault);
+    let watched = Watched { rt, watch: &watch };
     let mut folder = FolderCabinet::new(&watched);
     check_put(abort, &mut folder, "put.tmp", b"23", is_ok);
     check_left(abort, rt, "put.tmp", left);
+    check_steps(abort, rt.alloc(), &watch, steps);
     assert!(abort; !is_there(rt, "put.tmp.new"));
     let _ = fs::remove_file(rt, "put.tmp");
 }
 
+/// What a put does where a file has the name, which is tried for its lock before it is replaced.
+const PUT: [Step; 10] = [
+    Step::Create,
+    Step::Lock,
+    Step::Duplicate,
+    Step::Write,
+    Step::SyncAll,
+    Step::Open,
+    Step::Lock,
+    Step::Rename,
+    Step::OpenFolder,
+    Step::SyncFolder,
+];
+
 #[test]
 fn a_put_is_whole_on_the_disk_before_it_has_its_name(rt: HostRuntime) {
-    let watch = Watch::new(rt.alloc(), Fault::Nothing);
-    check_watched_put(&rt, &rt, &watch, true, b"23");
-    let steps = [
-        Step::Create,
-        Step::Lock,
-        Step::Duplicate,
-        Step::Write,
-        Step::SyncAll,
-        // The file that has the name is tried.
-        Step::Open,
-        Step::Lock,
-        Step::Rename,
-        Step::OpenFolder,
-        Step::SyncFolder,
-    ];
-    check_steps(&rt, rt.alloc(), &watch, &steps);
+    check_watched_put(&rt, &rt, Fault::Nothing, true, b"23", &PUT);
 }
 
 /// Puts a file into a folder of its own.
@@ -515,20 +517,56 @@ fn a_put_syncs_the_folder_of_its_own_path(rt: HostRuntime) -> Result<(), Fail> {
     Ok(())
 }
 
-#[test]
-fn a_put_that_fails_leaves_the_old_file_or_the_new_one(rt: HostRuntime) {
-    for (step, left) in [
-        (Step::Create, b"1".as_slice()),
-        (Step::Duplicate, b"1"),
-        (Step::Write, b"1"),
-        (Step::SyncAll, b"1"),
-        (Step::Rename, b"1"),
-        (Step::OpenFolder, b"23"),
-        (Step::SyncFolder, b"23"),
-    ] {
-        let watch = Watch::new(rt.alloc(), Fault::Kind(step));
-        check_watched_put(&rt, &rt, &watch, false, left);
+/// The steps up to one that fails, and the removal of the new file.
+fn removed_after(alloc: Global, done: usize) -> Result<Vec<Step>, Fail> {
+    let mut steps = Vec::new(alloc);
+    for step in PUT.iter().take(done) {
+        steps.push(*step)?;
     }
+    steps.push(Step::Remove)?;
+    Ok(steps)
+}
+
+#[test]
+fn a_put_that_fails_leaves_the_old_file(rt: HostRuntime) -> Result<(), Fail> {
+    check_watched_put(&rt, &rt, Fault::Kind(Step::Create), false, b"1", &PUT[..1]);
+    for (failing, done) in [
+        (Step::Duplicate, 3),
+        (Step::Write, 4),
+        (Step::SyncAll, 5),
+        (Step::Open, 6),
+        (Step::Rename, 8),
+    ] {
+        let steps = removed_after(rt.alloc(), done)?;
+        check_watched_put(&rt, &rt, Fault::Kind(failing), false, b"1", &steps);
+    }
+    Ok(())
+}
+
+#[test]
+fn a_put_that_fails_behind_the_name_leaves_the_new_file(rt: HostRuntime) {
+    for (failing, done) in [(Step::OpenFolder, 9), (Step::SyncFolder, 10)] {
+        check_watched_put(&rt, &rt, Fault::Kind(failing), false, b"23", &PUT[..done]);
+    }
+}
+
+/// A second run has removed the new file and made its own.
+#[test]
+fn a_put_leaves_a_file_that_is_not_its_own(rt: HostRuntime) -> Result<(), Fail> {
+    place(&rt, &rt, "put.tmp", b"1");
+    let watch = Watch::new(rt.alloc(), Fault::Stolen);
+    let watched = Watched {
+        rt: &rt,
+        watch: &watch,
+    };
+    let mut folder = FolderCabinet::new(&watched);
+    check_put(&rt, &mut folder, "put.tmp", b"23", false);
+    check_left(&rt, &rt, "put.tmp", b"1");
+    check_left(&rt, &rt, "put.tmp.new", b"stolen");
+    check_steps(&rt, rt.alloc(), &watch, &PUT[..5]);
+    fs::remove_file(&rt, "put.tmp")?;
+    fs::remove_file(&rt, "put.tmp.new")?;
+    Ok(())
 }
 
 /// Whoever has it locked goes on with it.

@@ -37,6 +37,8 @@ pub(crate) enum Fault {
     Nothing,
     Kind(Step),
     Everything(ErrorKind),
+    // A file that was synced loses its name to another one.
+    Stolen,
 }
 
 #[derive(Drop)]
@@ -71,9 +73,20 @@ impl Watch {
         self.fail_at(step)
     }
 
+    /// Whether a name is given to another file now.
+    fn steals(&self) -> bool {
+        match self.fault {
+            Fault::Stolen => match self.steps.try_borrow() {
+                Ok(steps) => steps.last().copied() == Some(Step::SyncAll),
+                Err(_) => false,
+            },
+            _ => false,
+        }
+    }
+
     fn fail_at(&self, step: Step) -> io::Result<()> {
         match self.fault {
-            Fault::Nothing => Ok(()),
+            Fault::Nothing | Fault::Stolen => Ok(()),
             Fault::Kind(failing) => {
                 if failing == step {
                     Err(io::Error::from(ErrorKind::StorageFull))
@@ -136,6 +149,10 @@ impl<'a> Files for Watched<'a> {
     }
 
     fn metadata(&self, path: &str) -> io::Result<Metadata> {
+        if self.watch.steals() {
+            self.rt.remove_file(path)?;
+            fs::write(self.rt, path, b"stolen")?;
+        }
         self.rt.metadata(path)
     }
 

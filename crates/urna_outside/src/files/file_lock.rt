@@ -1,5 +1,5 @@
 //! Files that one run at a time has open.
-use std::fs::OpenFile;
+use std::fs::{OpenFile, OpenOptions};
 use std::io::ErrorKind;
 use std::os::unix::fs::MetadataExt;
 use std::rt::Files;
@@ -40,18 +40,29 @@ where
     check_name(rt, opened, name)
 }
 
-/// Fails where a file of this name is locked: a flash that is open under another name, or what another run makes. A link isn't
-/// followed. A file that can't be opened is no flash of this run.
+/// Fails where a file of this name is locked, whoever has it locked: a flash that is open under another name is. A link isn't
+/// followed. A file that this run may not open is no flash of it; where an open fails otherwise, nothing is known of the file.
 pub(crate) fn check_free<R: Files>(rt: &R, name: &str) -> io::Result<()>
 where
     R::File: FileLock,
 {
     match fs::symlink_metadata(rt, name) {
-        Ok(named) if named.is_file() => match fs::open(rt, name) {
-            Ok(file) => file.try_lock(),
-            Err(_) => Ok(()),
-        },
+        Ok(named) if named.is_file() => try_lock_of(rt, name),
         _ => Ok(()),
+    }
+}
+
+/// The same of a file that has the name. It is opened for writing too, without which some file systems give no lock.
+fn try_lock_of<R: Files>(rt: &R, name: &str) -> io::Result<()>
+where
+    R::File: FileLock,
+{
+    match OpenOptions::new().read(true).write(true).open(rt, name) {
+        Ok(file) => file.try_lock(),
+        Err(error) => match error.kind() {
+            ErrorKind::NotFound | ErrorKind::PermissionDenied => Ok(()),
+            _ => Err(error),
+        },
     }
 }
 

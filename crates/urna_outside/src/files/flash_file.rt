@@ -1,7 +1,7 @@
 //! A flash device as a file of the working folder.
 use crate::Dev;
 use crate::files::file_lock::{FileLock, above_streams, check_name, lock_named};
-use crate::files::new_file::{create, fill, sync_folder};
+use crate::files::new_file::{create, fill, remove_own, sync_folder};
 use std::fs::{OpenFile, OpenOptions};
 use std::io::{ErrorKind, Read, Seek, SeekFrom, Write};
 use std::rt::Files;
@@ -49,8 +49,7 @@ where
     let name = unfinished_name(dev);
     let created = create(rt, name)?;
     let made = fill_and_name(rt, &created, dev, size);
-    // While it is locked.
-    let removed = fs::remove_file(rt, name);
+    let removed = remove_own(rt, &created, name);
     let file = made?;
     removed?;
     Ok(file)

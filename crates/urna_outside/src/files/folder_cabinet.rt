@@ -15,12 +15,13 @@ use std::rt::Files;
 /// `take`: Missing is exactly where the open says that there is no such file or folder: an absent file, an absent folder
 /// on its path, the empty name. Every other refusal of the system is Failed.
 ///
-/// `put`: a file is never put half. It is made as `NAME.new` beside the name, where what an earlier run left is removed and
-/// no link is followed, and takes its name when it is on the disk; then the folder is synced. A link of that name is
-/// replaced; a file of that name too, unless it is locked, as a flash is that is open under another name. Every refusal of
-/// the system is Failed, want of memory too: a folder of that name, an absent folder on its path, a `NAME.new` that another
-/// run makes or that can't be opened, a name or a path that is too long with `.new`. A put that fails removes `NAME.new`
-/// again, unless it could not lock it: that may be another run's, and if it isn't, the next put removes it.
+/// `put`: the name has the old file or the whole new one (docs/CRASH.md, "Real files", has one case where it hasn't). It is
+/// made as `NAME.new` beside the name, where what an earlier run left is removed and no link is followed, and takes its name
+/// when it is on the disk; then the folder is synced. A link of that name is replaced; a file of that name too, unless it is
+/// locked, as a flash is that is open under another name. Every refusal of the system is Failed, want of memory too: a folder
+/// of that name, an absent folder on its path, a `NAME.new` that another run makes or that can't be opened, a name or a path
+/// that is too long with `.new`. A put that fails removes `NAME.new` again, unless it could not lock it: that may be another
+/// run's, and if it isn't, the next put removes it.
 #[derive(Drop)]
 pub struct FolderCabinet<'a, R> {
     rt: &'a R,

@@ -1,5 +1,5 @@
 //! A new file is made under another name than its own, and gets its own only when it is whole on the disk.
-use crate::files::file_lock::{FileLock, above_streams, lock_named};
+use crate::files::file_lock::{FileLock, above_streams, check_name, lock_named};
 use std::fs::{OpenFile, OpenOptions};
 use std::io::{ErrorKind, Read, Write};
 use std::rt::Files;
@@ -48,6 +48,13 @@ pub(crate) fn fill<F: Write + OpenFile + Drop, S: Read>(
     io::copy(content, &mut file)?;
     file.sync_all()?;
     Ok(file)
+}
+
+/// Removes the other name of a new file, while it is locked. Where a link stood there, a second run may have removed this file
+/// in its place, and what has the name by now stays.
+pub(crate) fn remove_own<R: Files>(rt: &R, created: &R::File, name: &str) -> io::Result<()> {
+    check_name(rt, created, name)?;
+    fs::remove_file(rt, name)
 }
 
 /// Brings the names of a folder to the disk.

@@ -2,7 +2,7 @@
 ghost use Rattle.std.specs.Prelude.{◌++◌, ◌≡◌, IfOk};
 
 use crate::files::file_lock::{FileLock, check_free, check_name};
-use crate::files::new_file::{create, fill, sync_folder};
+use crate::files::new_file::{create, fill, remove_own, sync_folder};
 use std::io::ErrorKind;
 use std::rt::Files;
 use std::{fs, io};
@@ -70,8 +70,7 @@ where
     let file = match fill_and_rename(rt, &created, unfinished, name, bytes) {
         Ok(file) => file,
         Err(error) => {
-            // While it is locked.
-            let _ = fs::remove_file(rt, unfinished);
+            let _ = remove_own(rt, &created, unfinished);
             return Err(error);
         }
     };
