@@ -1,5 +1,5 @@
 -- Where a call has what it needs, each other ending shows a fault
-use Rattle.std.proofs.Common.{◌≡◌, ◌⊎◌, inl, inr, ℕ, ◌≤◌, List, [], ◌∷◌, length, Option, Some, refl, sym, ap, subst, ◌∙◌, arith}
+use Rattle.std.proofs.Common.{◌≡◌, ◌⊎◌, inl, inr, false, ℕ, ◌≤◌, List, [], ◌∷◌, length, Option, Some, refl, sym, ap, subst, ◌∙◌, arith}
 use Rattle.std.specs.Option.{ForSome}
 use Rattle.urna_outside.specs.Cabinet.{CabinetTold, Entry, Files, Tally}
 use Rattle.urna_outside.specs.Flash.{Flashes}
@@ -30,17 +30,19 @@ use Rattle.station.specs.declared.station.StartError.{StartError}
 use Rattle.station.specs.declared.station.StartError.TheVariants as start
 use Rattle.urna_app.specs.Carga.{CargaEnds, IsSectionAsked, load_no_cabinet, load_no_memory, load_refused, loaded, no_section, not_loaded, not_told}
 use Rattle.urna_app.specs.Command.{Carga, Confere, Emite, ToCheck, ToEmit, ToLoad, ToVote, Vota, command_of}
-use Rattle.urna_app.specs.Completion.{CanCheck, CanEmit, CanLoad, CanVote, CompletesWhereItCan, IsDoneOrMemory}
+use Rattle.urna_app.specs.Completion.{CanCheck, CanEmit, CanLoad, CanVote, CompletesWhereItCan, IsDoneOrMemory, TellsOfRisenCounts, tells_of_count}
 use Rattle.urna_app.specs.Confere.{ConfereEnds, check_no_cabinet, check_no_memory, check_not_told, check_refused, checked}
-use Rattle.urna_app.specs.Documents.{HasDocuments, IsFirstFault, first_other, first_tables}
+use Rattle.urna_app.specs.Documents.{HasDocuments, IsBad, IsFault, IsFirstFault, bad, count, first_other, first_tables, lacks, line, longer, no_document, roll_line, rule}
 use Rattle.urna_app.specs.Emite.{EmiteEnds, emit_no_cabinet, emit_no_memory, emit_refused, emitted, files_stopped, no_files, not_emitted, not_found, not_sealed}
 use Rattle.urna_app.specs.Ending.{CommandEnds, carga, confere, emite, no_command, vota}
 use Rattle.urna_app.specs.Errors.{load_status, port_status, start_status, store_status}
 use Rattle.urna_app.specs.FaultLines.{Tells, fault_text}
 use Rattle.urna_app.specs.Laws.{FoundOnce}
 use Rattle.urna_app.specs.Putting.{PutsResults, StopPutting, no_results, result_files, results_not_made, results_not_put, results_put}
+use Rattle.urna_app.specs.Taking.{HasTaken}
 use Rattle.urna_app.specs.Verdicts.{verdict_status}
-use Rattle.urna_app.specs.Vota.{HasVotedTo, IsGiven, IsRefused, VotaEnds, cut, no_cabinet, no_memory, not_started, refused, session_held}
+use Rattle.urna_app.specs.Vota.{HasVotedTo, IsGiven, IsRefused, VotaEnds, cut, documents, keys, no_cabinet, no_memory, not_started, refused, session_held}
+use Rattle.urna_app.specs.declared.status.Doc.{Doc}
 use Rattle.urna_app.specs.declared.status.Doc.TheVariants as doc
 use Rattle.urna_app.specs.declared.status.Status.{Status}
 use Rattle.urna_app.specs.declared.status.Status.TheVariants as status
@@ -151,11 +153,11 @@ carga_completes names c d m b s files flashes told none calm flashes_told can (l
 carga_completes names c d m b s files flashes told none calm flashes_told can (load_no_memory taken untouched) = inr refl
 carga_completes names c d m b s files flashes told none calm flashes_told can (load_no_cabinet taken untouched) =
     absurd (none taken.counts.faults.rose)
-carga_completes names c d m b s files flashes told none calm flashes_told can (no_section {t} {r} given lacks taken untouched) =
+carga_completes names c d m b s files flashes told none calm flashes_told can (no_section {t} {r} given none_asked taken untouched) =
     let found = subst (λ (f : Option Files). HasDocuments f names.tables names.roll t r) told given in
     let tables = same_tables files names.tables t can.t found.tables can.given.tables in
     let roll = same_roll files names.roll r can.r found.roll can.given.roll in
-    absurd (lacks can.section
+    absurd (none_asked can.section
     (subst (λ (x : TablesData). IsSectionAsked names x r can.section) (sym tables)
     (subst (λ (x : RollData). IsSectionAsked names can.t x can.section) (sym roll) can.asked)))
 carga_completes names c d m b s files flashes told none calm flashes_told can (not_loaded e given asked taken fails) = loads e calm fails
@@ -285,3 +287,123 @@ completes either decoded once words c d m n s files told failed ends =
       λ names is can.
           confere_completes names c d m b s files told failed.cabinet quietly can (of_confere words names c d m b s is ends.command),
     )
+
+-- ---- over any cabinet and machine
+
+-- nothing counted: no count rose of the cabinet's three, and none of a port before the line of the status
+record NothingCounted (c d : CabinetTold) (s : Status) (m b : Told) : Type 0 where
+  faults : ¬ Rose c.tally.faults d.tally.faults
+  missing : ¬ Rose c.tally.missing d.tally.missing
+  too_long : ¬ Rose c.tally.too_long d.tally.too_long
+  calm : Calm s m b
+
+-- a document at fault that is there tells of no count
+not_bad : (x : Doc) (bytes : List ℕ) (s : Status) → IsBad x bytes s → tells_of_count s ≡ false
+not_bad x bytes s (no_document h) = refl
+not_bad x bytes s (rule h) = refl
+not_bad x bytes s (count h) = refl
+not_bad x bytes s (roll_line h) = refl
+not_bad x bytes s (line h) = refl
+
+fault_counts : (files : Option Files) (name : List ℕ) (x : Doc) (most : ℕ) (c d : CabinetTold) (s : Status) (m b : Told) → NothingCounted c d s m b
+    → HasTaken most s c d → IsFault files name x s → tells_of_count s ≡ false
+fault_counts files name x most c d s m b none taken (lacks h) = absurd (none.missing taken.counts.missing.rose)
+fault_counts files name x most c d s m b none taken (longer h) = absurd (none.too_long taken.counts.too_long.rose)
+fault_counts files name x most c d s m b none taken (bad {bytes} held h) = not_bad x bytes s h
+
+first_counts : (files : Option Files) (tables : List ℕ) (x : Doc) (name : List ℕ) (most : ℕ) (c d : CabinetTold) (s : Status) (m b : Told)
+    → NothingCounted c d s m b → HasTaken most s c d → IsFirstFault files tables x name s → tells_of_count s ≡ false
+first_counts files tables x name most c d s m b none taken (first_tables h) = fault_counts files tables doc.Tables most c d s m b none taken h
+first_counts files tables x name most c d s m b none taken (first_other has h) = fault_counts files name x most c d s m b none taken h
+
+done_or_memory : (s : Status) → IsDoneOrMemory s → tells_of_count s ≡ false
+done_or_memory s (inl e) = ap tells_of_count e
+done_or_memory s (inr e) = ap tells_of_count e
+
+vota_counts : (names : Vota) (c d : CabinetTold) (m b : Told) (s : Status) → NothingCounted c d s m b → VotaEnds names c d m b s → tells_of_count s ≡ false
+vota_counts names c d m b s none (refused h taken untouched) = by_document h
+  where
+    by_document : IsRefused c.files names s → tells_of_count s ≡ false
+    by_document (documents h) = first_counts c.files names.tables doc.Roll names.roll 3 c d s m b none taken h
+    by_document (keys has read h) = fault_counts c.files names.keys doc.Keys 3 c d s m b none taken h
+vota_counts names c d m b s none (no_memory taken untouched) = refl
+vota_counts names c d m b s none (no_cabinet taken untouched) = absurd (none.faults taken.counts.faults.rose)
+vota_counts names c d m b s none (not_started {t} {r} e given taken fails) = starting e none.calm fails
+  where
+    starting : (e : StartError) → Calm (start_status e) m b → FailsToStart t r m b e → tells_of_count (start_status e) ≡ false
+    starting start.Memory calm h = refl
+    starting (start.Port Internal) calm h = absurd (calm Internal refl h.0.faults.rose)
+    starting (start.Port External) calm h = absurd (calm External refl h.0.faults.rose)
+    starting (start.Port Display) calm h =
+        absurd (calm Display refl (since Display m h.between b h.recovered.fine.faults h.stopped.fault.faults.rose))
+    starting (start.Foreign x) calm h = refl
+    starting start.NoImage calm h = refl
+vota_counts names c d m b s none (cut {t} {r} {es} p given taken voted) = absurd (none.calm p refl (voted_rose t r es p m b voted))
+vota_counts names c d m b s none (session_held {t} between given taken h one_of state puts) =
+    done_or_memory s (put_ends names.out t h.load.section h.last between d s
+    (λ rose. none.faults (subst (λ (tally : Tally). Rose tally.faults d.tally.faults) taken.counts rose)) puts)
+
+carga_counts : (names : Carga) (c d : CabinetTold) (m b : Told) (s : Status) → NothingCounted c d s m b → CargaEnds names c d m b s → tells_of_count s ≡ false
+carga_counts names c d m b s none (load_refused h taken untouched) = first_counts c.files names.tables doc.Roll names.roll 2 c d s m b none taken h
+carga_counts names c d m b s none (load_no_memory taken untouched) = refl
+carga_counts names c d m b s none (load_no_cabinet taken untouched) = absurd (none.faults taken.counts.faults.rose)
+carga_counts names c d m b s none (no_section given lacks_it taken untouched) = refl
+carga_counts names c d m b s none (not_loaded e given asked taken fails) = loading e none.calm fails
+  where
+    loading : (e : LoadError) → Calm (load_status e) m b → FailsToLoad m b e → tells_of_count (load_status e) ≡ false
+    loading load.Memory calm h = refl
+    loading (load.Flash x) calm h = absurd (calm (port_of x) refl h.0.faults.rose)
+    loading (load.Busy x) calm h = refl
+carga_counts names c d m b s none (not_told between given asked taken loading off) =
+    absurd (none.calm Display refl (since Display m between b loading.fine.faults off.faults.rose))
+carga_counts names c d m b s none (loaded between given asked taken loading shown) = refl
+
+emite_counts : (names : Emite) (c d : CabinetTold) (m b : Told) (s : Status) → NothingCounted c d s m b → EmiteEnds names c d m b s → tells_of_count s ≡ false
+emite_counts names c d m b s none (emit_refused h taken untouched) = first_counts c.files names.tables doc.Roll names.roll 2 c d s m b none taken h
+emite_counts names c d m b s none (emit_no_memory taken untouched) = refl
+emite_counts names c d m b s none (emit_no_cabinet taken untouched) = absurd (none.faults taken.counts.faults.rose)
+emite_counts names c d m b s none (not_found {t} {r} e given taken fails) = peeking e none.calm fails
+  where
+    peeking : (e : StoreError) → Calm (store_status e) m b → FailsToPeek t r m b e → tells_of_count (store_status e) ≡ false
+    peeking store.Memory calm h = refl
+    peeking (store.Flash x) calm h = absurd (calm (port_of x) refl h.0.faults.rose)
+    peeking (store.Foreign x) calm h = refl
+    peeking store.NoImage calm h = refl
+emite_counts names c d m b s none (not_sealed given taken peeked unsealed) = refl
+emite_counts names c d m b s none (no_files given taken peeked sealed) = refl
+emite_counts names c d m b s none (files_stopped {t} {section} {s = u} {opened} {closed} between given taken peeked sealed stop) =
+    absurd (none.faults (subst (λ (tally : Tally). Rose tally.faults d.tally.faults) taken.counts
+    (stopped_rose (result_files names.out t section u opened closed) between d stop)))
+emite_counts names c d m b s none (not_emitted put_to between given taken peeked sealed put off) =
+    absurd (none.calm Display refl (since Display m between b peeked.synced.fine.faults off.faults.rose))
+emite_counts names c d m b s none (emitted put_to between given taken peeked sealed put shown) = refl
+
+confere_counts : (names : Confere) (c d : CabinetTold) (m b : Told) (s : Status) → NothingCounted c d s m b → ConfereEnds names c d m b s
+    → tells_of_count s ≡ false
+confere_counts names c d m b s none (check_refused h taken untouched) =
+    first_counts c.files names.tables doc.Report names.report 2 c d s m b none taken h
+confere_counts names c d m b s none (check_no_memory taken untouched) = refl
+confere_counts names c d m b s none (check_no_cabinet taken untouched) = absurd (none.faults taken.counts.faults.rose)
+confere_counts names c d m b s none (check_not_told given taken off) = absurd (none.calm Display refl off.faults.rose)
+confere_counts names c d m b s none (checked {v} given taken shown) = by_verdict v
+  where
+    by_verdict : (v : Verdict) → tells_of_count (verdict_status v) ≡ false
+    by_verdict (verdict.Accepted zone number) = refl
+    by_verdict (verdict.Part f) = refl
+    by_verdict (verdict.Fields f) = refl
+    by_verdict verdict.Strange = refl
+    by_verdict (verdict.Repeated zone number) = refl
+    by_verdict (verdict.Conflict zone number) = refl
+
+command_counts : (words : List (List ℕ)) (c d : CabinetTold) (m b : Told) (s : Status) → NothingCounted c d s m b → CommandEnds words c d m b s
+    → tells_of_count s ≡ false
+command_counts words c d m b s none (no_command not_one taken untouched) = refl
+command_counts words c d m b s none (vota {names} is ends) = vota_counts names c d m b s none ends
+command_counts words c d m b s none (carga {names} is ends) = carga_counts names c d m b s none ends
+command_counts words c d m b s none (emite {names} is ends) = emite_counts names c d m b s none ends
+command_counts words c d m b s none (confere {names} is ends) = confere_counts names c d m b s none ends
+
+pub tells_of_risen_counts : TellsOfRisenCounts
+tells_of_risen_counts words c d m n s failed missing too_long ends =
+    command_counts words c d m ends.between s
+    (record { faults = failed.cabinet; missing = missing; too_long = too_long; calm = calm s m ends.between n failed.ports ends.told }) ends.command

@@ -1,5 +1,5 @@
 -- Calls that have what they need and meet no fault: they do all their steps, or memory was wanted
-use Rattle.std.specs.Prelude.{◌≡◌, ◌⊎◌, ℕ, List, Option, Some}
+use Rattle.std.specs.Prelude.{◌≡◌, ◌⊎◌, ℕ, Bool, true, false, List, Option, Some}
 use Rattle.urna_outside.specs.Cabinet.{CabinetTold, Files}
 use Rattle.urna_outside.specs.Flash.{Flashes}
 use Rattle.urna_outside.specs.Told.{Rose, Told, faults_of}
@@ -29,6 +29,29 @@ pub record NothingFailed (c d : CabinetTold) (m n : Told) : Type 0 where
 -- the call did all its steps, or memory was wanted
 abbrev pub IsDoneOrMemory : Status → Type 0
 IsDoneOrMemory s = (s ≡ status.Done) ⊎ (s ≡ status.Memory)
+
+-- the status tells of a fault of the cabinet or of a port, of a name not found, or of a file found too long
+abbrev pub tells_of_count : Status → Bool
+tells_of_count status.Cabinet = true
+tells_of_count (status.Missing d) = true
+tells_of_count (status.TooLong d) = true
+tells_of_count status.InternalFlash = true
+tells_of_count status.ExternalFlash = true
+tells_of_count status.Display = true
+tells_of_count status.Done = false
+tells_of_count status.Memory = false
+tells_of_count status.Usage = false
+tells_of_count status.TablesNotToml = false
+tells_of_count (status.TablesRule k) = false
+tells_of_count status.RollCount = false
+tells_of_count (status.RollLine k) = false
+tells_of_count (status.Line k) = false
+tells_of_count (status.ReportRefused v) = false
+tells_of_count (status.Foreign d) = false
+tells_of_count status.NoImage = false
+tells_of_count (status.Busy d) = false
+tells_of_count status.NotSealed = false
+tells_of_count status.NoSection = false
 
 -- ---- what the commands need
 
@@ -73,8 +96,8 @@ pub record CanCheck (names : Confere) (files : Option Files) : Type 0 where
 
 -- ---- and then they complete
 
--- A call of the program that has what its command needs, and in which no count of faults rose, is Done, or memory was wanted; a check may
--- refuse the report besides.
+-- Where the cabinet tells its files and the machine its flashes, a call of the program that has what its command needs, and in which no
+-- count of faults rose, is Done, or memory was wanted; a check may refuse the report besides.
 abbrev pub CompletesWhereItCan : Type 0
 CompletesWhereItCan = (words : List (List ℕ)) (c d : CabinetTold) (m n : Told) (s : Status) (files : Files)
     → c.files ≡ Some files → NothingFailed c d m n → Ends words c d m n s
@@ -86,3 +109,9 @@ CompletesWhereItCan = (words : List (List ℕ)) (c d : CabinetTold) (m n : Told)
     → CanEmit names (Some files) flashes → IsDoneOrMemory s)
     × ((names : Confere) → command_of words ≡ Some (ToCheck names) → CanCheck names (Some files)
     → IsDoneOrMemory s ⊎ ((v : Verdict) × (s ≡ status.ReportRefused v)))
+
+-- Of any cabinet and machine: where no count rose in a call, also not that of names not found or of files found too long, the status tells
+-- of none.
+abbrev pub TellsOfRisenCounts : Type 0
+TellsOfRisenCounts = (words : List (List ℕ)) (c d : CabinetTold) (m n : Told) (s : Status) → NothingFailed c d m n
+    → ¬ Rose c.tally.missing d.tally.missing → ¬ Rose c.tally.too_long d.tally.too_long → Ends words c d m n s → tells_of_count s ≡ false

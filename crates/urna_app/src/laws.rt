@@ -1,7 +1,7 @@
 //! Laws of endings (`specs/Laws.antt`, `specs/Completion.antt`), of reports (`specs/Reports.antt`), of what is left at rest (`specs/AtRest.antt`), and the
 //! headline (`specs/Headline.antt`).
 ghost use Rattle.urna_app.specs.AtRest.{SameAtRest};
-ghost use Rattle.urna_app.specs.Completion.{CompletesWhereItCan};
+ghost use Rattle.urna_app.specs.Completion.{CompletesWhereItCan, TellsOfRisenCounts};
 ghost use Rattle.urna_app.specs.Headline.{AllAreCounted, DayKeepsVotes, KeysHaveRun, LoadBeginsDay, VotesAreKept};
 ghost use Rattle.urna_app.specs.Laws.{FoundOnce, RefusedOnce, RefusedOrGiven};
 ghost use Rattle.urna_app.specs.Putting.{BothAreThere};
@@ -22,10 +22,12 @@ pub fn one_poll()
     state_store::laws::one_held();
 }
 
-/// A call whose words, files and flashes are what its command needs, and in which nothing failed, does all its steps, or memory was
-/// wanted; `confere` may refuse the report besides.
+/// Where the cabinet tells its files and the machine its flashes, a call that has what its command needs, and in which nothing failed,
+/// does all its steps, or memory was wanted; `confere` may refuse the report besides. Over any cabinet and machine a call in which no
+/// count rose tells of none.
 pub fn completion()
-    ensures { CompletesWhereItCan }
+    ensures told { CompletesWhereItCan }
+    ensures counts { TellsOfRisenCounts }
 {
     one_poll();
     state_store::laws::one_finding();
