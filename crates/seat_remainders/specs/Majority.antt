@@ -7,7 +7,7 @@ use Rattle.seat_remainders.specs.declared.outcome.MajorityOutcome.TheVariants.{E
 use Rattle.seat_remainders.specs.Candidates.{in_order}
 use Rattle.seat_remainders.specs.Parties.{nominal_votes}
 
--- the first two of ordered candidates go to a second round
+-- the first two of ordered candidates go to a second round; one alone has all votes, so that only two or more come to it
 abbrev pub second_round : List Entry → MajorityOutcome
 second_round [] = Nobody
 second_round (a ∷ []) = Elected a.number

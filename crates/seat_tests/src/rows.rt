@@ -1,5 +1,5 @@
-//! The rows of the tests. What comes of each contest was worked out from the articles, with fractions, by a script that knows nothing
-//! of this program; `docs/RULES.md`, "The seats", has the rules.
+//! The rows of the tests. What comes of each contest follows from the rules of `docs/RULES.md`, "The seats": `tests/seats.py` works it
+//! out with fractions, and knows nothing of this program.
 use seat_remainders::MajorityOutcome;
 
 /// A name, a contest, and what comes of it. The contest has its seats, and each party its number, its party votes behind `L`, and the
@@ -59,9 +59,9 @@ pub(crate) const CONTESTS: &[(&str, &str, &str)] = &[
         "QE 100, 10: 300 3 3, 11: 100 1 1, rounds, elected 10001 10002 10003 11001, vacant 0",
     ),
     (
-        "one party alone",
-        "3 seats, 10: L10 30 20 20 10 10",
-        "QE 33, 10: 100 3 3, rounds, elected 10001 10002 10003, vacant 0",
+        "a party below eighty percent takes the last seat",
+        "2 seats, 10: 61, 11: 39",
+        "QE 50, 10: 61 1 1, 11: 39 0 1, rounds 3>11, elected 10001 11001, vacant 0",
     ),
     (
         "one party with too few candidates",
@@ -129,6 +129,7 @@ pub(crate) const CONTESTS: &[(&str, &str, &str)] = &[
         "QE 125, 10: 200 1 1, 11: 300 2 3, rounds 2>11, elected 10001 11001 11002 11003, vacant 0",
     ),
     (
+        // Who divides by one more than the party quotient in every round gives party 11 the second seat too.
         "equal averages and votes, the lower number",
         "5 seats, 10: 100 100 100, 11: 90 90, 12: 90 90, 13: 85 85, 14: 85 85",
         "QE 200, 10: 300 1 1, 11: 180 0 1, 12: 180 0 1, 13: 170 0 1, 14: 170 0 1, rounds 2>11 2>12 2>13 2>14, \
