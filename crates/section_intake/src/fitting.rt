@@ -1,7 +1,6 @@
 //! Whether a report is of the election of some tables.
-ghost use Rattle.std.specs.Prelude.{◌≡◌, ◌<◌, ◌≤◌, Some, length, slice_get};
-ghost use Rattle.election_tables.specs.TablesData.{IsTables, candidates_at};
-ghost use Rattle.election_tables.specs.declared.tables.candidates.NamedCandidate.{NamedCandidate};
+ghost use Rattle.std.specs.Prelude.{◌≡◌, ◌<◌, length};
+ghost use Rattle.election_tables.specs.TablesData.{IsTables};
 ghost use Rattle.vote_kinds.specs.Ballot.{is_choice, line_of, lines_by_panel};
 ghost use Rattle.section_intake.specs.Fitting.{are_candidates, are_parties, fit_lines, fits, fits_election, fits_line, fits_section, is_party};
 
@@ -63,11 +62,10 @@ fn fits_panel(tables: &Tables, panel: u32, office: &OfficeCount) -> bool
             && are_parties(tables, panel, office.parties.as_slice()))
 }
 
-/// The first place from this one on where a candidate of the panel has this number or a greater one; the end of the list where none
-/// has.
+/// Where a number is looked for first: the first place from this one on where a candidate of the panel has it or a greater one. It is a
+/// guess, on which no answer rests.
 fn next_place(tables: &Tables, panel: u32, from: u32, number: u32) -> u32
     requires { panel < length tables.now.panels }
-    ensures { (c : NamedCandidate) → slice_get (candidates_at panel tables.now) result ≡ Some c → number ≤ c.number }
 {
     let end = tables.candidate_count(panel);
     for place in from..end {
