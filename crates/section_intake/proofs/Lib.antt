@@ -1,3 +1,7 @@
+pub mod AcceptedLaws
+pub mod BehindLaws
 pub mod FileLaws
 pub mod FitLaws
+pub mod Members
+pub mod ReportLaws
 pub mod VerdictLaws

@@ -19,7 +19,7 @@ use Rattle.section_intake.specs.declared.verdict.Verdict.{Verdict}
 use Rattle.section_intake.specs.declared.verdict.Verdict.TheVariants as verdict
 use Rattle.section_intake.proofs.FitLaws.{fit_says, says_fit}
 
-one_report : (bytes : List ℕ) (r q : Report) → length bytes < 2 ^ 63 → IsReportFile bytes r → IsReportFile bytes q → r ≡ q
+pub one_report : (bytes : List ℕ) (r q : Report) → length bytes < 2 ^ 63 → IsReportFile bytes r → IsReportFile bytes q → r ≡ q
 one_report bytes r q short h i =
     let same = parts.one_text bytes h.text i.text short h.parts i.parts in
     texts.one_spelled i.text r q (subst (λ (t : List ℕ). Spells t r) same h.spells) i.spells

@@ -1,5 +1,6 @@
 -- What is so of all files and tables.
-use Rattle.std.specs.Prelude.{◌≡◌, ◌<◌, ◌^◌, ℕ, List, length}
+use Rattle.std.specs.Prelude.{◌≡◌, ◌<◌, ◌≤◌, ◌^◌, ℕ, List, [], ◌∷◌, length}
+use Rattle.std.specs.List.{AllByRecursion}
 use Rattle.urna_base.specs.Words.{pieces}
 use Rattle.election_tables.specs.TablesData.{IsTables, TablesData}
 use Rattle.hash_chain.specs.Chain.{parts_text}
@@ -7,7 +8,9 @@ use Rattle.hash_chain.specs.Fault.{AreFields}
 use Rattle.poll_report.specs.Report.{IsReport}
 use Rattle.poll_report.specs.declared.report.Report.{Report}
 use Rattle.qr_text.specs.Spelling.{report_text}
+use Rattle.section_intake.specs.Accepted.{AreOffered, File, IsOfSection}
 use Rattle.section_intake.specs.Fits.{Fits}
+use Rattle.section_intake.specs.Sums.{AreReportsOf, all_sum, blank_sum, nominal_sum, null_sum, party_sum}
 use Rattle.section_intake.specs.Verdict.{IsVerdict}
 use Rattle.section_intake.specs.declared.verdict.Verdict.{Verdict}
 use Rattle.section_intake.specs.declared.verdict.Verdict.TheVariants as verdict
@@ -27,3 +30,56 @@ TextHasParts = (r : Report) → IsReport r → AreFields (pieces (report_text r)
 -- and the file of the parts is accepted by the tables that the report fits
 abbrev pub FileIsAccepted : Type 0
 FileIsAccepted = (t : TablesData) (r : Report) → IsReport r → Fits t r → IsVerdict t (parts_text (report_text r)) (verdict.Accepted r.zone r.section)
+
+-- ---- files that are offered one behind the other
+
+-- each of these files is shorter than 2^63 bytes
+abbrev pub AreShort : List File → Type 0
+AreShort files = AllByRecursion (λ file. length file < 2 ^ 63) files
+
+-- Of such files there are verdicts and accepted ones,
+abbrev pub SomeVerdicts : Type 0
+SomeVerdicts = (t : TablesData) (files : List File) → IsTables t → AreShort files
+    → (verdicts : List Verdict) × (accepted : List File) × AreOffered t files verdicts accepted
+
+-- and no others.
+abbrev pub OneListOfVerdicts : Type 0
+OneListOfVerdicts = (t : TablesData) (files : List File) (verdicts others : List Verdict) (accepted kept : List File) → AreShort files
+    → AreOffered t files verdicts accepted → AreOffered t files others kept → (verdicts ≡ others) × (accepted ≡ kept)
+
+-- each accepted file is by itself the report of a section
+abbrev pub EachIsAccepted : Type 0
+EachIsAccepted = (t : TablesData) (files : List File) (verdicts : List Verdict) (accepted : List File) → AreOffered t files verdicts accepted
+    → AllByRecursion (λ file. (zone : ℕ) × (section : ℕ) × IsOfSection t zone section file) accepted
+
+-- two files are of different sections
+abbrev pub AreApart : TablesData → File → File → Type 0
+AreApart t file other = (zone section : ℕ) → IsOfSection t zone section file → ¬ IsOfSection t zone section other
+
+-- of these files each two are
+abbrev pub AreAllApart : TablesData → List File → Type 0
+AreAllApart t [] = Unit {0}
+AreAllApart t (file ∷ files) = AllByRecursion (AreApart t file) files × AreAllApart t files
+
+-- so are accepted files,
+abbrev pub EachSectionOnce : Type 0
+EachSectionOnce = (t : TablesData) (files : List File) (verdicts : List Verdict) (accepted : List File) → AreShort files
+    → AreOffered t files verdicts accepted → AreAllApart t accepted
+
+-- and there are no more of them than sections
+abbrev pub NoMoreThanSections : Type 0
+NoMoreThanSections = (t : TablesData) (files : List File) (verdicts : List Verdict) (accepted : List File) → AreShort files
+    → AreOffered t files verdicts accepted → length accepted ≤ length t.sections
+
+-- ---- sums
+
+-- files have one list of reports, and so one of each sum
+abbrev pub OneListOfReports : Type 0
+OneListOfReports = (files : List File) (reports others : List Report) → AreShort files → AreReportsOf files reports → AreReportsOf files others
+    → reports ≡ others
+
+-- no sum is greater than that of all votes of the panel
+abbrev pub SumsAreWithinAll : Type 0
+SumsAreWithinAll = (panel number : ℕ) (reports : List Report)
+    → (nominal_sum panel number reports ≤ all_sum panel reports) × (party_sum panel number reports ≤ all_sum panel reports)
+    × (blank_sum panel reports ≤ all_sum panel reports) × (null_sum panel reports ≤ all_sum panel reports)

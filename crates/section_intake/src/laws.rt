@@ -1,5 +1,5 @@
 //! What is so of every file. Each function here does nothing: its contract is the law.
-ghost use Rattle.section_intake.specs.Laws.{FileIsAccepted, OneVerdict, SomeVerdict, TextHasParts};
+ghost use Rattle.section_intake.specs.Laws.{EachIsAccepted, EachSectionOnce, FileIsAccepted, NoMoreThanSections, OneListOfReports, OneListOfVerdicts, OneVerdict, SomeVerdict, SomeVerdicts, SumsAreWithinAll, TextHasParts};
 
 /// Of a file that is shorter than 2^63 bytes there is one verdict.
 pub fn verdicts()
@@ -11,4 +11,21 @@ pub fn verdicts()
 pub fn files()
     ensures parts { TextHasParts }
     ensures accepted { FileIsAccepted }
+{}
+
+/// Of files that are offered one behind the other, each shorter than 2^63 bytes, there is one list of verdicts and one of accepted
+/// files. Each accepted file is by itself the report of a section, and no other is of the same one, so there are no more of them
+/// than sections.
+pub fn offers()
+    ensures some { SomeVerdicts }
+    ensures one { OneListOfVerdicts }
+    ensures each { EachIsAccepted }
+    ensures once { EachSectionOnce }
+    ensures few { NoMoreThanSections }
+{}
+
+/// Of accepted files there is one list of reports, and so one of each sum.
+pub fn sums()
+    ensures one { OneListOfReports }
+    ensures within { SumsAreWithinAll }
 {}

@@ -1,0 +1,33 @@
+-- What is so of each element of a list, and of the one behind them.
+use Rattle.std.proofs.Common.{◌≡◌, zero, suc, ◌⊎◌, List, [], ◌∷◌, ◌++◌, length, refl, sym, ap, ◌∙◌, subst, inl, inr, arith}
+use Rattle.std.specs.List.{AllByRecursion, Contains}
+
+pub all_append : {X : Type 0} (P : X → Type 0) (xs ys : List X) → AllByRecursion P xs → AllByRecursion P ys → AllByRecursion P (xs ++ ys)
+all_append P [] ys first rest = rest
+all_append P (x ∷ xs) ys first rest = (first.0, all_append P xs ys first.1 rest)
+
+pub all_but_last : {X : Type 0} (P : X → Type 0) (xs : List X) (x : X) → AllByRecursion P (xs ++ x ∷ []) → AllByRecursion P xs × P x
+all_but_last P [] x all = (tt, all.0)
+all_but_last P (y ∷ xs) x all = let rest = all_but_last P xs x all.1 in ((all.0, rest.0), rest.1)
+
+pub contains_cases : {X : Type 0} (y x : X) (xs : List X) → Contains (y ∷ xs) x → (y ≡ x) ⊎ Contains xs x
+contains_cases y x xs (zero, lt, e) = inl e
+contains_cases y x xs (suc k, lt, e) = inr (k, omega arith, e)
+
+pub all_of_member : {X : Type 0} (P : X → Type 0) (xs : List X) (x : X) → AllByRecursion P xs → Contains xs x → P x
+all_of_member P [] x all (k, lt, e) = absurd (omega arith)
+all_of_member P (y ∷ xs) x all at = elim (contains_cases y x xs at) [
+  | inl same ↦ subst P same all.0
+  | inr rest ↦ all_of_member P xs x all.1 rest
+]
+
+-- a list with one member of x taken out has every other member, and is shorter
+pub taken : {X : Type 0} (xs : List X) (x : X) → Contains xs x
+    → (rest : List X) × (suc (length rest) ≡ length xs) × ((y : X) → Contains xs y → (y ≡ x → ⊥) → Contains rest y)
+taken [] x (k, lt, e) = absurd (omega arith)
+taken (z ∷ xs) x at = elim (contains_cases z x xs at) [
+  | inl is ↦ (xs, refl, λ y there ne. elim (contains_cases z y xs there) [ inl e ↦ absurd (ne (sym e ∙ is)) | inr t ↦ t ])
+  | inr later ↦
+      let (rest, len, others) = taken xs x later in
+      (z ∷ rest, ap suc len, λ y there ne. elim (contains_cases z y xs there) [ inl e ↦ (0, omega arith, e) | inr t ↦ let (k, lt, e) = others y t ne in (suc k, omega arith, e) ])
+]

@@ -1,0 +1,9 @@
+use Rattle.section_intake.proofs.ReportLaws.{one_list}
+use Rattle.section_intake.proofs.AcceptedLaws.{sums_within_all}
+use Rattle.section_intake.proofs.laws.sums.Goals as goal
+
+pub returns-clause-one : goal.returns-clause-one
+returns-clause-one c = one_list
+
+pub returns-clause-within : goal.returns-clause-within
+returns-clause-within c = sums_within_all
