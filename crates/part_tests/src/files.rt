@@ -126,8 +126,13 @@ fn each_cut_is_told(rt: HostRuntime) -> Result<(), Fail> {
     Ok(())
 }
 
+/// The file of a field text that one part holds.
+pub(crate) fn file_of(alloc: Global, text: &str) -> Result<String, AllocError> {
+    made(alloc, &[("QRBU:1:1 VRQR:U1 ", 0, text)])
+}
+
 /// How the rows tell a verdict.
-fn told_verdict(alloc: Global, verdict: Verdict) -> Result<String, AllocError> {
+pub(crate) fn told_verdict(alloc: Global, verdict: Verdict) -> Result<String, AllocError> {
     match verdict {
         Verdict::Accepted { zone, section } => format!(in alloc; "ACEITO {zone} {section}"),
         Verdict::Part(fault) => told_part(alloc, fault),
@@ -136,14 +141,18 @@ fn told_verdict(alloc: Global, verdict: Verdict) -> Result<String, AllocError> {
             format!(in alloc; "SOMA {field} {sum} {said}")
         }
         Verdict::Strange => String::from_str(alloc, "ESTRANHO"),
-        Verdict::Repeated { .. } => String::from_str(alloc, "REPETIDO"),
-        Verdict::Conflict { .. } => String::from_str(alloc, "CONFLITO"),
+        Verdict::Repeated { zone, section } => {
+            format!(in alloc; "REPETIDO {zone} {section}")
+        }
+        Verdict::Conflict { zone, section } => {
+            format!(in alloc; "CONFLITO {zone} {section}")
+        }
     }
 }
 
 /// Whether the verdict on the file of a field text is told so.
 fn has_verdict(alloc: Global, tables: &Tables, text: &str, told: &str) -> Result<bool, Memory> {
-    let file = made(alloc, &[("QRBU:1:1 VRQR:U1 ", 0, text)])?;
+    let file = file_of(alloc, text)?;
     if file.as_bytes().len() >= 1 << 31 {
         return Ok(false);
     }

@@ -10,6 +10,8 @@ mod codec;
 #[cfg(test)]
 mod files;
 #[cfg(test)]
+mod intake;
+#[cfg(test)]
 mod marks;
 #[cfg(test)]
 mod names;

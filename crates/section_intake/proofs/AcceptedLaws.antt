@@ -1,23 +1,26 @@
 -- How many files are accepted, and how great the sums of their reports are.
-use Rattle.std.proofs.Common.{◌≡◌, ℕ, ◌≤◌, ◌==◌, if◌then◌else◌, true, false, List, [], ◌∷◌, slice_get, Option, None, Some, subst, inl, inr, arith}
+use Rattle.std.proofs.Common.{◌≡◌, ℕ, zero, suc, ◌+◌, ◌*◌, ◌<◌, ◌≤◌, ◌^◌, ◌==◌, if◌then◌else◌, true, false, List, [], ◌∷◌, ◌++◌, length, slice_get, Option, None, Some, subst, inl, inr, arith}
 use Rattle.std.specs.List.{AllByRecursion, sum_by}
 use Rattle.std.specs.Option.{option_map_or}
 use Rattle.std.proofs.lemmas.Bool.{cases_Bool}
 use Rattle.std.proofs.lemmas.Bool.Decides.{nat_tests}
-use Rattle.std.proofs.lemmas.List.Sums.{sum_by-le-sum_by}
+use Rattle.std.proofs.lemmas.List.Sums.{sum_by-cons, sum_by-le-sum_by}
+use Rattle.election_tables.specs.Limits.{most_sections}
 use Rattle.election_tables.specs.TablesData.{TablesData}
-use Rattle.poll_report.specs.Report.{total_of, votes_of}
+use Rattle.poll_report.specs.Report.{EachAfter, IsReport, MayCount, greatest_count, total_of, votes_of}
 use Rattle.poll_report.specs.declared.report.Count.{Count}
 use Rattle.poll_report.specs.declared.report.OfficeCount.{OfficeCount}
 use Rattle.poll_report.specs.declared.report.Report.{Report}
 use Rattle.section_intake.specs.Accepted.{File, IsOfSection}
 use Rattle.section_intake.specs.Fits.{Fits}
 use Rattle.section_intake.specs.Sections.{AreOfDifferentSections, is_beside}
-use Rattle.section_intake.specs.Laws.{AreAllApart, AreApart, NoMoreThanSections, SumsAreWithinAll}
+use Rattle.section_intake.specs.Intake.{accepted_files}
+use Rattle.section_intake.specs.Laws.{AreAllApart, AreApart, AreShort, NoMoreThanSections, SumsAreSmall, SumsAreWithinAll}
 use Rattle.section_intake.specs.Sums.{AreReportsOf, all_sum, of_office, votes_for}
 use Rattle.section_intake.specs.Verdict.{IsReportFile, accepted}
 use Rattle.section_intake.proofs.BehindLaws.{each_is_accepted, each_section_once}
-use Rattle.section_intake.proofs.ReportLaws.{as_many, no_more}
+use Rattle.section_intake.proofs.Members.{all_weaker}
+use Rattle.section_intake.proofs.ReportLaws.{are_reports, as_many, no_more, one_list}
 
 -- ---- how many
 
@@ -68,6 +71,24 @@ no_more_than_sections t files verdicts kept short offered =
 
 -- ---- how great
 
+-- no office of a report has more votes than a report can tell
+office_few : (came : ℕ) (before offices : List OfficeCount) (k : ℕ) → EachAfter (MayCount came) before offices → option_map_or total_of (slice_get offices k) 0 ≤ greatest_count
+office_few came before [] k each = omega arith
+office_few came before (o ∷ offices) zero each = each.0.1.few
+office_few came before (o ∷ offices) (suc k) each = office_few came (before ++ o ∷ []) offices k each.1
+
+pub report_few : (r : Report) (panel : ℕ) → IsReport r → of_office total_of panel r ≤ greatest_count
+report_few r panel is = office_few r.came [] r.offices panel is.offices
+
+all_few : (reports : List Report) (panel : ℕ) → AllByRecursion IsReport reports → all_sum panel reports ≤ length reports * greatest_count
+all_few [] panel are = omega arith
+all_few (r ∷ reports) panel are =
+    let first = report_few r panel are.0 in
+    let rest = all_few reports panel are.1 in
+    let sum = sum_by-cons (of_office total_of panel) r reports in
+    let more : suc (length reports) * greatest_count ≡ length reports * greatest_count + greatest_count = omega arith in
+    omega arith
+
 pub no_more_than : (n : ℕ) (c : Count) → (if c.number == n then c.votes else 0) ≤ c.votes
 no_more_than n c = elim (cases_Bool (c.number == n)) [
   | inl e ↦ rw e (omega arith)
@@ -100,3 +121,21 @@ sums_within_all panel number reports = (
   part_within (λ o. o.blank) (λ o. omega arith) panel reports,
   part_within (λ o. o.null_votes) (λ o. omega arith) panel reports,
 )
+
+-- the sums over reports that fit, of different sections
+pub small_sum : (t : TablesData) (reports : List Report) (panel : ℕ) → length t.sections ≤ most_sections → AllByRecursion IsReport reports
+    → AllByRecursion (Fits t) reports → AreOfDifferentSections reports → all_sum panel reports ≤ most_sections * greatest_count
+small_sum t reports panel sections are fit different =
+    let few = no_more t reports fit different in
+    let sum = all_few reports panel are in
+    omega arith
+
+pub files_short : (files : List File) → AllByRecursion (λ file. length file < 2 ^ 31) files → AreShort files
+files_short files short = all_weaker (λ (f : File). length f < 2 ^ 31) (λ (f : File). length f < 2 ^ 63) files (λ f h. omega arith) short
+
+pub sums_are_small : SumsAreSmall
+sums_are_small t i reports panel is read =
+    let same : is.reports ≡ reports = one_list (accepted_files i) is.reports reports (files_short (accepted_files i) is.short) is.read read in
+    let tables = is.tables in
+    let small = small_sum t is.reports panel tables.section_count.1 (are_reports (accepted_files i) is.reports is.read) is.fit is.different in
+    subst (λ (l : List Report). all_sum panel l ≤ most_sections * greatest_count) same small

@@ -2,6 +2,10 @@ pub mod AcceptedLaws
 pub mod BehindLaws
 pub mod FileLaws
 pub mod FitLaws
+pub mod HolderLaws
+pub mod IntakeLaws
 pub mod Members
 pub mod ReportLaws
+pub mod SumLaws
+pub mod TallyLaws
 pub mod VerdictLaws

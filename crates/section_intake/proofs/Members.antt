@@ -1,5 +1,5 @@
 -- What is so of each element of a list, and of the one behind them.
-use Rattle.std.proofs.Common.{◌≡◌, zero, suc, ◌⊎◌, List, [], ◌∷◌, ◌++◌, length, refl, sym, ap, ◌∙◌, subst, inl, inr, arith}
+use Rattle.std.proofs.Common.{◌≡◌, ℕ, zero, suc, ◌⊎◌, List, [], ◌∷◌, ◌++◌, length, slice_get, Some, refl, sym, ap, ◌∙◌, subst, inl, inr, arith}
 use Rattle.std.specs.List.{AllByRecursion, Contains}
 
 pub all_append : {X : Type 0} (P : X → Type 0) (xs ys : List X) → AllByRecursion P xs → AllByRecursion P ys → AllByRecursion P (xs ++ ys)
@@ -9,6 +9,15 @@ all_append P (x ∷ xs) ys first rest = (first.0, all_append P xs ys first.1 res
 pub all_but_last : {X : Type 0} (P : X → Type 0) (xs : List X) (x : X) → AllByRecursion P (xs ++ x ∷ []) → AllByRecursion P xs × P x
 all_but_last P [] x all = (tt, all.0)
 all_but_last P (y ∷ xs) x all = let rest = all_but_last P xs x all.1 in ((all.0, rest.0), rest.1)
+
+pub all_weaker : {X : Type 0} (P Q : X → Type 0) (xs : List X) → ((x : X) → P x → Q x) → AllByRecursion P xs → AllByRecursion Q xs
+all_weaker P Q [] from all = tt
+all_weaker P Q (x ∷ xs) from all = (from x all.0, all_weaker P Q xs from all.1)
+
+pub all_at : {X : Type 0} (P : X → Type 0) (xs : List X) (k : ℕ) (x : X) → AllByRecursion P xs → slice_get xs k ≡ Some x → P x
+all_at P [] k x all e = absurd (cc)
+all_at P (y ∷ xs) zero x all e = let same : y ≡ x = cc in subst P same all.0
+all_at P (y ∷ xs) (suc k) x all e = all_at P xs k x all.1 e
 
 pub contains_cases : {X : Type 0} (y x : X) (xs : List X) → Contains (y ∷ xs) x → (y ≡ x) ⊎ Contains xs x
 contains_cases y x xs (zero, lt, e) = inl e
@@ -20,6 +29,11 @@ all_of_member P (y ∷ xs) x all at = elim (contains_cases y x xs at) [
   | inl same ↦ subst P same all.0
   | inr rest ↦ all_of_member P xs x all.1 rest
 ]
+
+pub member_at : {X : Type 0} (xs : List X) (k : ℕ) (x : X) → slice_get xs k ≡ Some x → Contains xs x
+member_at [] k x e = absurd (cc)
+member_at (y ∷ xs) zero x e = let same : y ≡ x = cc in (0, omega arith, same)
+member_at (y ∷ xs) (suc k) x e = let (i, lt, is) = member_at xs k x e in (suc i, omega arith, is)
 
 -- a list with one member of x taken out has every other member, and is shorter
 pub taken : {X : Type 0} (xs : List X) (x : X) → Contains xs x

@@ -1,17 +1,19 @@
 -- The reports of files: there is one list of them, and no more of different sections than the tables have.
-use Rattle.std.proofs.Common.{◌≡◌, ℕ, suc, ◌≤◌, ◌==◌, ◌&&◌, true, false, List, [], ◌∷◌, length, map, Some, option_map, refl, ap, ◌∙◌, inl, inr, arith}
+use Rattle.std.proofs.Common.{◌≡◌, ℕ, zero, suc, ◌≤◌, ◌==◌, ◌&&◌, true, false, List, [], ◌∷◌, ◌++◌, length, map, slice_get, Some, option_map, refl, ap, ◌∙◌, subst, inl, inr, arith}
 use Rattle.std.specs.List.{AllByRecursion, Contains}
 use Rattle.std.proofs.lemmas.Bool.{cases_Bool}
 use Rattle.std.proofs.lemmas.Bool.Decides.{nat_tests}
 use Rattle.std.proofs.lemmas.List.{length-map}
 use Rattle.election_tables.specs.TablesData.{TablesData, section_with}
 use Rattle.election_tables.specs.declared.tables.sections.Section.{Section}
+use Rattle.poll_report.specs.Report.{IsReport}
 use Rattle.poll_report.specs.declared.report.Report.{Report}
 use Rattle.section_intake.specs.Accepted.{File}
 use Rattle.section_intake.specs.Fits.{Fits}
 use Rattle.section_intake.specs.Sections.{AreOfDifferentSections, is_beside}
 use Rattle.section_intake.specs.Laws.{OneListOfReports}
 use Rattle.section_intake.specs.Sums.{AreReportsOf}
+use Rattle.section_intake.specs.Verdict.{IsReportFile}
 use Rattle.section_intake.proofs.Members.{taken}
 use Rattle.section_intake.proofs.VerdictLaws.{one_report}
 
@@ -29,6 +31,27 @@ as_many [] [] h = refl
 as_many [] (r ∷ reports) h = absurd h
 as_many (f ∷ files) [] h = absurd h
 as_many (f ∷ files) (r ∷ reports) h = ap suc (as_many files reports h.1)
+
+pub one_more : (files : List File) (reports : List Report) (f : File) (r : Report) → AreReportsOf files reports → IsReportFile f r
+    → AreReportsOf (files ++ f ∷ []) (reports ++ r ∷ [])
+one_more [] [] f r all h = (h, tt)
+one_more [] (q ∷ reports) f r all h = absurd all
+one_more (g ∷ files) [] f r all h = absurd all
+one_more (g ∷ files) (q ∷ reports) f r all h = (all.0, one_more files reports f r all.1 h)
+
+pub are_reports : (files : List File) (reports : List Report) → AreReportsOf files reports → AllByRecursion IsReport reports
+are_reports [] [] h = tt
+are_reports [] (r ∷ reports) h = absurd h
+are_reports (f ∷ files) [] h = absurd h
+are_reports (f ∷ files) (r ∷ reports) h = (h.0.spells.report, are_reports files reports h.1)
+
+-- the file at the place of a report
+pub file_of : (files : List File) (reports : List Report) (k : ℕ) (r : Report) → AreReportsOf files reports → slice_get reports k ≡ Some r
+    → (f : File) × (slice_get files k ≡ Some f) × IsReportFile f r
+file_of files [] k r all e = absurd (cc)
+file_of [] (q ∷ reports) k r all e = absurd all
+file_of (f ∷ files) (q ∷ reports) zero r all e = let same : q ≡ r = cc in (f, refl, subst (λ (x : Report). IsReportFile f x) same all.0)
+file_of (f ∷ files) (q ∷ reports) (suc k) r all e = file_of files reports k r all.1 e
 
 -- ---- no more than sections
 

@@ -1,17 +1,20 @@
 -- What is so of all files and tables.
-use Rattle.std.specs.Prelude.{◌≡◌, ◌<◌, ◌≤◌, ◌^◌, ℕ, List, [], ◌∷◌, length}
+use Rattle.std.specs.Prelude.{◌≡◌, ◌*◌, ◌<◌, ◌≤◌, ◌^◌, ℕ, List, [], ◌∷◌, length}
 use Rattle.std.specs.List.{AllByRecursion}
 use Rattle.urna_base.specs.Words.{pieces}
+use Rattle.election_tables.specs.Limits.{most_sections}
 use Rattle.election_tables.specs.TablesData.{IsTables, TablesData}
 use Rattle.hash_chain.specs.Chain.{parts_text}
 use Rattle.hash_chain.specs.Fault.{AreFields}
-use Rattle.poll_report.specs.Report.{IsReport}
+use Rattle.poll_report.specs.Report.{IsReport, greatest_count}
 use Rattle.poll_report.specs.declared.report.Report.{Report}
 use Rattle.qr_text.specs.Spelling.{report_text}
 use Rattle.section_intake.specs.Accepted.{AreOffered, File, IsOfSection}
 use Rattle.section_intake.specs.Fits.{Fits}
+use Rattle.section_intake.specs.Intake.{IsIntakeFor, accepted_files}
 use Rattle.section_intake.specs.Sums.{AreReportsOf, all_sum, blank_sum, nominal_sum, null_sum, party_sum}
 use Rattle.section_intake.specs.Verdict.{IsVerdict}
+use Rattle.section_intake.specs.declared.intake.Intake.{Intake}
 use Rattle.section_intake.specs.declared.verdict.Verdict.{Verdict}
 use Rattle.section_intake.specs.declared.verdict.Verdict.TheVariants as verdict
 
@@ -83,3 +86,8 @@ abbrev pub SumsAreWithinAll : Type 0
 SumsAreWithinAll = (panel number : ℕ) (reports : List Report)
     → (nominal_sum panel number reports ≤ all_sum panel reports) × (party_sum panel number reports ≤ all_sum panel reports)
     × (blank_sum panel reports ≤ all_sum panel reports) × (null_sum panel reports ≤ all_sum panel reports)
+
+-- and that is as small as the sections and their reports are: at most 19,998,000
+abbrev pub SumsAreSmall : Type 0
+SumsAreSmall = (t : TablesData) (i : Intake) (reports : List Report) (panel : ℕ) → IsIntakeFor t i → AreReportsOf (accepted_files i) reports
+    → all_sum panel reports ≤ most_sections * greatest_count

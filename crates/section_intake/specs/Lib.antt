@@ -6,3 +6,5 @@ pub mod Reading
 pub mod Laws
 pub mod Sections
 pub mod Sums
+pub mod Kept
+pub mod Intake

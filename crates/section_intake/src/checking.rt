@@ -52,7 +52,7 @@ fn verdict_on(tables: &Tables, report: &Report) -> Verdict
 }
 
 /// Why a file gives no report.
-enum Refusal {
+pub(crate) enum Refusal {
     /// Memory ran out.
     Memory,
     /// It is no parts of a field text.
@@ -63,7 +63,7 @@ enum Refusal {
 
 /// The report of a file.
 #[tactic(auto, using(hash_chain::proofs::Sizes::text_within_file))]
-fn read_file(alloc: Global, bytes: &[u8]) -> Result<Report, Refusal>
+pub(crate) fn read_file(alloc: Global, bytes: &[u8]) -> Result<Report, Refusal>
     requires { length bytes.now < 2 ^ 31 }
     ensures ok { IfOk result (λ r. IsReportFile bytes.now r) }
     ensures err { IfErr result (λ e. IsRefused bytes.now e) }

@@ -1,14 +1,24 @@
-//! The verdict on the file of a report: whether it is whole, and fits the tables of an election.
+//! The verdict on the file of a report: whether it is whole, and fits the tables of an election. And the sums over the reports of
+//! several files, each section once.
 //!
 //! The layer above uses that `check` gives the verdict of `specs/Verdict.antt` (docs/FORMATS.md, "Verdicts"): of a file whose parts or
 //! fields are at fault the first fault, and else whether its report fits the tables (`specs/Fits.antt`). `laws` has that there is one
 //! verdict, and that the file of a report that fits is accepted.
+//!
+//! Of several files it uses that `Intake::offer` gives the verdict of `specs/Accepted.antt`, and `Intake::nominal`, `party`, `blank` and
+//! `null_votes` the sums of `specs/Sums.antt` over the reports of the accepted ones; each call rests on `IsIntakeFor`
+//! (`specs/Intake.antt`). `laws` has that there is one list of verdicts, and how many files and votes there are at most.
 #![tactic(auto)]
 
 mod checking;
+mod files;
 mod fitting;
+mod intake;
 pub mod laws;
+mod panel_sums;
+mod tallies;
 mod verdict;
 
 pub use checking::check;
+pub use intake::Intake;
 pub use verdict::Verdict;

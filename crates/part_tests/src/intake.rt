@@ -1,0 +1,156 @@
+//! Files of reports, offered one behind the other (the crate `section_intake`).
+ghost use Rattle.std.specs.Prelude.{◌<◌};
+ghost use Rattle.section_intake.specs.Intake.{IsIntakeFor, panels_of};
+
+use crate::changes::changed;
+use crate::files::{file_of, told_verdict};
+use crate::reports::TWO_OFFICES;
+use election_tables::Tables;
+use section_intake::Intake;
+use std::alloc::{AllocError, Global};
+use std::test::Fail;
+use urna_base::Memory;
+
+/// Two offices and two sections.
+const TABLES: &[u8] = br#"
+processo = 7
+data = 20261004
+turno = 1
+cargo = [
+  {codigo = 13, regra = "proporcional", cadeiras = 5},
+  {codigo = 11, regra = "absoluta", cadeiras = 1},
+]
+partido = [
+  {numero = 13, nome = "PA"},
+  {numero = 45, nome = "PB"},
+]
+candidato = [
+  {cargo = 13, numero = 13001, nascimento = 19700101, nome = "ANA"},
+  {cargo = 13, numero = 45001, nascimento = 19650520, nome = "BRUNO"},
+  {cargo = 11, numero = 13, nascimento = 19600303, nome = "CARLA"},
+  {cargo = 11, numero = 45, nascimento = 19751212, nome = "DAVI"},
+]
+secao = [
+  {zona = 1, secao = 42, eleitores = 3},
+  {zona = 2, secao = 1, eleitores = 5},
+]
+"#;
+
+/// The other section, of whose voters four came: two party votes and two null ones; then three votes for candidate 45 and a blank one.
+const OTHER_SECTION: &str =
+    "ORIG:VOTA PROC:7 DTPL:20261004 TURN:1 ZONA:2 SECA:1 APTO:5 COMP:4 FALT:1 \
+     DTAB:20261004 HRAB:080000 DTFC:20261004 HRFC:170000 \
+     CARG:13 TIPO:1 PART:45 LEGP:2 TOTP:2 APTA:5 NOMI:0 LEGC:2 BRAN:0 NULO:2 TOTC:4 \
+     CARG:11 TIPO:0 45:3 APTA:5 NOMI:3 BRAN:1 NULO:0 TOTC:4";
+
+/// A file that is offered: how the verdict is told, the fields of a report and a change of them, and a change of their file.
+type Offer<'a> = (&'a str, &'a str, &'a str, &'a str);
+
+const SAME: &str = "ORIG => ORIG";
+
+/// A report, its copy, the same with another digit, and another report of its section.
+const FIRST: &[Offer<'static>] = &[
+    ("ACEITO 1 42", TWO_OFFICES, SAME, SAME),
+    ("REPETIDO 1 42", TWO_OFFICES, SAME, SAME),
+    ("HASH 1", TWO_OFFICES, SAME, "13001:1 => 13001:2"),
+    (
+        "CONFLITO 1 42",
+        TWO_OFFICES,
+        "HRFC:170000 => HRFC:170001",
+        SAME,
+    ),
+];
+
+/// The report of the other section, and that of the first one again.
+const SECOND: &[Offer<'static>] = &[
+    ("ACEITO 2 1", OTHER_SECTION, SAME, SAME),
+    ("REPETIDO 1 42", TWO_OFFICES, SAME, SAME),
+];
+
+/// The sums of both panels, as `told_panel` tells them.
+const FIRST_SUMS: &str = "13001:1 13:0 45:0 99:0 L13:0 L45:1 L99:0 B:1 X:0\n\
+     13001:0 13:1 45:1 99:0 L13:0 L45:0 L99:0 B:0 X:1\n";
+const BOTH_SUMS: &str = "13001:1 13:0 45:0 99:0 L13:0 L45:3 L99:0 B:1 X:2\n\
+     13001:0 13:1 45:4 99:0 L13:0 L45:0 L99:0 B:1 X:1\n";
+
+/// Whether the verdict on a file that is offered is told so.
+fn is_told(
+    alloc: Global,
+    tables: &Tables,
+    intake: &mut Intake,
+    offer: &Offer<'_>,
+) -> Result<bool, Memory>
+    requires { IsIntakeFor tables.now intake.old }
+    ensures { IsIntakeFor tables.now intake.new }
+{
+    let (told, fields, change, spoiled) = offer;
+    let Some(text) = changed(alloc, fields, change)? else {
+        return Ok(false);
+    };
+    let whole = file_of(alloc, text.as_str())?;
+    let Some(file) = changed(alloc, whole.as_str(), spoiled)? else {
+        return Ok(false);
+    };
+    if file.as_bytes().len() >= 1 << 31 {
+        return Ok(false);
+    }
+    let verdict = intake.offer(tables, file.as_bytes())?;
+    Ok(told_verdict(alloc, verdict)?.as_str() == *told)
+}
+
+/// The first of some files whose verdict is told otherwise.
+fn wrong_offer(
+    alloc: Global,
+    tables: &Tables,
+    intake: &mut Intake,
+    offers: &[Offer<'_>],
+) -> Result<Option<usize>, Memory>
+    requires { IsIntakeFor tables.now intake.old }
+    ensures { IsIntakeFor tables.now intake.new }
+{
+    for (row, offer) in offers.iter().enumerate() {
+        if !is_told(alloc, tables, intake, offer)? {
+            return Ok(Some(row));
+        }
+    }
+    Ok(None)
+}
+
+/// The sums of a panel: of candidates and of parties, some of which the tables lack, and of blank and null votes.
+fn told_panel(alloc: Global, intake: &Intake, panel: u32) -> Result<String, AllocError>
+    requires { panel < panels_of intake.now }
+{
+    let ana = intake.nominal(panel, 13_001);
+    let carla = intake.nominal(panel, 13);
+    let davi = intake.nominal(panel, 45);
+    let nobody = intake.nominal(panel, 99);
+    let pa = intake.party(panel, 13);
+    let pb = intake.party(panel, 45);
+    let none = intake.party(panel, 99);
+    let blank = intake.blank(panel);
+    let null_votes = intake.null_votes(panel);
+    format!(in alloc; "13001:{ana} 13:{carla} 45:{davi} 99:{nobody} L13:{pa} L45:{pb} L99:{none} B:{blank} X:{null_votes}\n")
+}
+
+fn told_sums(alloc: Global, tables: &Tables, intake: &Intake) -> Result<String, AllocError>
+    requires { IsIntakeFor tables.now intake.now }
+{
+    let mut text = String::new(alloc);
+    for panel in 0..tables.panels() {
+        text.push_str(&told_panel(alloc, intake, panel)?)?;
+    }
+    Ok(text)
+}
+
+#[test]
+fn one_report_of_each_section_counts(rt: HostRuntime) -> Result<(), Fail> {
+    let tables = Tables::read(rt.alloc(), TABLES)?;
+    let mut intake = Intake::new(rt.alloc(), &tables)?;
+    assert_eq!(rt; wrong_offer(rt.alloc(), &tables, &mut intake, FIRST)?, None);
+    assert_eq!(rt; intake.accepted(), 1);
+    assert_eq!(rt; told_sums(rt.alloc(), &tables, &intake)?.as_str(), FIRST_SUMS);
+    assert_eq!(rt; wrong_offer(rt.alloc(), &tables, &mut intake, SECOND)?, None);
+    assert_eq!(rt; intake.accepted(), 2);
+    assert_eq!(rt; told_sums(rt.alloc(), &tables, &intake)?.as_str(), BOTH_SUMS);
+    Ok(())
+}
