@@ -141,12 +141,8 @@ pub(crate) fn told_verdict(alloc: Global, verdict: Verdict) -> Result<String, Al
             format!(in alloc; "SOMA {field} {sum} {said}")
         }
         Verdict::Strange => String::from_str(alloc, "ESTRANHO"),
-        Verdict::Repeated { zone, section } => {
-            format!(in alloc; "REPETIDO {zone} {section}")
-        }
-        Verdict::Conflict { zone, section } => {
-            format!(in alloc; "CONFLITO {zone} {section}")
-        }
+        Verdict::Repeated { zone, section } => { format!(in alloc; "REPETIDO {zone} {section}") }
+        Verdict::Conflict { zone, section } => { format!(in alloc; "CONFLITO {zone} {section}") }
     }
 }
 

@@ -56,9 +56,16 @@ const FIRST: &[Offer<'static>] = &[
     (
         "CONFLITO 1 42",
         TWO_OFFICES,
-        "HRFC:170000 => HRFC:170001",
+        "BRAN:1_NULO:0 => BRAN:0_NULO:1",
         SAME,
     ),
+    (
+        "CAMPO 27",
+        TWO_OFFICES,
+        "BRAN:1_NULO:0 => BRAN:1_NULO:00",
+        SAME,
+    ),
+    ("ESTRANHO", TWO_OFFICES, "PROC:7 => PROC:8", SAME),
 ];
 
 /// The report of the other section, and that of the first one again.
@@ -67,9 +74,27 @@ const SECOND: &[Offer<'static>] = &[
     ("REPETIDO 1 42", TWO_OFFICES, SAME, SAME),
 ];
 
+/// The section that stands last in the tables comes first.
+const BACKWARDS: &[Offer<'static>] = &[
+    ("ACEITO 2 1", OTHER_SECTION, SAME, SAME),
+    ("ACEITO 1 42", TWO_OFFICES, SAME, SAME),
+    ("REPETIDO 2 1", OTHER_SECTION, SAME, SAME),
+    ("REPETIDO 1 42", TWO_OFFICES, SAME, SAME),
+    (
+        "CONFLITO 2 1",
+        OTHER_SECTION,
+        "HRFC:170000 => HRFC:170001",
+        SAME,
+    ),
+];
+
 /// The sums of both panels, as `told_panel` tells them.
+const NO_SUMS: &str = "13001:0 13:0 45:0 99:0 L13:0 L45:0 L99:0 B:0 X:0\n\
+     13001:0 13:0 45:0 99:0 L13:0 L45:0 L99:0 B:0 X:0\n";
+
 const FIRST_SUMS: &str = "13001:1 13:0 45:0 99:0 L13:0 L45:1 L99:0 B:1 X:0\n\
      13001:0 13:1 45:1 99:0 L13:0 L45:0 L99:0 B:0 X:1\n";
+
 const BOTH_SUMS: &str = "13001:1 13:0 45:0 99:0 L13:0 L45:3 L99:0 B:1 X:2\n\
      13001:0 13:1 45:4 99:0 L13:0 L45:0 L99:0 B:1 X:1\n";
 
@@ -129,7 +154,9 @@ fn told_panel(alloc: Global, intake: &Intake, panel: u32) -> Result<String, Allo
     let none = intake.party(panel, 99);
     let blank = intake.blank(panel);
     let null_votes = intake.null_votes(panel);
-    format!(in alloc; "13001:{ana} 13:{carla} 45:{davi} 99:{nobody} L13:{pa} L45:{pb} L99:{none} B:{blank} X:{null_votes}\n")
+    format!(in alloc;
+        "13001:{ana} 13:{carla} 45:{davi} 99:{nobody} L13:{pa} L45:{pb} L99:{none} B:{blank} X:{null_votes}\n"
+    )
 }
 
 fn told_sums(alloc: Global, tables: &Tables, intake: &Intake) -> Result<String, AllocError>
@@ -146,11 +173,38 @@ fn told_sums(alloc: Global, tables: &Tables, intake: &Intake) -> Result<String, 
 fn one_report_of_each_section_counts(rt: HostRuntime) -> Result<(), Fail> {
     let tables = Tables::read(rt.alloc(), TABLES)?;
     let mut intake = Intake::new(rt.alloc(), &tables)?;
+    assert_eq!(rt; intake.accepted(), 0);
+    assert_eq!(rt; told_sums(rt.alloc(), &tables, &intake)?.as_str(), NO_SUMS);
     assert_eq!(rt; wrong_offer(rt.alloc(), &tables, &mut intake, FIRST)?, None);
     assert_eq!(rt; intake.accepted(), 1);
-    assert_eq!(rt; told_sums(rt.alloc(), &tables, &intake)?.as_str(), FIRST_SUMS);
-    assert_eq!(rt; wrong_offer(rt.alloc(), &tables, &mut intake, SECOND)?, None);
+    assert_eq!(rt;
+        told_sums(rt.alloc(), &tables, &intake)?.as_str(),
+        FIRST_SUMS
+    );
+    assert_eq!(rt;
+        wrong_offer(rt.alloc(), &tables, &mut intake, SECOND)?,
+        None
+    );
     assert_eq!(rt; intake.accepted(), 2);
-    assert_eq!(rt; told_sums(rt.alloc(), &tables, &intake)?.as_str(), BOTH_SUMS);
+    assert_eq!(rt;
+        told_sums(rt.alloc(), &tables, &intake)?.as_str(),
+        BOTH_SUMS
+    );
+    Ok(())
+}
+
+#[test]
+fn sections_count_in_any_order(rt: HostRuntime) -> Result<(), Fail> {
+    let tables = Tables::read(rt.alloc(), TABLES)?;
+    let mut intake = Intake::new(rt.alloc(), &tables)?;
+    assert_eq!(rt;
+        wrong_offer(rt.alloc(), &tables, &mut intake, BACKWARDS)?,
+        None
+    );
+    assert_eq!(rt; intake.accepted(), 2);
+    assert_eq!(rt;
+        told_sums(rt.alloc(), &tables, &intake)?.as_str(),
+        BOTH_SUMS
+    );
     Ok(())
 }

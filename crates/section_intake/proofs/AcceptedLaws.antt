@@ -1,5 +1,5 @@
 -- How many files are accepted, and how great the sums of their reports are.
-use Rattle.std.proofs.Common.{◌≡◌, ℕ, zero, suc, ◌+◌, ◌*◌, ◌<◌, ◌≤◌, ◌^◌, ◌==◌, if◌then◌else◌, true, false, List, [], ◌∷◌, ◌++◌, length, slice_get, Option, None, Some, subst, inl, inr, arith}
+use Rattle.std.proofs.Common.{◌≡◌, ℕ, zero, suc, ◌+◌, ◌*◌, ◌<◌, ◌≤◌, ◌^◌, ◌==◌, if◌then◌else◌, true, false, List, [], ◌∷◌, ◌++◌, length, slice_get, Option, None, Some, sym, subst, inl, inr, arith}
 use Rattle.std.specs.List.{AllByRecursion, sum_by}
 use Rattle.std.specs.Option.{option_map_or}
 use Rattle.std.proofs.lemmas.Bool.{cases_Bool}
@@ -15,7 +15,7 @@ use Rattle.section_intake.specs.Accepted.{File, IsOfSection}
 use Rattle.section_intake.specs.Fits.{Fits}
 use Rattle.section_intake.specs.Sections.{AreOfDifferentSections, is_beside}
 use Rattle.section_intake.specs.Intake.{accepted_files}
-use Rattle.section_intake.specs.Laws.{AreAllApart, AreApart, AreShort, NoMoreThanSections, SumsAreSmall, SumsAreWithinAll}
+use Rattle.section_intake.specs.Laws.{AreAllApart, AreApart, AreShort, NoMoreThanSections, SomeReports, SumsAreFew, SumsAreSmall, SumsAreWithinAll}
 use Rattle.section_intake.specs.Sums.{AreReportsOf, all_sum, of_office, votes_for}
 use Rattle.section_intake.specs.Verdict.{IsReportFile, accepted}
 use Rattle.section_intake.proofs.BehindLaws.{each_is_accepted, each_section_once}
@@ -62,9 +62,13 @@ reports_of t (f ∷ files) each apart =
       others f r h fit files reports read.1 all_fit.1 apart.1,
     )
 
+pub some_reports : SomeReports
+some_reports t files verdicts kept short offered =
+    reports_of t kept (each_is_accepted t files verdicts kept offered) (each_section_once t files verdicts kept short offered)
+
 pub no_more_than_sections : NoMoreThanSections
 no_more_than_sections t files verdicts kept short offered =
-    let (reports, read, fit, different) = reports_of t kept (each_is_accepted t files verdicts kept offered) (each_section_once t files verdicts kept short offered) in
+    let (reports, read, fit, different) = some_reports t files verdicts kept short offered in
     let few = no_more t reports fit different in
     let many = as_many kept reports read in
     omega arith
@@ -88,6 +92,12 @@ all_few (r ∷ reports) panel are =
     let sum = sum_by-cons (of_office total_of panel) r reports in
     let more : suc (length reports) * greatest_count ≡ length reports * greatest_count + greatest_count = omega arith in
     omega arith
+
+pub sums_are_few : SumsAreFew
+sums_are_few files reports panel read =
+    let many = as_many files reports read in
+    let few = all_few reports panel (are_reports files reports read) in
+    subst (λ (n : ℕ). all_sum panel reports ≤ n * greatest_count) (sym many) few
 
 pub no_more_than : (n : ℕ) (c : Count) → (if c.number == n then c.votes else 0) ≤ c.votes
 no_more_than n c = elim (cases_Bool (c.number == n)) [

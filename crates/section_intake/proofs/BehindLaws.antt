@@ -6,13 +6,14 @@ use Rattle.std.specs.Cmp.Lexicographic.{other_text, same_text}
 use Rattle.std.proofs.lemmas.Bool.{cases_Bool}
 use Rattle.std.proofs.lemmas.Bool.Decides.{nat_tests}
 use Rattle.std.proofs.lemmas.List.{append_assoc, same_from_push}
+use Rattle.std.proofs.lemmas.List.Elements.{All-contains, All-from_recursion, Contains-append_cases}
 use Rattle.election_tables.specs.TablesData.{IsTables, TablesData}
 use Rattle.section_intake.specs.Accepted.{AreOffered, File, IsOfSection, IsVerdictBehind, accepted_with, again, another, by_itself, first, is_accepted, none_offered, one_more}
 use Rattle.section_intake.specs.Laws.{AreAllApart, AreApart, AreShort, EachIsAccepted, EachSectionOnce, OneListOfVerdicts, SomeVerdicts}
 use Rattle.section_intake.specs.Verdict.{IsVerdict}
 use Rattle.section_intake.specs.declared.verdict.Verdict.{Verdict}
 use Rattle.section_intake.specs.declared.verdict.Verdict.TheVariants as verdict
-use Rattle.section_intake.proofs.Members.{all_append, all_but_last, all_of_member, contains_cases}
+use Rattle.section_intake.proofs.Members.{all_append, all_but_last, only}
 use Rattle.section_intake.proofs.VerdictLaws.{one_verdict, some_verdict}
 
 -- ---- one verdict behind the accepted files
@@ -34,13 +35,13 @@ one_section t file z s y u short h i =
 one_holder : (t : TablesData) (z s : ℕ) (files : List File) (a b : File) → AreAllApart t files → Contains files a → Contains files b → IsOfSection t z s a
     → IsOfSection t z s b → a ≡ b
 one_holder t z s [] a b apart (k, lt, e) there h i = absurd (omega arith)
-one_holder t z s (f ∷ files) a b apart here there h i = elim (contains_cases f a files here) [
-  | inl is ↦ elim (contains_cases f b files there) [
-    | inl same ↦ sym is ∙ same
-    | inr rest ↦ absurd (all_of_member (AreApart t f) files b apart.0 rest z s (subst (IsOfSection t z s) (sym is) h) i)
+one_holder t z s (f ∷ files) a b apart here there h i = elim (Contains-append_cases (f ∷ []) files a here) [
+  | inl one ↦ let is = only f a one in elim (Contains-append_cases (f ∷ []) files b there) [
+    | inl same ↦ sym is ∙ only f b same
+    | inr rest ↦ absurd (All-contains (AreApart t f) files b (All-from_recursion (AreApart t f) files apart.0) rest z s (subst (IsOfSection t z s) (sym is) h) i)
   ]
-  | inr rest ↦ elim (contains_cases f b files there) [
-    | inl same ↦ absurd (all_of_member (AreApart t f) files a apart.0 rest z s (subst (IsOfSection t z s) (sym same) i) h)
+  | inr rest ↦ elim (Contains-append_cases (f ∷ []) files b there) [
+    | inl also ↦ let same = only f b also in absurd (All-contains (AreApart t f) files a (All-from_recursion (AreApart t f) files apart.0) rest z s (subst (IsOfSection t z s) (sym same) i) h)
     | inr both ↦ one_holder t z s files a b apart.1 rest both h i
   ]
 ]
@@ -51,7 +52,8 @@ none_holds : (t : TablesData) (z s y u : ℕ) (accepted : List File) (file other
 none_holds t z s y u accepted file other short h i free at is =
     let same = one_section t file z s y u short h i in
     let there : IsOfSection t z s other = rw (same.0, same.1) is in
-    all_of_member (λ f. ¬ IsOfSection t z s f) accepted other free at there
+    let P : File → Type 0 = λ f. ¬ IsOfSection t z s f in
+    All-contains P accepted other (All-from_recursion P accepted free) at there
 
 pub one_behind : (t : TablesData) (accepted : List File) (file : File) (v w : Verdict) → length file < 2 ^ 63 → AreAllApart t accepted
     → IsVerdictBehind t accepted file v → IsVerdictBehind t accepted file w → v ≡ w

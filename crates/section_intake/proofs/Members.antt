@@ -1,6 +1,7 @@
 -- What is so of each element of a list, and of the one behind them.
-use Rattle.std.proofs.Common.{◌≡◌, ℕ, zero, suc, ◌⊎◌, List, [], ◌∷◌, ◌++◌, length, slice_get, Some, refl, sym, ap, ◌∙◌, subst, inl, inr, arith}
+use Rattle.std.proofs.Common.{◌≡◌, ℕ, zero, suc, List, [], ◌∷◌, ◌++◌, length, slice_get, Some, refl, sym, ap, ◌∙◌, subst, inl, inr, arith}
 use Rattle.std.specs.List.{AllByRecursion, Contains}
+use Rattle.std.proofs.lemmas.List.Elements.{Contains-append_cases}
 
 pub all_append : {X : Type 0} (P : X → Type 0) (xs ys : List X) → AllByRecursion P xs → AllByRecursion P ys → AllByRecursion P (xs ++ ys)
 all_append P [] ys first rest = rest
@@ -19,16 +20,10 @@ all_at P [] k x all e = absurd (cc)
 all_at P (y ∷ xs) zero x all e = let same : y ≡ x = cc in subst P same all.0
 all_at P (y ∷ xs) (suc k) x all e = all_at P xs k x all.1 e
 
-pub contains_cases : {X : Type 0} (y x : X) (xs : List X) → Contains (y ∷ xs) x → (y ≡ x) ⊎ Contains xs x
-contains_cases y x xs (zero, lt, e) = inl e
-contains_cases y x xs (suc k, lt, e) = inr (k, omega arith, e)
-
-pub all_of_member : {X : Type 0} (P : X → Type 0) (xs : List X) (x : X) → AllByRecursion P xs → Contains xs x → P x
-all_of_member P [] x all (k, lt, e) = absurd (omega arith)
-all_of_member P (y ∷ xs) x all at = elim (contains_cases y x xs at) [
-  | inl same ↦ subst P same all.0
-  | inr rest ↦ all_of_member P xs x all.1 rest
-]
+-- a list of one has that one alone
+pub only : {X : Type 0} (y x : X) → Contains (y ∷ []) x → y ≡ x
+only y x (zero, lt, e) = e
+only y x (suc k, lt, e) = absurd (omega arith)
 
 pub member_at : {X : Type 0} (xs : List X) (k : ℕ) (x : X) → slice_get xs k ≡ Some x → Contains xs x
 member_at [] k x e = absurd (cc)
@@ -39,9 +34,11 @@ member_at (y ∷ xs) (suc k) x e = let (i, lt, is) = member_at xs k x e in (suc 
 pub taken : {X : Type 0} (xs : List X) (x : X) → Contains xs x
     → (rest : List X) × (suc (length rest) ≡ length xs) × ((y : X) → Contains xs y → (y ≡ x → ⊥) → Contains rest y)
 taken [] x (k, lt, e) = absurd (omega arith)
-taken (z ∷ xs) x at = elim (contains_cases z x xs at) [
-  | inl is ↦ (xs, refl, λ y there ne. elim (contains_cases z y xs there) [ inl e ↦ absurd (ne (sym e ∙ is)) | inr t ↦ t ])
+taken (z ∷ xs) x at = elim (Contains-append_cases (z ∷ []) xs x at) [
+  | inl one ↦
+      let is = only z x one in
+      (xs, refl, λ y there ne. elim (Contains-append_cases (z ∷ []) xs y there) [ inl e ↦ absurd (ne (sym (only z y e) ∙ is)) | inr t ↦ t ])
   | inr later ↦
       let (rest, len, others) = taken xs x later in
-      (z ∷ rest, ap suc len, λ y there ne. elim (contains_cases z y xs there) [ inl e ↦ (0, omega arith, e) | inr t ↦ let (k, lt, e) = others y t ne in (suc k, omega arith, e) ])
+      (z ∷ rest, ap suc len, λ y there ne. elim (Contains-append_cases (z ∷ []) xs y there) [ inl e ↦ (0, omega arith, only z y e) | inr t ↦ let (k, lt, e) = others y t ne in (suc k, omega arith, e) ])
 ]

@@ -24,7 +24,8 @@ abbrev pub IsOfSection : TablesData → ℕ → ℕ → File → Type 0
 IsOfSection t zone section file = IsVerdict t file (verdict.Accepted zone section)
 
 -- The verdict on a file behind those that were accepted: its own, where that refuses it; that it is accepted, where none of them is of its
--- section; that it is repeated, where it is one of them; and that it is in conflict, where another file of its section is.
+-- section; that it is repeated, where it is one of them; and that it is in conflict, where another file of its section is. As the accepted
+-- files are of different sections, there is one.
 pub data IsVerdictBehind (t : TablesData) (accepted : List File) (file : File) : Verdict → Type 0 where
   by_itself : {v : Verdict} → IsVerdict t file v → is_accepted v ≡ false → IsVerdictBehind t accepted file v
   first : {zone section : ℕ} → IsOfSection t zone section file → AllByRecursion (λ other. ¬ IsOfSection t zone section other) accepted
@@ -34,7 +35,7 @@ pub data IsVerdictBehind (t : TablesData) (accepted : List File) (file : File) :
   another : {zone section : ℕ} {other : File} → IsOfSection t zone section file → Contains accepted other → IsOfSection t zone section other
       → other ≢ file → IsVerdictBehind t accepted file (verdict.Conflict zone section)
 
--- the accepted files behind this one
+-- the accepted files and this one, if it is accepted
 abbrev pub accepted_with : List File → Verdict → File → List File
 accepted_with accepted v file = if is_accepted v then accepted ++ file ∷ [] else accepted
 

@@ -12,6 +12,7 @@ use Rattle.qr_text.specs.Spelling.{report_text}
 use Rattle.section_intake.specs.Accepted.{AreOffered, File, IsOfSection}
 use Rattle.section_intake.specs.Fits.{Fits}
 use Rattle.section_intake.specs.Intake.{IsIntakeFor, accepted_files}
+use Rattle.section_intake.specs.Sections.{AreOfDifferentSections}
 use Rattle.section_intake.specs.Sums.{AreReportsOf, all_sum, blank_sum, nominal_sum, null_sum, party_sum}
 use Rattle.section_intake.specs.Verdict.{IsVerdict}
 use Rattle.section_intake.specs.declared.intake.Intake.{Intake}
@@ -76,7 +77,13 @@ NoMoreThanSections = (t : TablesData) (files : List File) (verdicts : List Verdi
 
 -- ---- sums
 
--- files have one list of reports, and so one of each sum
+-- Accepted files have reports, which fit the tables and are of different sections.
+abbrev pub SomeReports : Type 0
+SomeReports = (t : TablesData) (files : List File) (verdicts : List Verdict) (accepted : List File) → AreShort files
+    → AreOffered t files verdicts accepted
+    → (reports : List Report) × AreReportsOf accepted reports × AllByRecursion (Fits t) reports × AreOfDifferentSections reports
+
+-- files have one list of reports at most, and so one of each sum
 abbrev pub OneListOfReports : Type 0
 OneListOfReports = (files : List File) (reports others : List Report) → AreShort files → AreReportsOf files reports → AreReportsOf files others
     → reports ≡ others
@@ -87,7 +94,12 @@ SumsAreWithinAll = (panel number : ℕ) (reports : List Report)
     → (nominal_sum panel number reports ≤ all_sum panel reports) × (party_sum panel number reports ≤ all_sum panel reports)
     × (blank_sum panel reports ≤ all_sum panel reports) × (null_sum panel reports ≤ all_sum panel reports)
 
--- and that is as small as the sections and their reports are: at most 19,998,000
+-- and that is as small as the reports are: at most 9,999 times their number,
+abbrev pub SumsAreFew : Type 0
+SumsAreFew = (files : List File) (reports : List Report) (panel : ℕ) → AreReportsOf files reports
+    → all_sum panel reports ≤ length files * greatest_count
+
+-- so that of an intake it is at most 19,998,000
 abbrev pub SumsAreSmall : Type 0
 SumsAreSmall = (t : TablesData) (i : Intake) (reports : List Report) (panel : ℕ) → IsIntakeFor t i → AreReportsOf (accepted_files i) reports
     → all_sum panel reports ≤ most_sections * greatest_count

@@ -36,8 +36,8 @@ pub struct Intake {
 }
 
 impl Intake {
-    /// Nothing accepted yet. All memory is taken here but that for the bytes of the files. `Memory` comes only where an
-    /// allocation failed.
+    /// Nothing accepted yet. All memory that stays is taken here, but that for the bytes of the files. `Memory` comes only where
+    /// an allocation failed.
     pub fn new(alloc: Global, tables: &Tables) -> Result<Intake, Memory>
         ensures made { IfOk result (IsIntakeFor tables.now) }
         ensures empty { IfOk result (λ i. accepted_files i ≡ []) }

@@ -1,5 +1,5 @@
 //! What is so of every file. Each function here does nothing: its contract is the law.
-ghost use Rattle.section_intake.specs.Laws.{EachIsAccepted, EachSectionOnce, FileIsAccepted, NoMoreThanSections, OneListOfReports, OneListOfVerdicts, OneVerdict, SomeVerdict, SomeVerdicts, SumsAreSmall, SumsAreWithinAll, TextHasParts};
+ghost use Rattle.section_intake.specs.Laws.{EachIsAccepted, EachSectionOnce, FileIsAccepted, NoMoreThanSections, OneListOfReports, OneListOfVerdicts, OneVerdict, SomeReports, SomeVerdict, SomeVerdicts, SumsAreFew, SumsAreSmall, SumsAreWithinAll, TextHasParts};
 
 /// Of a file that is shorter than 2^63 bytes there is one verdict.
 pub fn verdicts()
@@ -24,9 +24,12 @@ pub fn offers()
     ensures few { NoMoreThanSections }
 {}
 
-/// Of accepted files there is one list of reports, and so one of each sum, and no sum of an intake is above 19,998,000.
+/// Of accepted files there is one list of reports, which fit and are of different sections, and so one of each sum; no sum is above
+/// 9,999 for each file, and none of an intake above 19,998,000.
 pub fn sums()
+    ensures some { SomeReports }
     ensures one { OneListOfReports }
     ensures within { SumsAreWithinAll }
+    ensures few { SumsAreFew }
     ensures small { SumsAreSmall }
 {}

@@ -15,6 +15,6 @@ pub enum Verdict {
     Strange,
     /// It is a file of this section that was accepted before.
     Repeated { zone: u32, section: u32 },
-    /// It is another report of a section of which one was accepted before.
+    /// It is another file of a section of which one was accepted before.
     Conflict { zone: u32, section: u32 },
 }

@@ -1,6 +1,12 @@
 use Rattle.section_intake.proofs.ReportLaws.{one_list}
-use Rattle.section_intake.proofs.AcceptedLaws.{sums_are_small, sums_within_all}
+use Rattle.section_intake.proofs.AcceptedLaws.{some_reports, sums_are_few, sums_are_small, sums_within_all}
 use Rattle.section_intake.proofs.laws.sums.Goals as goal
+
+pub returns-clause-some : goal.returns-clause-some
+returns-clause-some c = some_reports
+
+pub returns-clause-few : goal.returns-clause-few
+returns-clause-few c = sums_are_few
 
 pub returns-clause-one : goal.returns-clause-one
 returns-clause-one c = one_list
