@@ -6,7 +6,7 @@ ghost use Rattle.seat_remainders.specs.Parties.{nominal_votes, valid_votes, vote
 use seat_remainders::{Contest, Contestant, Entry};
 
 /// Whether it has 1 to 200 seats, parties that rise by number, and at most 10^12 valid votes.
-pub(crate) fn is_contest(contest: &Contest) -> bool
+pub fn is_contest(contest: &Contest) -> bool
     ensures { result ≡ true → IsContest contest.now }
 {
     contest.seats >= 1
@@ -53,7 +53,7 @@ fn party_votes(party: &Contestant) -> Option<u64>
 }
 
 /// The votes of some candidates, if a word has room for them.
-pub(crate) fn candidate_votes(entries: &[Entry]) -> Option<u64>
+pub fn candidate_votes(entries: &[Entry]) -> Option<u64>
     ensures { (votes : ℕ) → result ≡ Some votes → votes ≡ nominal_votes entries.now }
 {
     let mut votes = 0u64;
