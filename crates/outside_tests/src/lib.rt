@@ -3,11 +3,13 @@
 //! stand in a crate of their own because a crate with tests is proved twice, with them and without them.
 //!
 //! `calls` has the calls of a machine as rows of a table, so that a test is such a table; `watched` is the runtime that
-//! notes what is done to real files.
+//! notes what is done to real files. `device` is no test itself: it makes the machine on which the two slots of a device
+//! are renewed.
 #![tactic(auto)]
 
 #[cfg(test)]
 mod calls;
+pub mod device;
 #[cfg(test)]
 mod files;
 #[cfg(test)]

@@ -2,23 +2,18 @@
 //! is told to.
 ghost use Rattle.std.specs.Prelude.{◌≡◌, ◌≤◌, length, IfOk, OnErr};
 ghost use Rattle.urna_outside.specs.Flash.{IsClean};
-ghost use Rattle.urna_outside.specs.Recorder.{recorder_told};
 ghost use Rattle.urna_outside.specs.Told.{Rose, faults_of, port_of, size_of};
-ghost use Rattle.urna_outside.specs.declared.device.Dev.TheVariants.{Internal};
 ghost use Rattle.gate_slot.specs.Device.{OnFlash};
 ghost use Rattle.gate_slot.specs.Slot.{room};
 
+use crate::device::{DEVICE, OLD, OPEN, machine};
 use gate_slot::{Live, Slot, Step, Torn, adopt};
 use std::process::Abort;
 use std::test::Fail;
 use twin_image::renew;
 use urna_outside::{Dev, Machine, Recorder, Tear};
 
-const OLD: [u8; 4] = [1; 4];
-
 const NEW: [u8; 4] = [2; 4];
-
-const OPEN: u8 = 0xA5;
 
 const CLOSED: u8 = 0x5A;
 
@@ -29,26 +24,8 @@ const TEARS: [Tear; 4] = [
     Tear::Byte(OPEN),
 ];
 
-/// The bytes of a device: a header of 512, and two slots of a gate, a padding of 511 and a body of 4.
-const DEVICE: usize = 1_544;
-
 /// The gate and the body of a slot.
 type Held = (u8, [u8; 4]);
-
-/// A machine whose internal device has both slots open with the old body.
-fn machine(rt: &impl AllocGlobal, failing: &[u32]) -> Result<Recorder, Fail>
-    ensures room { IfOk result (λ m. room 4 ≤ size_of Internal (recorder_told m).sizes) }
-    ensures clean { IfOk result (λ m. OnFlash Internal IsClean (recorder_told m)) }
-{
-    let alloc = rt.alloc();
-    let external = vec![in alloc; 7; DEVICE]?;
-    let mut internal = external.to_vec(alloc)?;
-    internal[512] = OPEN;
-    internal[1_024..1_028].copy_from_slice(&OLD);
-    internal[1_028] = OPEN;
-    internal[1_540..].copy_from_slice(&OLD);
-    Ok(Recorder::restart(alloc, internal, external, 16, 64, failing)?)
-}
 
 /// Takes both slots of a device over and renews them. Where that is torn, the count of the device rose.
 fn renewed<M: Machine, const SIZE: usize>(
