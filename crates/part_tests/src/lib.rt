@@ -1,6 +1,8 @@
 //! The tests of eleven parts: what each answers to values from outside, and each of its public calls once on its happy path.
-//! They stand in a crate of their own because a crate with tests is proved twice, with them and without them; here nothing
-//! but the tests is. One module has the tests of one crate, and `reports` and `files` have those of two each.
+//! They stand in a crate of their own because a crate with tests is proved twice, with them and without them.
+//!
+//! One module has the tests of one crate, and `reports` and `files` have those of two each. `lines` is no test itself: it
+//! has a line that is pushed in five pieces, which `numbers` tests.
 #![tactic(auto)]
 
 #[cfg(test)]
@@ -11,6 +13,7 @@ mod codec;
 mod files;
 #[cfg(test)]
 mod intake;
+pub mod lines;
 #[cfg(test)]
 mod marks;
 #[cfg(test)]

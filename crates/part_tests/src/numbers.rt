@@ -1,28 +1,10 @@
 //! Numbers and bytes (the crate `urna_base`).
-ghost use Rattle.std.specs.Prelude.{◌≡◌, ◌^◌, ◌<◌, [], ◌∷◌, ◌++◌, codes};
-ghost use Rattle.std.specs.Fmt.{decimal};
-ghost use Rattle.urna_base.specs.Digits.{padded};
-
+use crate::lines::sealed_line;
 use std::test::Fail;
 use urna_base::{
-    LineBuffer, be32, be64, date_ok, decimal, decimal_into, digits, moment_ok, put_be32, put_be64,
-    put_decimal, put_digits, split_line, zeros,
+    be32, be64, date_ok, decimal, decimal_into, digits, moment_ok, put_be32, put_be64, put_decimal,
+    put_digits, split_line, zeros,
 };
-
-/// A line of five pushes, as the layers above write them.
-#[tactic(auto, using(urna_base::proofs::DecimalLaws::line_lengths))]
-fn sealed_line(moment: u64, came: u32) -> LineBuffer
-    requires { moment < 10 ^ 14 }
-    ensures { result ≡ codes "ENCERRADA " ++ padded 14 moment ++ codes " " ++ decimal came ++ 10 ∷ [] }
-{
-    let mut line = LineBuffer::new();
-    line.push_text(b"ENCERRADA ");
-    line.push_digits(moment, 14);
-    line.push_text(b" ");
-    line.push_decimal(u64::from(came));
-    line.push_text(b"\n");
-    line
-}
 
 #[test]
 fn a_line_is_its_pieces_joined(rt: HostRuntime) {
