@@ -1,8 +1,8 @@
 -- An intake that was made for some tables: what it says, and what it is with one report more.
-use Rattle.std.proofs.Common.{◌≡◌, ℕ, zero, suc, ◌+◌, ◌<◌, ◌≤◌, ◌^◌, ◌==◌, true, false, List, [], ◌∷◌, ◌++◌, length, get_or, set, slice_get, nat_eq, if◌then◌else◌, Option, None, Some, option_map, unwrap_or, refl, sym, ap, ◌∙◌, subst, inl, inr, arith}
+use Rattle.std.proofs.Common.{◌≡◌, ℕ, zero, suc, ◌+◌, ◌<◌, ◌≤◌, ◌^◌, ◌==◌, ◌&&◌, Bool, true, false, List, [], ◌∷◌, ◌++◌, length, get_or, set, slice_get, nat_eq, if◌then◌else◌, Option, None, Some, option_map, unwrap_or, refl, sym, ap, ◌∙◌, subst, inl, inr, arith}
 use Rattle.std.specs.List.{AllByRecursion, list_any, position, sum_by}
 use Rattle.std.specs.Option.{option_map_or}
-use Rattle.std.proofs.lemmas.Bool.{and_parts, cases_Bool}
+use Rattle.std.proofs.lemmas.Bool.{cases_Bool}
 use Rattle.std.proofs.lemmas.Bool.Decides.{nat_tests}
 use Rattle.std.proofs.lemmas.List.{length-map, length_push}
 use Rattle.std.proofs.lemmas.List.Sums.{sum_by-cons, sum_by_push}
@@ -76,16 +76,16 @@ fits_there t r panel o fit at =
 
 -- ---- a number that the tables lack has no votes
 
-no_votes : (number : ℕ) (numbers : List ℕ) (counts : List Count) → list_any (nat_eq number) numbers ≡ false
-    → AllByRecursion (λ c. list_any (nat_eq c.number) numbers ≡ true) counts → votes_for number counts ≡ 0
-no_votes number numbers [] none all = refl
-no_votes number numbers (c ∷ counts) none all =
+-- where each listed number passes a test, one that doesn't has no votes
+no_votes : (may : ℕ → Bool) (number : ℕ) (counts : List Count) → may number ≡ false → AllByRecursion (λ c. may c.number ≡ true) counts → votes_for number counts ≡ 0
+no_votes may number [] none all = refl
+no_votes may number (c ∷ counts) none all =
     let sum = sum_by-cons (λ (d : Count). if d.number == number then d.votes else 0) c counts in
-    let rest = no_votes number numbers counts none all.1 in
+    let rest = no_votes may number counts none all.1 in
     elim (cases_Bool (c.number == number)) [
       | inl here ↦ absurd (
           let same : c.number ≡ number = grind (arith, nat_tests) in
-          let listed : list_any (nat_eq number) numbers ≡ true = subst (λ (n : ℕ). list_any (nat_eq n) numbers ≡ true) same all.0 in
+          let passes : may number ≡ true = subst (λ (n : ℕ). may n ≡ true) same all.0 in
           cc)
       | inr other ↦
           let first : (if c.number == number then c.votes else 0) ≡ 0 = rw other refl in
@@ -106,11 +106,17 @@ none_in_all f t panel (r ∷ reports) fit none =
     let rest = none_in_all f t panel reports fit.1 none in
     omega arith
 
-party_listed : (line : BallotLine) (counts : List Count) → AllByRecursion (λ c. is_choice line (choice.Party c.number) ≡ true) counts
-    → AllByRecursion (λ c. list_any (nat_eq c.number) line.parties ≡ true) counts
-party_listed line [] all = tt
-party_listed line (c ∷ counts) all =
-    ((and_parts line.proportional (list_any (nat_eq c.number) line.parties) all.0).1, party_listed line counts all.1)
+pub no_nominal : (t : TablesData) (panel number : ℕ) (reports : List Report) → AllByRecursion (Fits t) reports
+    → is_choice (line_of t panel) (choice.Nominal number) ≡ false → nominal_sum panel number reports ≡ 0
+no_nominal t panel number reports fit none =
+    none_in_all (λ o. votes_for number o.nominal) t panel reports fit
+    (λ o h. no_votes (λ n. is_choice (line_of t panel) (choice.Nominal n)) number o.nominal none h.candidates)
+
+pub no_party : (t : TablesData) (panel number : ℕ) (reports : List Report) → AllByRecursion (Fits t) reports
+    → is_choice (line_of t panel) (choice.Party number) ≡ false → party_sum panel number reports ≡ 0
+no_party t panel number reports fit none =
+    none_in_all (λ o. votes_for number o.parties) t panel reports fit
+    (λ o h. no_votes (λ n. is_choice (line_of t panel) (choice.Party n)) number o.parties none h.parties)
 
 pub nominal_there : (t : TablesData) (panel number : ℕ) (reports : List Report) → AllByRecursion (Fits t) reports
     → votes_at number (sums_at t reports panel).nominal ≡ nominal_sum panel number reports
@@ -118,8 +124,13 @@ nominal_there t panel number reports fit = elim (cases_Bool (list_any (nat_eq nu
   | inl listed ↦ votes_there (λ n. nominal_sum panel n reports) (line_of t panel).candidates number listed
   | inr lacks ↦
       votes_nowhere (λ n. nominal_sum panel n reports) (line_of t panel).candidates number lacks
-      ∙ sym (none_in_all (λ o. votes_for number o.nominal) t panel reports fit (λ o h. no_votes number (line_of t panel).candidates o.nominal lacks h.candidates))
+      ∙ sym (no_nominal t panel number reports fit lacks)
 ]
+
+-- a number that is none of a party may not be chosen in any office
+no_choice : (proportional : Bool) {listed : Bool} → listed ≡ false → proportional && listed ≡ false
+no_choice true lacks = lacks
+no_choice false lacks = refl
 
 pub party_there : (t : TablesData) (panel number : ℕ) (reports : List Report) → AllByRecursion (Fits t) reports
     → votes_at number (sums_at t reports panel).parties ≡ party_sum panel number reports
@@ -127,8 +138,7 @@ party_there t panel number reports fit = elim (cases_Bool (list_any (nat_eq numb
   | inl listed ↦ votes_there (λ n. party_sum panel n reports) (line_of t panel).parties number listed
   | inr lacks ↦
       votes_nowhere (λ n. party_sum panel n reports) (line_of t panel).parties number lacks
-      ∙ sym (none_in_all (λ o. votes_for number o.parties) t panel reports fit
-      (λ o h. no_votes number (line_of t panel).parties o.parties lacks (party_listed (line_of t panel) o.parties h.parties)))
+      ∙ sym (no_party t panel number reports fit (no_choice (line_of t panel).proportional lacks))
 ]
 
 -- what stands in a panel of an intake are the sums over the reports of its files

@@ -5,6 +5,8 @@ ghost use Rattle.election_tables.specs.declared.tables.sections.Section.{Section
 ghost use Rattle.poll_report.specs.Report.{total_of};
 ghost use Rattle.poll_report.specs.declared.report.OfficeCount.{OfficeCount};
 ghost use Rattle.poll_report.specs.declared.report.Report.{Report};
+ghost use Rattle.vote_kinds.specs.Ballot.{is_choice, line_of};
+ghost use Rattle.vote_kinds.specs.declared.choice.Choice.TheVariants as Choice;
 ghost use Rattle.section_intake.specs.Accepted.{IsVerdictBehind, accepted_with, is_accepted};
 ghost use Rattle.section_intake.specs.Intake.{IsIntakeFor, accepted_files, panels_of};
 ghost use Rattle.section_intake.specs.Kept.{HasRoomFor, with_offices};
@@ -158,16 +160,18 @@ impl Intake {
     /// that the panel is in range.
     pub fn nominal(&self, panel: u32, number: u32) -> u64
         requires { panel < panels_of self.now }
-        ensures { (t : TablesData) (reports : List Report) → IsIntakeFor t self.now → AreReportsOf (accepted_files self.now) reports → result ≡ nominal_sum panel number reports }
+        ensures sum { (t : TablesData) (reports : List Report) → IsIntakeFor t self.now → AreReportsOf (accepted_files self.now) reports → result ≡ nominal_sum panel number reports }
+        ensures lacking { (t : TablesData) → IsIntakeFor t self.now → is_choice (line_of t panel) (Choice.Nominal number) ≡ false → result ≡ 0 }
     {
         self.panels[panel as usize].nominal.votes(number)
     }
 
-    /// The party votes alone of a party in a panel, over all accepted reports; 0 for a number that the tables lack. The
-    /// caller owes that the panel is in range.
+    /// The party votes alone of a party in a panel, over all accepted reports; 0 for a number that the tables lack, and
+    /// where the office is not decided in proportion. The caller owes that the panel is in range.
     pub fn party(&self, panel: u32, number: u8) -> u64
         requires { panel < panels_of self.now }
-        ensures { (t : TablesData) (reports : List Report) → IsIntakeFor t self.now → AreReportsOf (accepted_files self.now) reports → result ≡ party_sum panel number reports }
+        ensures sum { (t : TablesData) (reports : List Report) → IsIntakeFor t self.now → AreReportsOf (accepted_files self.now) reports → result ≡ party_sum panel number reports }
+        ensures lacking { (t : TablesData) → IsIntakeFor t self.now → is_choice (line_of t panel) (Choice.Party number) ≡ false → result ≡ 0 }
     {
         self.panels[panel as usize].parties.votes(u32::from(number))
     }

@@ -2,11 +2,11 @@ use Rattle.std.proofs.Common.{◌≡◌, ◌∙◌, List, Some, length, slice_ge
 use Rattle.std.proofs.lemmas.Option.{slice_get_read}
 use Rattle.section_intake.specs.Kept.{votes_at}
 use Rattle.section_intake.specs.declared.panel_sums.PanelSums.{PanelSums}
-use Rattle.section_intake.proofs.IntakeLaws.{nominal_there, panel_there}
+use Rattle.section_intake.proofs.IntakeLaws.{no_nominal, nominal_there, panel_there}
 use Rattle.section_intake.proofs.intake.Intake.nominal.Goals as goal
 
-pub returns : goal.returns
-returns c t reports is read =
+pub returns-clause-sum : goal.returns-clause-sum
+returns-clause-sum c t reports is read =
     let sums : List PanelSums = c.args.self.now.panels.items in
     let s : PanelSums = c.index.result.now in
     let at : slice_get sums c.args.panel ≡ Some s = slice_get_read sums (length sums) c.args.panel s refl c.requires c.index.ensures in
@@ -14,3 +14,7 @@ returns c t reports is read =
     c.votes.ensures
     ∙ ap (λ (x : PanelSums). votes_at c.args.number x.nominal) here.1
     ∙ nominal_there t c.args.panel c.args.number reports here.0
+
+pub returns-clause-lacking : goal.returns-clause-lacking
+returns-clause-lacking c t is none =
+    returns-clause-sum c t is.reports is is.read ∙ no_nominal t c.args.panel c.args.number is.reports is.fit none
