@@ -164,8 +164,8 @@ pub candidate_count : (t : TablesData) (panel : ℕ) → length (line_of t panel
 candidate_count t panel =
     length-map (panel_at t panel).candidates (λ c. c.number) ∙ ap (λ (cs : List NamedCandidate). length cs) (sym (candidates_known t panel))
 
-pub party_at : (t : TablesData) (panel i n : ℕ) → option_map (λ q. q.number) (slice_get t.parties i) ≡ Some n → slice_get (line_of t panel).parties i ≡ Some n
-party_at t panel i n e = slice_get-map (λ (q : Party). q.number) t.parties i ∙ e
+pub party_at : (t : TablesData) (i n : ℕ) → option_map (λ q. q.number) (slice_get t.parties i) ≡ Some n → slice_get (map (λ q. q.number) t.parties) i ≡ Some n
+party_at t i n e = slice_get-map (λ (q : Party). q.number) t.parties i ∙ e
 
 pub candidates_rise : (t : TablesData) → IsTables t → (panel : ℕ) → panel < length t.panels → IsStrictlyIncreasing (line_of t panel).candidates
 candidates_rise t is panel lt = elim ((slice_get_cases t.panels panel).1) [

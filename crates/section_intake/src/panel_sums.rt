@@ -26,7 +26,7 @@ impl PanelSums {
     {
         Ok(PanelSums {
             nominal: Tallies::of_candidates(alloc, tables, panel)?,
-            parties: Tallies::of_parties(alloc, tables, panel)?,
+            parties: Tallies::of_parties(alloc, tables)?,
             blank: 0,
             null_votes: 0,
         })

@@ -1,5 +1,5 @@
 //! The votes of each of some numbers.
-ghost use Rattle.std.specs.Prelude.{◌≡◌, ◌+◌, ◌<◌, ◌^◌, [], ◌∷◌, length, IfOk};
+ghost use Rattle.std.specs.Prelude.{◌≡◌, ◌+◌, ◌<◌, ◌^◌, [], ◌∷◌, length, map, IfOk};
 ghost use Rattle.election_tables.specs.TablesData.{IsTables};
 ghost use Rattle.poll_report.specs.Report.{votes_of};
 ghost use Rattle.vote_kinds.specs.Ballot.{line_of};
@@ -12,7 +12,7 @@ use std::marker::Model;
 use urna_base::Memory;
 
 /// A number, and its votes so far.
-#[derive(Clone, Copy, Debug, PartialEq, Eq)]
+#[derive(Drop)]
 pub struct Tally {
     pub number: u32,
     pub votes: u64,
@@ -60,8 +60,8 @@ impl Tallies {
     }
 
     /// The parties, each with no votes.
-    pub(crate) fn of_parties(alloc: Global, tables: &Tables, panel: u32) -> Result<Tallies, Memory>
-        ensures { IfOk result (λ s. s ≡ tallies_of (λ n. 0) (line_of tables.now panel).parties) }
+    pub(crate) fn of_parties(alloc: Global, tables: &Tables) -> Result<Tallies, Memory>
+        ensures { IfOk result (λ s. s ≡ tallies_of (λ n. 0) (map (λ q. q.number) tables.now.parties)) }
     {
         let count = tables.party_count();
         let mut items = Vec::with_capacity(alloc, count as usize)?;
