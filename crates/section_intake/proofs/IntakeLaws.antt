@@ -31,6 +31,7 @@ use Rattle.section_intake.specs.declared.tallies.Tally.{Tally}
 use Rattle.section_intake.proofs.AcceptedLaws.{files_short, report_few, small_sum, sums_within_all}
 use Rattle.section_intake.proofs.HolderLaws.{free, free_place, held, held_more, section_there}
 use Rattle.section_intake.proofs.Members.{all_append}
+use Rattle.section_intake.proofs.NumberSums.{sum_zero}
 use Rattle.section_intake.proofs.ReportLaws.{are_reports, as_many, no_more, one_list, one_more}
 use Rattle.section_intake.proofs.SumLaws as sums
 use Rattle.section_intake.proofs.VerdictLaws.{one_report}
@@ -74,6 +75,22 @@ fits_there t r panel o fit at =
     let lt = slice_get_within r.offices panel o at in
     line_at (lines_by_panel t) r.offices panel (line_of t panel) o fit.offices (panel_line t panel (omega arith)) at
 
+-- what is the same of each office that fits is the same of reports that fit
+same_in_office : (f g : OfficeCount → ℕ) (t : TablesData) (panel : ℕ) (r : Report) → Fits t r → ((o : OfficeCount) → FitsLine (line_of t panel) o → f o ≡ g o)
+    → (found : Option OfficeCount) → slice_get r.offices panel ≡ found → option_map_or f found 0 ≡ option_map_or g found 0
+same_in_office f g t panel r fit same None at = refl
+same_in_office f g t panel r fit same (Some o) at = same o (fits_there t r panel o fit at)
+
+pub same_in_all : (f g : OfficeCount → ℕ) (t : TablesData) (panel : ℕ) (reports : List Report) → AllByRecursion (Fits t) reports
+    → ((o : OfficeCount) → FitsLine (line_of t panel) o → f o ≡ g o) → sum_by (of_office f panel) reports ≡ sum_by (of_office g panel) reports
+same_in_all f g t panel [] fit same = refl
+same_in_all f g t panel (r ∷ reports) fit same =
+    let left = sum_by-cons (of_office f panel) r reports in
+    let right = sum_by-cons (of_office g panel) r reports in
+    let first : of_office f panel r ≡ of_office g panel r = same_in_office f g t panel r fit.0 same (slice_get r.offices panel) refl in
+    let rest = same_in_all f g t panel reports fit.1 same in
+    omega arith
+
 -- ---- a number that the tables lack has no votes
 
 -- where each listed number passes a test, one that doesn't has no votes
@@ -92,19 +109,18 @@ no_votes may number (c ∷ counts) none all =
           omega arith
     ]
 
-none_in_office : (f : OfficeCount → ℕ) (t : TablesData) (panel : ℕ) (r : Report) → Fits t r → ((o : OfficeCount) → FitsLine (line_of t panel) o → f o ≡ 0)
-    → (found : Option OfficeCount) → slice_get r.offices panel ≡ found → option_map_or f found 0 ≡ 0
-none_in_office f t panel r fit none None at = refl
-none_in_office f t panel r fit none (Some o) at = none o (fits_there t r panel o fit at)
+-- nothing is counted
+abbrev none_of : OfficeCount → ℕ
+none_of o = 0
 
 none_in_all : (f : OfficeCount → ℕ) (t : TablesData) (panel : ℕ) (reports : List Report) → AllByRecursion (Fits t) reports
     → ((o : OfficeCount) → FitsLine (line_of t panel) o → f o ≡ 0) → sum_by (of_office f panel) reports ≡ 0
-none_in_all f t panel [] fit none = refl
-none_in_all f t panel (r ∷ reports) fit none =
-    let sum = sum_by-cons (of_office f panel) r reports in
-    let first : of_office f panel r ≡ 0 = none_in_office f t panel r fit.0 none (slice_get r.offices panel) refl in
-    let rest = none_in_all f t panel reports fit.1 none in
-    omega arith
+none_in_all f t panel reports fit none =
+    same_in_all f none_of t panel reports fit none ∙ sum_zero (of_office none_of panel) reports (λ r. nothing (slice_get r.offices panel))
+  where
+    nothing : (o : Option OfficeCount) → option_map_or none_of o 0 ≡ 0
+    nothing None = refl
+    nothing (Some o) = refl
 
 pub no_nominal : (t : TablesData) (panel number : ℕ) (reports : List Report) → AllByRecursion (Fits t) reports
     → is_choice (line_of t panel) (choice.Nominal number) ≡ false → nominal_sum panel number reports ≡ 0

@@ -5,7 +5,9 @@ pub mod FitLaws
 pub mod HolderLaws
 pub mod IntakeLaws
 pub mod Members
+pub mod NumberSums
 pub mod ReportLaws
 pub mod SumLaws
 pub mod TallyLaws
 pub mod VerdictLaws
+pub mod VotesOfTables

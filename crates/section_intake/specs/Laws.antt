@@ -1,6 +1,6 @@
 -- What is so of all files and tables.
-use Rattle.std.specs.Prelude.{◌≡◌, ◌*◌, ◌<◌, ◌≤◌, ◌^◌, ℕ, List, [], ◌∷◌, length}
-use Rattle.std.specs.List.{AllByRecursion}
+use Rattle.std.specs.Prelude.{◌≡◌, ◌+◌, ◌*◌, ◌<◌, ◌≤◌, ◌^◌, ℕ, List, [], ◌∷◌, length}
+use Rattle.std.specs.List.{AllByRecursion, sum_by}
 use Rattle.urna_base.specs.Words.{pieces}
 use Rattle.election_tables.specs.Limits.{most_sections}
 use Rattle.election_tables.specs.TablesData.{IsTables, TablesData}
@@ -9,11 +9,12 @@ use Rattle.hash_chain.specs.Fault.{AreFields}
 use Rattle.poll_report.specs.Report.{IsReport, greatest_count}
 use Rattle.poll_report.specs.declared.report.Report.{Report}
 use Rattle.qr_text.specs.Spelling.{report_text}
+use Rattle.vote_kinds.specs.Ballot.{line_of}
 use Rattle.section_intake.specs.Accepted.{AreOffered, File, IsOfSection}
 use Rattle.section_intake.specs.Fits.{Fits}
 use Rattle.section_intake.specs.Intake.{IsIntakeFor, accepted_files}
 use Rattle.section_intake.specs.Sections.{AreOfDifferentSections}
-use Rattle.section_intake.specs.Sums.{AreReportsOf, all_sum, blank_sum, nominal_sum, null_sum, party_sum}
+use Rattle.section_intake.specs.Sums.{AreReportsOf, all_nominal, all_party, all_sum, blank_sum, nominal_sum, null_sum, party_sum}
 use Rattle.section_intake.specs.Verdict.{IsVerdict}
 use Rattle.section_intake.specs.declared.intake.Intake.{Intake}
 use Rattle.section_intake.specs.declared.verdict.Verdict.{Verdict}
@@ -103,3 +104,14 @@ SumsAreFew = (files : List File) (reports : List Report) (panel : ℕ) → AreRe
 abbrev pub SumsAreSmall : Type 0
 SumsAreSmall = (t : TablesData) (i : Intake) (reports : List Report) (panel : ℕ) → IsIntakeFor t i → AreReportsOf (accepted_files i) reports
     → all_sum panel reports ≤ most_sections * greatest_count
+
+-- The nominal votes of a panel are those of the tables' candidates, its party votes those of the parties,
+abbrev pub EachVoteIsOfTheTables : Type 0
+EachVoteIsOfTheTables = (t : TablesData) (reports : List Report) (panel : ℕ) → IsTables t → AllByRecursion (Fits t) reports → panel < length t.panels
+    → (sum_by (λ n. nominal_sum panel n reports) (line_of t panel).candidates ≡ all_nominal panel reports)
+    × (sum_by (λ n. party_sum panel n reports) (line_of t panel).parties ≡ all_party panel reports)
+
+-- and with the blank and the null votes they are all votes
+abbrev pub VotesAddUp : Type 0
+VotesAddUp = (panel : ℕ) (reports : List Report)
+    → all_nominal panel reports + all_party panel reports + (blank_sum panel reports + null_sum panel reports) ≡ all_sum panel reports

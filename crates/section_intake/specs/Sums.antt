@@ -2,7 +2,7 @@
 use Rattle.std.specs.Prelude.{ℕ, ◌==◌, if◌then◌else◌, List, [], ◌∷◌, slice_get}
 use Rattle.std.specs.List.{sum_by}
 use Rattle.std.specs.Option.{option_map_or}
-use Rattle.poll_report.specs.Report.{total_of}
+use Rattle.poll_report.specs.Report.{total_of, votes_of}
 use Rattle.poll_report.specs.declared.report.Count.{Count}
 use Rattle.poll_report.specs.declared.report.OfficeCount.{OfficeCount}
 use Rattle.poll_report.specs.declared.report.Report.{Report}
@@ -40,3 +40,10 @@ null_sum panel reports = sum_by (of_office (λ o. o.null_votes) panel) reports
 -- all votes in a panel
 abbrev pub all_sum : ℕ → List Report → ℕ
 all_sum panel reports = sum_by (of_office total_of panel) reports
+
+-- all nominal votes, and all party votes, in a panel
+abbrev pub all_nominal : ℕ → List Report → ℕ
+all_nominal panel reports = sum_by (of_office (λ o. votes_of o.nominal) panel) reports
+
+abbrev pub all_party : ℕ → List Report → ℕ
+all_party panel reports = sum_by (of_office (λ o. votes_of o.parties) panel) reports

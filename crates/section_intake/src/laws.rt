@@ -1,5 +1,5 @@
 //! What is so of every file. Each function here does nothing: its contract is the law.
-ghost use Rattle.section_intake.specs.Laws.{EachIsAccepted, EachSectionOnce, FileIsAccepted, NoMoreThanSections, OneListOfReports, OneListOfVerdicts, OneVerdict, SomeReports, SomeVerdict, SomeVerdicts, SumsAreFew, SumsAreSmall, SumsAreWithinAll, TextHasParts};
+ghost use Rattle.section_intake.specs.Laws.{EachIsAccepted, EachSectionOnce, EachVoteIsOfTheTables, FileIsAccepted, NoMoreThanSections, OneListOfReports, OneListOfVerdicts, OneVerdict, SomeReports, SomeVerdict, SomeVerdicts, SumsAreFew, SumsAreSmall, SumsAreWithinAll, TextHasParts, VotesAddUp};
 
 /// Of a file that is shorter than 2^63 bytes there is one verdict.
 pub fn verdicts()
@@ -25,11 +25,14 @@ pub fn offers()
 {}
 
 /// Of accepted files there is one list of reports, which fit and are of different sections, and so one of each sum; no sum is above
-/// 9,999 for each file, and none of an intake above 19,998,000.
+/// 9,999 for each file, and none of an intake above 19,998,000. Each vote of a panel is one of a candidate or a party of the tables,
+/// blank or null.
 pub fn sums()
     ensures some { SomeReports }
     ensures one { OneListOfReports }
     ensures within { SumsAreWithinAll }
     ensures few { SumsAreFew }
     ensures small { SumsAreSmall }
+    ensures told { EachVoteIsOfTheTables }
+    ensures whole { VotesAddUp }
 {}
