@@ -19,14 +19,14 @@ use Rattle.section_intake.proofs.VerdictLaws.{one_verdict, some_verdict}
 -- ---- one verdict behind the accepted files
 
 -- a verdict that refuses a file by itself is none of a report that fits
-not_itself : (t : TablesData) (file : File) (z s : ℕ) (v : Verdict) → length file < 2 ^ 63 → IsVerdict t file v → is_accepted v ≡ false → IsOfSection t z s file → ⊥
+pub not_itself : (t : TablesData) (file : File) (z s : ℕ) (v : Verdict) → length file < 2 ^ 63 → IsVerdict t file v → is_accepted v ≡ false → IsOfSection t z s file → ⊥
 not_itself t file z s v short h refuses is =
     let same : v ≡ verdict.Accepted z s = one_verdict t file v (verdict.Accepted z s) short h is in
     let yes : is_accepted v ≡ true = ap is_accepted same in
     cc
 
 -- a file is of one section
-one_section : (t : TablesData) (file : File) (z s y u : ℕ) → length file < 2 ^ 63 → IsOfSection t z s file → IsOfSection t y u file → (z ≡ y) × (s ≡ u)
+pub one_section : (t : TablesData) (file : File) (z s y u : ℕ) → length file < 2 ^ 63 → IsOfSection t z s file → IsOfSection t y u file → (z ≡ y) × (s ≡ u)
 one_section t file z s y u short h i =
     let same : verdict.Accepted z s ≡ verdict.Accepted y u = one_verdict t file (verdict.Accepted z s) (verdict.Accepted y u) short h i in
     (cc, cc)
@@ -155,7 +155,7 @@ some_behind t is accepted file short lt = let (v, h) = some_verdict t file is lt
 -- ---- the accepted files
 
 -- what is so of the accepted files, and of one that is accepted behind them, is so of all
-kept_with : (P : List File → Type 0) (t : TablesData) (accepted : List File) (file : File) (v : Verdict) → IsVerdictBehind t accepted file v → P accepted
+pub kept_with : (P : List File → Type 0) (t : TablesData) (accepted : List File) (file : File) (v : Verdict) → IsVerdictBehind t accepted file v → P accepted
     → ((z s : ℕ) → IsOfSection t z s file → AllByRecursion (λ f. ¬ IsOfSection t z s f) accepted → P (accepted ++ file ∷ []))
     → P (accepted_with accepted v file)
 kept_with P t accepted file _ (by_itself {v} h refuses) before more = rw refuses before
@@ -213,7 +213,7 @@ go_on t is before (f ∷ rest) verdicts accepted short more offered =
 pub some_verdicts : SomeVerdicts
 some_verdicts t files is short = go_on t is [] files [] [] tt short none_offered
 
-never_none : (files : List File) (f : File) → [] ≡ files ++ f ∷ [] → ⊥
+pub never_none : (files : List File) (f : File) → [] ≡ files ++ f ∷ [] → ⊥
 never_none [] f e = cc
 never_none (g ∷ files) f e = cc
 

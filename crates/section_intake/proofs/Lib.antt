@@ -1,6 +1,7 @@
 pub mod AcceptedLaws
 pub mod BehindLaws
 pub mod FileLaws
+pub mod FirstLaws
 pub mod FitLaws
 pub mod HolderLaws
 pub mod IntakeLaws

@@ -44,3 +44,21 @@ pub data AreOffered (t : TablesData) : List File → List Verdict → List File 
   none_offered : AreOffered t [] [] []
   one_more : {files accepted : List File} {verdicts : List Verdict} {file : File} {v : Verdict} → AreOffered t files verdicts accepted
       → IsVerdictBehind t accepted file v → AreOffered t (files ++ file ∷ []) (verdicts ++ v ∷ []) (accepted_with accepted v file)
+
+-- ---- which files are accepted, with no look at those that were accepted before
+
+-- the section has a report among these files
+abbrev pub HasReportIn : TablesData → ℕ → ℕ → List File → Type 0
+HasReportIn t zone section files = (file : File) × Contains files file × IsOfSection t zone section file
+
+-- the file is the report of a section that has none among the files before it
+abbrev pub IsFirstOfSection : TablesData → List File → File → Type 0
+IsFirstOfSection t before file = (zone : ℕ) × (section : ℕ) × IsOfSection t zone section file × (¬ HasReportIn t zone section before)
+
+-- Of files that stand one behind the other, those that are the first of their section, in order.
+pub data AreFirst (t : TablesData) : List File → List File → Type 0 where
+  no_files : AreFirst t [] []
+  comes_first : {files firsts : List File} {file : File} → AreFirst t files firsts → IsFirstOfSection t files file
+      → AreFirst t (files ++ file ∷ []) (firsts ++ file ∷ [])
+  comes_later : {files firsts : List File} {file : File} → AreFirst t files firsts → ¬ IsFirstOfSection t files file
+      → AreFirst t (files ++ file ∷ []) firsts

@@ -10,7 +10,7 @@ use Rattle.poll_report.specs.Report.{IsReport, greatest_count}
 use Rattle.poll_report.specs.declared.report.Report.{Report}
 use Rattle.qr_text.specs.Spelling.{report_text}
 use Rattle.vote_kinds.specs.Ballot.{line_of}
-use Rattle.section_intake.specs.Accepted.{AreOffered, File, IsOfSection}
+use Rattle.section_intake.specs.Accepted.{AreFirst, AreOffered, File, HasReportIn, IsOfSection}
 use Rattle.section_intake.specs.Fits.{Fits}
 use Rattle.section_intake.specs.Intake.{IsIntakeFor, accepted_files}
 use Rattle.section_intake.specs.Sections.{AreOfDifferentSections}
@@ -75,6 +75,17 @@ EachSectionOnce = (t : TablesData) (files : List File) (verdicts : List Verdict)
 abbrev pub NoMoreThanSections : Type 0
 NoMoreThanSections = (t : TablesData) (files : List File) (verdicts : List Verdict) (accepted : List File) → AreShort files
     → AreOffered t files verdicts accepted → length accepted ≤ length t.sections
+
+-- The accepted files are those that are the first of their section, in order, and no others:
+abbrev pub FirstsAreAccepted : Type 0
+FirstsAreAccepted = (t : TablesData) (files : List File) (verdicts : List Verdict) (accepted : List File) → AreShort files
+    → AreOffered t files verdicts accepted → AreFirst t files accepted × ((others : List File) → AreFirst t files others → accepted ≡ others)
+
+-- a section has a report among them exactly where it has one among all files, so that only the accepted ones need to be kept
+abbrev pub SameSections : Type 0
+SameSections = (t : TablesData) (files : List File) (verdicts : List Verdict) (accepted : List File) (zone section : ℕ) → AreShort files
+    → AreOffered t files verdicts accepted
+    → (HasReportIn t zone section files → HasReportIn t zone section accepted) × (HasReportIn t zone section accepted → HasReportIn t zone section files)
 
 -- ---- sums
 

@@ -7,7 +7,8 @@
 //!
 //! Of several files it uses that `Intake::offer` gives the verdict of `specs/Accepted.antt`, and `Intake::nominal`, `party`, `blank` and
 //! `null_votes` the sums of `specs/Sums.antt` over the reports of the accepted ones; each call rests on `IsIntakeFor`
-//! (`specs/Intake.antt`). `laws` has that there is one list of verdicts, and how many files and votes there are at most.
+//! (`specs/Intake.antt`). `laws` has that there is one list of verdicts, that the accepted files are the first of their sections, how
+//! many files and votes there are at most, and that the sums of a panel's numbers, blank and null votes are all votes.
 #![tactic(auto)]
 
 mod checking;
