@@ -24,16 +24,19 @@ of_office counted panel r = option_map_or counted (slice_get r.offices panel) 0
 abbrev pub votes_for : ℕ → List Count → ℕ
 votes_for number counts = sum_by (λ c. if c.number == number then c.votes else 0) counts
 
--- the nominal votes of a candidate, the party votes of a party, the blank and the null votes in a panel, over all these reports
+-- the nominal votes of a candidate in a panel, over all these reports
 abbrev pub nominal_sum : ℕ → ℕ → List Report → ℕ
 nominal_sum panel number reports = sum_by (of_office (λ o. votes_for number o.nominal) panel) reports
 
+-- the party votes of a party
 abbrev pub party_sum : ℕ → ℕ → List Report → ℕ
 party_sum panel number reports = sum_by (of_office (λ o. votes_for number o.parties) panel) reports
 
+-- the blank votes
 abbrev pub blank_sum : ℕ → List Report → ℕ
 blank_sum panel reports = sum_by (of_office (λ o. o.blank) panel) reports
 
+-- the null votes
 abbrev pub null_sum : ℕ → List Report → ℕ
 null_sum panel reports = sum_by (of_office (λ o. o.null_votes) panel) reports
 
@@ -41,9 +44,10 @@ null_sum panel reports = sum_by (of_office (λ o. o.null_votes) panel) reports
 abbrev pub all_sum : ℕ → List Report → ℕ
 all_sum panel reports = sum_by (of_office total_of panel) reports
 
--- all nominal votes, and all party votes, in a panel
+-- all nominal votes in a panel
 abbrev pub all_nominal : ℕ → List Report → ℕ
 all_nominal panel reports = sum_by (of_office (λ o. votes_of o.nominal) panel) reports
 
+-- all party votes
 abbrev pub all_party : ℕ → List Report → ℕ
 all_party panel reports = sum_by (of_office (λ o. votes_of o.parties) panel) reports

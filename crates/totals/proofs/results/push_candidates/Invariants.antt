@@ -1,0 +1,6 @@
+use Rattle.std.proofs.Common.{◌≡◌, ◌++◌, map, take}
+use Rattle.totals.specs.Lines.{candidate_line}
+use Rattle.totals.proofs.results.push_candidates.Given as goal
+
+abbrev pub invariant-loop-entry : goal.invariant-loop-entry
+invariant-loop-entry l = l.lines.items ≡ l.fn.lines.items ++ map candidate_line (take l.entry-index l.entries)

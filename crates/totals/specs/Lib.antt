@@ -1,0 +1,4 @@
+pub mod Contest
+pub mod Laws
+pub mod Lines
+pub mod Totals

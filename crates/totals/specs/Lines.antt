@@ -1,0 +1,88 @@
+-- The lines of the totals (docs/FORMATS.md, "Totals"), each with its line feed
+use Rattle.std.specs.Prelude.{ℕ, ◌+◌, List, [], ◌∷◌, ◌++◌, codes, map}
+use Rattle.std.specs.Fmt.{decimal}
+use Rattle.seat_remainders.specs.declared.contest.Entry.{Entry}
+use Rattle.seat_remainders.specs.declared.outcome.Award.{Award}
+use Rattle.seat_remainders.specs.declared.outcome.MajorityOutcome.{MajorityOutcome}
+use Rattle.seat_remainders.specs.declared.outcome.MajorityOutcome.TheVariants as majority
+use Rattle.seat_remainders.specs.declared.outcome.Outcome.{Outcome}
+use Rattle.seat_remainders.specs.declared.outcome.Outcome.TheVariants as outcome
+use Rattle.seat_remainders.specs.declared.outcome.PartySeats.{PartySeats}
+use Rattle.seat_remainders.specs.declared.outcome.Seats.{Seats as SeatsData}
+use Rattle.totals.specs.declared.votes.PanelVotes.{PanelVotes}
+
+-- how many reports were accepted, and of how many sections
+abbrev pub section_line : ℕ → ℕ → List ℕ
+section_line accepted sections = codes "SECOES " ++ decimal accepted ++ codes " DE " ++ decimal sections ++ 10 ∷ []
+
+-- the valid votes, which are the nominal and the party votes
+abbrev pub valid_of : PanelVotes → ℕ
+valid_of v = v.nominal + v.party
+
+-- and all votes
+abbrev pub total_of : PanelVotes → ℕ
+total_of v = valid_of v + (v.blank + v.null_votes)
+
+-- the votes of an office
+abbrev pub office_line : ℕ → PanelVotes → List ℕ
+office_line code v =
+    codes "CARGO " ++ decimal code ++ codes " VALIDOS " ++ decimal (valid_of v) ++ codes " NOMINAIS " ++ decimal v.nominal
+    ++ codes " LEGENDA " ++ decimal v.party ++ codes " BRANCOS " ++ decimal v.blank ++ codes " NULOS " ++ decimal v.null_votes
+    ++ codes " TOTAL " ++ decimal (total_of v) ++ 10 ∷ []
+
+-- a candidate and the nominal votes
+abbrev pub candidate_line : Entry → List ℕ
+candidate_line c = codes "CANDIDATO " ++ decimal c.number ++ codes " VOTOS " ++ decimal c.votes ++ 10 ∷ []
+
+-- a word and a number
+abbrev pub number_line : List ℕ → ℕ → List ℕ
+number_line word n = word ++ decimal n ++ 10 ∷ []
+
+-- a word and two numbers
+abbrev pub pair_line : List ℕ → ℕ → ℕ → List ℕ
+pair_line word a b = word ++ decimal a ++ codes " " ++ decimal b ++ 10 ∷ []
+
+-- ---- a majority office
+
+-- what comes of it
+abbrev pub majority_line : MajorityOutcome → List ℕ
+majority_line (majority.Elected number) = number_line (codes "ELEITO ") number
+majority_line (majority.Runoff first second) = pair_line (codes "SEGUNDO TURNO ") first second
+majority_line majority.Nobody = codes "NINGUEM" ++ 10 ∷ []
+
+-- ---- a proportional office
+
+-- what a party has: its valid votes, its quotient and its seats
+abbrev pub party_line : PartySeats → List ℕ
+party_line p =
+    codes "PARTIDO " ++ decimal p.number ++ codes " VOTOS " ++ decimal p.votes ++ codes " QP " ++ decimal p.quotient
+    ++ codes " VAGAS " ++ decimal p.seats ++ 10 ∷ []
+
+-- the seat of a round, by its number
+abbrev pub award_line : ℕ → Award → List ℕ
+award_line round award = codes "SOBRA " ++ decimal round ++ codes " FASE " ++ decimal award.phase ++ codes " PARTIDO " ++ decimal award.party ++ 10 ∷ []
+
+-- of rounds, the first of which has this number
+abbrev pub award_lines : ℕ → List Award → List (List ℕ)
+award_lines round [] = []
+award_lines round (award ∷ awards) = award_line round award ∷ award_lines (round + 1) awards
+
+-- one who is elected, and the nominal votes
+abbrev pub elected_line : ℕ → ℕ → List ℕ
+elected_line number votes = codes "ELEITO " ++ decimal number ++ codes " VOTOS " ++ decimal votes ++ 10 ∷ []
+
+-- of several, where each number has so many votes
+abbrev pub elected_lines : (ℕ → ℕ) → List ℕ → List (List ℕ)
+elected_lines votes numbers = map (λ number. elected_line number (votes number)) numbers
+
+-- the seats that were given: the electoral quotient, the parties, the rounds, the elected and the vacant seats
+abbrev pub seats_lines : (ℕ → ℕ) → SeatsData → List (List ℕ)
+seats_lines votes s =
+    number_line (codes "QUOCIENTE ") s.quotient
+    ∷ (map party_line s.parties ++ (award_lines 1 s.awards ++ (elected_lines votes s.elected ++ number_line (codes "VAGAS VAZIAS ") s.vacant ∷ [])))
+
+-- what comes of its contest, where each number has so many votes
+abbrev pub outcome_lines : (ℕ → ℕ) → Outcome → List (List ℕ)
+outcome_lines votes (outcome.Seats s) = seats_lines votes s
+outcome_lines votes (outcome.NoQuotient valid seats) = pair_line (codes "SEM QUOCIENTE ") valid seats ∷ []
+outcome_lines votes (outcome.Over first seats) = pair_line (codes "QUOCIENTE EXCEDIDO ") first seats ∷ []

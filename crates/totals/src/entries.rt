@@ -1,0 +1,77 @@
+//! The candidates of a panel with their votes.
+ghost use Rattle.std.specs.Prelude.{◌≡◌, ◌+◌, ◌<◌, ◌≤◌, ◌^◌, List, filter, length, IfOk};
+ghost use Rattle.election_tables.specs.Fields.{first_two};
+ghost use Rattle.election_tables.specs.Limits.{most_candidates};
+ghost use Rattle.poll_report.specs.declared.report.Report.{Report};
+ghost use Rattle.section_intake.specs.Intake.{IsIntakeFor, accepted_files};
+ghost use Rattle.section_intake.specs.Sums.{AreReportsOf};
+ghost use Rattle.seat_remainders.specs.Parties.{nominal_votes};
+ghost use Rattle.vote_kinds.specs.Ballot.{panel_at};
+ghost use Rattle.totals.specs.Contest.{entries_in, is_of_party};
+
+use election_tables::Tables;
+use seat_remainders::{Entries, Entry};
+use section_intake::Intake;
+use std::alloc::Global;
+use urna_base::Memory;
+
+/// The candidates of a panel, rising, with their nominal votes.
+pub(crate) fn entries_of(
+    alloc: Global,
+    tables: &Tables,
+    intake: &Intake,
+    panel: u32,
+) -> Result<Entries, Memory>
+    requires panel { panel < length tables.now.panels }
+    requires made { IsIntakeFor tables.now intake.now }
+    ensures entries { IfOk result (λ entries. (reports : List Report) → AreReportsOf (accepted_files intake.now) reports
+        → entries ≡ entries_in reports panel (panel_at tables.now panel)) }
+    ensures few { IfOk result (λ entries. length entries ≤ most_candidates) }
+    ensures votes { IfOk result (λ entries. nominal_votes entries < 10 ^ 8) }
+{
+    let mut entries = Entries::new(alloc);
+    for i in 0..tables.candidate_count(panel) {
+        let candidate = tables.candidate(panel, i);
+        entries.push(Entry {
+            number: candidate.number,
+            birth: candidate.birth,
+            votes: intake.nominal(panel, candidate.number),
+        })?;
+    }
+    Ok(entries)
+}
+
+/// Those of one party, in the same order, where the candidates' numbers have so many digits.
+pub(crate) fn of_party(
+    alloc: Global,
+    entries: &[Entry],
+    digits: u8,
+    party: u8,
+) -> Result<Entries, Memory>
+    requires some { 2 ≤ digits }
+    requires few_digits { digits ≤ 5 }
+    requires few { length entries.now ≤ most_candidates }
+    ensures { IfOk result (λ own. own ≡ filter (is_of_party digits party) entries.now) }
+{
+    let mut own = Entries::new(alloc);
+    for entry in entries {
+        if first_two(digits, entry.number) == u32::from(party) {
+            own.push(*entry)?;
+        }
+    }
+    Ok(own)
+}
+
+/// The first two of so many digits.
+fn first_two(digits: u8, number: u32) -> u32
+    requires some { 2 ≤ digits }
+    requires few { digits ≤ 5 }
+    ensures { result ≡ first_two digits number }
+{
+    match digits {
+        2 => number,
+        3 => number / 10,
+        4 => number / 100,
+        _ => number / 1000,
+    }
+}

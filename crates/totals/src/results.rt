@@ -1,0 +1,198 @@
+//! What comes of each office, and the lines that tell it.
+ghost use Rattle.std.specs.Prelude.{◌≡◌, ◌+◌, ◌<◌, ◌≤◌, ◌^◌, [], ◌∷◌, ◌++◌, ℕ, List, length, map, IfOk, OnOk};
+ghost use Rattle.election_tables.specs.TablesData.{TablesData};
+ghost use Rattle.poll_report.specs.declared.report.Report.{Report};
+ghost use Rattle.section_intake.specs.Intake.{IsIntakeFor, accepted_files, panels_of};
+ghost use Rattle.section_intake.specs.Sums.{AreReportsOf, nominal_sum};
+ghost use Rattle.vote_kinds.specs.Ballot.{panel_at};
+ghost use Rattle.seat_remainders.specs.Majority.{majority_outcome};
+ghost use Rattle.seat_remainders.specs.Outcome.{IsOutcome};
+ghost use Rattle.seat_remainders.specs.Parties.{nominal_votes};
+ghost use Rattle.seat_remainders.specs.declared.outcome.Outcome.{Outcome};
+ghost use Rattle.totals.specs.Contest.{contest_in};
+ghost use Rattle.totals.specs.Lines.{award_lines, candidate_line, elected_lines, majority_line, outcome_lines, party_line, seats_lines};
+ghost use Rattle.totals.specs.Totals.{AreTotals, TellPanel};
+
+use crate::contest::contest_of;
+use crate::entries::entries_of;
+use crate::lines::{
+    award_line, candidate_line, elected_line, majority_line, number_line, office_line, pair_line,
+    party_line, section_line,
+};
+use crate::votes::PanelVotes;
+use election_tables::{Kind, Tables};
+use seat_remainders::{
+    Awards, Entry, Numbers, Outcome, PartySeatList, Seats, distribute, majority,
+};
+use section_intake::Intake;
+use std::alloc::Global;
+use urna_base::{LineBuffer, Memory};
+
+/// The lines that tell the totals over the reports of the accepted files (docs/FORMATS.md, "Totals"): how many there are, and for each
+/// office its votes, those of each candidate, and what comes of them by law.
+///
+/// The caller owes that the intake was made for these tables. `Memory` comes only where an allocation failed.
+pub fn total_lines(
+    alloc: Global,
+    tables: &Tables,
+    intake: &Intake,
+) -> Result<Vec<LineBuffer>, Memory>
+    requires { IsIntakeFor tables.now intake.now }
+    ensures { IfOk result (λ lines. (reports : List Report) → AreReportsOf (accepted_files intake.now) reports
+        → AreTotals tables.now reports lines.items) }
+{
+    let mut lines = Vec::new(alloc);
+    lines.push(section_line(intake.accepted(), tables.section_count()))?;
+    for panel in 0..tables.panels() {
+        push_panel(alloc, &mut lines, tables, intake, panel)?;
+    }
+    Ok(lines)
+}
+
+/// The lines of a panel.
+fn push_panel(
+    alloc: Global,
+    lines: &mut Vec<LineBuffer>,
+    tables: &Tables,
+    intake: &Intake,
+    panel: u32,
+) -> Result<(), Memory>
+    requires panel { panel < length tables.now.panels }
+    requires made { IsIntakeFor tables.now intake.now }
+    ensures { OnOk result ((reports : List Report) → AreReportsOf (accepted_files intake.now) reports
+        → (own : List (List ℕ)) × TellPanel tables.now reports panel (panel_at tables.now panel) own × (lines.new.items ≡ lines.old.items ++ own)) }
+{
+    let office = tables.office(panel);
+    let entries = entries_of(alloc, tables, intake, panel)?;
+    let votes = PanelVotes::of(tables, intake, panel, entries.as_slice());
+    lines.push(office_line(office.code, votes))?;
+    push_candidates(lines, entries.as_slice())?;
+    match office.kind {
+        Kind::Proportional => push_contest(alloc, lines, tables, intake, panel),
+        Kind::Absolute => push_majority(lines, entries.as_slice(), true),
+        Kind::Simple => push_majority(lines, entries.as_slice(), false),
+    }
+}
+
+/// One line for each candidate.
+fn push_candidates(lines: &mut Vec<LineBuffer>, entries: &[Entry]) -> Result<(), Memory>
+    ensures { OnOk result (lines.new.items ≡ lines.old.items ++ map candidate_line entries.now) }
+{
+    for entry in entries {
+        lines.push(candidate_line(*entry))?;
+    }
+    Ok(())
+}
+
+/// The winner of a majority office, by the absolute or the simple rule.
+fn push_majority(
+    lines: &mut Vec<LineBuffer>,
+    entries: &[Entry],
+    absolute: bool,
+) -> Result<(), Memory>
+    requires { nominal_votes entries.now ≤ 10 ^ 12 }
+    ensures { OnOk result (lines.new.items ≡ lines.old.items ++ majority_line (majority_outcome entries.now absolute) ∷ []) }
+{
+    lines.push(majority_line(majority(entries, absolute)))?;
+    Ok(())
+}
+
+/// The seats of a proportional office.
+fn push_contest(
+    alloc: Global,
+    lines: &mut Vec<LineBuffer>,
+    tables: &Tables,
+    intake: &Intake,
+    panel: u32,
+) -> Result<(), Memory>
+    requires panel { panel < length tables.now.panels }
+    requires made { IsIntakeFor tables.now intake.now }
+    ensures { OnOk result ((reports : List Report) → AreReportsOf (accepted_files intake.now) reports
+        → (o : Outcome) × IsOutcome (contest_in tables.now reports panel) o
+        × (lines.new.items ≡ lines.old.items ++ outcome_lines (λ number. nominal_sum panel number reports) o)) }
+{
+    let contest = contest_of(alloc, tables, intake, panel)?;
+    let outcome = distribute(alloc, &contest)?;
+    push_outcome(lines, intake, panel, &outcome)
+}
+
+/// What comes of a contest.
+fn push_outcome(
+    lines: &mut Vec<LineBuffer>,
+    intake: &Intake,
+    panel: u32,
+    outcome: &Outcome,
+) -> Result<(), Memory>
+    requires { panel < panels_of intake.now }
+    ensures { OnOk result ((t : TablesData) (reports : List Report) → IsIntakeFor t intake.now → AreReportsOf (accepted_files intake.now) reports
+        → lines.new.items ≡ lines.old.items ++ outcome_lines (λ number. nominal_sum panel number reports) outcome.now) }
+{
+    match outcome {
+        Outcome::Seats(seats) => push_seats(lines, intake, panel, seats),
+        Outcome::NoQuotient { valid, seats } => {
+            lines.push(pair_line(b"SEM QUOCIENTE ", *valid, u64::from(*seats)))?;
+            Ok(())
+        }
+        Outcome::Over { first, seats } => {
+            lines.push(pair_line(b"QUOCIENTE EXCEDIDO ", *first, u64::from(*seats)))?;
+            Ok(())
+        }
+    }
+}
+
+/// The seats that were given.
+fn push_seats(
+    lines: &mut Vec<LineBuffer>,
+    intake: &Intake,
+    panel: u32,
+    seats: &Seats,
+) -> Result<(), Memory>
+    requires { panel < panels_of intake.now }
+    ensures { OnOk result ((t : TablesData) (reports : List Report) → IsIntakeFor t intake.now → AreReportsOf (accepted_files intake.now) reports
+        → lines.new.items ≡ lines.old.items ++ seats_lines (λ number. nominal_sum panel number reports) seats.now) }
+{
+    lines.push(number_line(b"QUOCIENTE ", seats.quotient))?;
+    push_parties(lines, &seats.parties)?;
+    push_awards(lines, &seats.awards)?;
+    push_elected(lines, intake, panel, &seats.elected)?;
+    lines.push(number_line(b"VAGAS VAZIAS ", u64::from(seats.vacant)))?;
+    Ok(())
+}
+
+/// One line for each party.
+fn push_parties(lines: &mut Vec<LineBuffer>, parties: &PartySeatList) -> Result<(), Memory>
+    ensures { OnOk result (lines.new.items ≡ lines.old.items ++ map party_line parties.now) }
+{
+    for i in 0..parties.len() {
+        lines.push(party_line(*parties.get(i)))?;
+    }
+    Ok(())
+}
+
+/// One line for each round.
+fn push_awards(lines: &mut Vec<LineBuffer>, awards: &Awards) -> Result<(), Memory>
+    ensures { OnOk result (lines.new.items ≡ lines.old.items ++ award_lines 1 awards.now) }
+{
+    for i in 0..awards.len() {
+        lines.push(award_line(i + 1, *awards.get(i)))?;
+    }
+    Ok(())
+}
+
+/// One line for each of the elected.
+fn push_elected(
+    lines: &mut Vec<LineBuffer>,
+    intake: &Intake,
+    panel: u32,
+    elected: &Numbers,
+) -> Result<(), Memory>
+    requires { panel < panels_of intake.now }
+    ensures { OnOk result ((t : TablesData) (reports : List Report) → IsIntakeFor t intake.now → AreReportsOf (accepted_files intake.now) reports
+        → lines.new.items ≡ lines.old.items ++ elected_lines (λ number. nominal_sum panel number reports) elected.now) }
+{
+    for i in 0..elected.len() {
+        let number = *elected.get(i);
+        lines.push(elected_line(number, intake.nominal(panel, number)))?;
+    }
+    Ok(())
+}
