@@ -1,9 +1,7 @@
 -- Where a call has what it needs, each other ending shows a fault
-use Rattle.std.proofs.Common.{◌≡◌, ◌⊎◌, inl, inr, false, ℕ, ◌≤◌, List, [], ◌∷◌, length, Option, Some, refl, sym, ap, subst, ◌∙◌, arith}
-use Rattle.std.specs.Option.{ForSome}
+use Rattle.std.proofs.Common.{◌≡◌, ◌⊎◌, inl, inr, false, ℕ, zero, suc, ◌+◌, ◌≤◌, List, [], ◌∷◌, length, Option, Some, refl, sym, ap, subst, ◌∙◌}
 use Rattle.urna_outside.specs.Cabinet.{CabinetTold, Entry, Files, Tally}
 use Rattle.urna_outside.specs.Flash.{Flashes}
-use Rattle.urna_outside.specs.ShownLines.{IsCutOff}
 use Rattle.urna_outside.specs.Told.{Faults, Rose, Told, faults_of, port_of}
 use Rattle.urna_outside.specs.declared.device.Dev.{Dev}
 use Rattle.urna_outside.specs.declared.device.Dev.TheVariants as dev
@@ -14,6 +12,7 @@ use Rattle.election_tables.specs.Roll.{IsRoll, RollData}
 use Rattle.election_tables.specs.TablesData.{IsTables, TablesData}
 use Rattle.election_tables.specs.declared.tables.sections.Section.{Section}
 use Rattle.election_tables.proofs.Determined.{roll_is}
+use Rattle.key_script.specs.Laws.{OneListAnswers}
 use Rattle.key_script.specs.declared.keys.Event.{Event}
 use Rattle.image_codec.specs.State.{State}
 use Rattle.section_intake.specs.declared.verdict.Verdict.{Verdict}
@@ -29,24 +28,26 @@ use Rattle.station.specs.Start.{FailsToStart}
 use Rattle.station.specs.declared.station.StartError.{StartError}
 use Rattle.station.specs.declared.station.StartError.TheVariants as start
 use Rattle.urna_app.specs.Carga.{CargaEnds, IsSectionAsked, load_no_cabinet, load_no_memory, load_refused, loaded, no_section, not_loaded, not_told}
-use Rattle.urna_app.specs.Command.{Carga, Confere, Emite, ToCheck, ToEmit, ToLoad, ToVote, Vota, command_of}
-use Rattle.urna_app.specs.Completion.{CanCheck, CanEmit, CanLoad, CanVote, CompletesWhereItCan, IsDoneOrMemory, TellsOfRisenCounts, tells_of_count}
+use Rattle.urna_app.specs.Command.{Carga, Confere, Emite, ToCheck, ToEmit, ToLoad, ToTotal, ToVote, Totaliza, Vota, command_of}
+use Rattle.urna_app.specs.Completion.{CanCheck, CanEmit, CanLoad, CanTotal, CanVote, CompletesWhereItCan, IsDoneOrMemory, TellsOfRisenCounts, tells_of_count}
 use Rattle.urna_app.specs.Confere.{ConfereEnds, check_no_cabinet, check_no_memory, check_not_told, check_refused, checked}
-use Rattle.urna_app.specs.Documents.{HasDocuments, IsBad, IsFault, IsFirstFault, bad, count, first_other, first_tables, lacks, line, longer, no_document, roll_line, rule}
+use Rattle.urna_app.specs.Documents.{HasDocuments, IsBad, IsFault, IsFirstFault, bad, count, first_other, first_tables, lacks, line, longer, name_line, no_document, roll_line, rule}
 use Rattle.urna_app.specs.Emite.{EmiteEnds, emit_no_cabinet, emit_no_memory, emit_refused, emitted, files_stopped, no_files, not_emitted, not_found, not_sealed}
-use Rattle.urna_app.specs.Ending.{CommandEnds, carga, confere, emite, no_command, vota}
+use Rattle.urna_app.specs.Ending.{CommandEnds, carga, confere, emite, no_command, totaliza, vota}
 use Rattle.urna_app.specs.Errors.{load_status, port_status, start_status, store_status}
 use Rattle.urna_app.specs.FaultLines.{Tells, fault_text}
 use Rattle.urna_app.specs.Laws.{FoundOnce}
 use Rattle.urna_app.specs.Putting.{PutsResults, StopPutting, no_results, result_files, results_not_made, results_not_put, results_put}
 use Rattle.urna_app.specs.Taking.{HasTaken}
+use Rattle.urna_app.specs.Totaliza.{IsListed, TotalizaEnds, list_no_cabinet, list_no_memory, list_refused, refused_count, refused_status, report_no_cabinet, report_no_memory, report_refused, totalled, totals_not_told, verdict_not_told}
 use Rattle.urna_app.specs.Verdicts.{verdict_status}
 use Rattle.urna_app.specs.Vota.{HasVotedTo, IsGiven, IsRefused, VotaEnds, cut, documents, keys, no_cabinet, no_memory, not_started, refused, session_held}
 use Rattle.urna_app.specs.declared.status.Doc.{Doc}
 use Rattle.urna_app.specs.declared.status.Doc.TheVariants as doc
 use Rattle.urna_app.specs.declared.status.Status.{Status}
 use Rattle.urna_app.specs.declared.status.Status.TheVariants as status
-use Rattle.urna_app.proofs.Once.{refused_or_documents, refused_or_given, report_not_fault, same_roll, same_tables, tables_not_fault}
+use Rattle.urna_app.proofs.Once.{refused_or_documents, refused_or_given, refused_or_listed, report_not_fault, same_names, same_roll, same_tables, tables_not_fault}
+use Rattle.urna_app.proofs.Totals.{none_at_fault}
 
 -- ---- faults
 
@@ -215,6 +216,30 @@ emite_completes either decoded once names c d m b s files flashes told none calm
     absurd (calm Display refl (since Display m between b peeked.synced.fine.faults off.faults.rose))
 emite_completes either decoded once names c d m b s files flashes told none calm flashes_told can (emitted put_to between given taken peeked sealed put shown) = inl refl
 
+-- ---- totaliza
+
+pub totaliza_completes : OneListAnswers → (names : Totaliza) (c d : CabinetTold) (m b : Told) (s : Status) (files : Files) → c.files ≡ Some files
+    → ¬ Rose c.tally.faults d.tally.faults → Calm s m b → CanTotal names (Some files) → TotalizaEnds names c d m b s
+    → IsDoneOrMemory s ⊎ ((k : ℕ) × (s ≡ status.SomeRefused k))
+totaliza_completes answers names c d m b s files told none calm can (list_refused h taken untouched) =
+    absurd (refused_or_listed answers files names s can.t can.listed (subst (λ (f : Option Files). IsFirstFault f names.tables doc.List names.list s) told h) can.given)
+totaliza_completes answers names c d m b s files told none calm can (list_no_memory taken untouched) = inl (inr refl)
+totaliza_completes answers names c d m b s files told none calm can (list_no_cabinet taken untouched) = absurd (none taken.counts.faults.rose)
+totaliza_completes answers names c d m b s files told none calm can (report_refused {t} {listed} {left} {name} {verdicts} {accepted} given offered fault taken shown) =
+    let found = subst (λ (f : Option Files). IsListed f names t listed) told given in
+    let same = same_names files names.list listed can.listed found.list can.given.list in
+    absurd (none_at_fault files offered.names name left can.listed can.reports s (sym offered.all ∙ same) can.taken
+    (subst (λ (f : Option Files). IsFault f name doc.Report s) told fault))
+totaliza_completes answers names c d m b s files told none calm can (report_no_cabinet given offered taken shown) = absurd (none taken.counts.faults.rose)
+totaliza_completes answers names c d m b s files told none calm can (report_no_memory given offered taken shown) = inl (inr refl)
+totaliza_completes answers names c d m b s files told none calm can (verdict_not_told given offered taken off) = absurd (calm Display refl off.faults.rose)
+totaliza_completes answers names c d m b s files told none calm can (totals_not_told given totals taken off) = absurd (calm Display refl off.faults.rose)
+totaliza_completes answers names c d m b s files told none calm can (totalled {verdicts} given totals taken shown) = by_count (refused_count verdicts)
+  where
+    by_count : (k : ℕ) → IsDoneOrMemory (refused_status k) ⊎ ((n : ℕ) × (refused_status k ≡ status.SomeRefused n))
+    by_count zero = inl (inl refl)
+    by_count (suc k) = inr (suc k, refl)
+
 -- ---- confere
 
 pub confere_completes : (names : Confere) (c d : CabinetTold) (m b : Told) (s : Status) (files : Files) → c.files ≡ Some files
@@ -248,6 +273,7 @@ of_vota words names c d m b s is (vota {names = other} also h) = let same : othe
 of_vota words names c d m b s is (carga also h) = absurd (cc)
 of_vota words names c d m b s is (emite also h) = absurd (cc)
 of_vota words names c d m b s is (confere also h) = absurd (cc)
+of_vota words names c d m b s is (totaliza also h) = absurd (cc)
 
 of_carga : (words : List (List ℕ)) (names : Carga) (c d : CabinetTold) (m b : Told) (s : Status) → command_of words ≡ Some (ToLoad names)
     → CommandEnds words c d m b s → CargaEnds names c d m b s
@@ -256,6 +282,7 @@ of_carga words names c d m b s is (vota also h) = absurd (cc)
 of_carga words names c d m b s is (carga {names = other} also h) = let same : other ≡ names = cc in subst (λ (x : Carga). CargaEnds x c d m b s) same h
 of_carga words names c d m b s is (emite also h) = absurd (cc)
 of_carga words names c d m b s is (confere also h) = absurd (cc)
+of_carga words names c d m b s is (totaliza also h) = absurd (cc)
 
 of_emite : (words : List (List ℕ)) (names : Emite) (c d : CabinetTold) (m b : Told) (s : Status) → command_of words ≡ Some (ToEmit names)
     → CommandEnds words c d m b s → EmiteEnds names c d m b s
@@ -264,6 +291,7 @@ of_emite words names c d m b s is (vota also h) = absurd (cc)
 of_emite words names c d m b s is (carga also h) = absurd (cc)
 of_emite words names c d m b s is (emite {names = other} also h) = let same : other ≡ names = cc in subst (λ (x : Emite). EmiteEnds x c d m b s) same h
 of_emite words names c d m b s is (confere also h) = absurd (cc)
+of_emite words names c d m b s is (totaliza also h) = absurd (cc)
 
 of_confere : (words : List (List ℕ)) (names : Confere) (c d : CabinetTold) (m b : Told) (s : Status) → command_of words ≡ Some (ToCheck names)
     → CommandEnds words c d m b s → ConfereEnds names c d m b s
@@ -272,9 +300,19 @@ of_confere words names c d m b s is (vota also h) = absurd (cc)
 of_confere words names c d m b s is (carga also h) = absurd (cc)
 of_confere words names c d m b s is (emite also h) = absurd (cc)
 of_confere words names c d m b s is (confere {names = other} also h) = let same : other ≡ names = cc in subst (λ (x : Confere). ConfereEnds x c d m b s) same h
+of_confere words names c d m b s is (totaliza also h) = absurd (cc)
 
-pub completes : LoadedOrForeign → HeldIsDecoded → FoundOnce → CompletesWhereItCan
-completes either decoded once words c d m n s files told failed ends =
+of_totaliza : (words : List (List ℕ)) (names : Totaliza) (c d : CabinetTold) (m b : Told) (s : Status) → command_of words ≡ Some (ToTotal names)
+    → CommandEnds words c d m b s → TotalizaEnds names c d m b s
+of_totaliza words names c d m b s is (no_command none h untouched) = absurd (cc)
+of_totaliza words names c d m b s is (vota also h) = absurd (cc)
+of_totaliza words names c d m b s is (carga also h) = absurd (cc)
+of_totaliza words names c d m b s is (emite also h) = absurd (cc)
+of_totaliza words names c d m b s is (confere also h) = absurd (cc)
+of_totaliza words names c d m b s is (totaliza {names = other} also h) = let same : other ≡ names = cc in subst (λ (x : Totaliza). TotalizaEnds x c d m b s) same h
+
+pub completes : LoadedOrForeign → HeldIsDecoded → FoundOnce → OneListAnswers → CompletesWhereItCan
+completes either decoded once answers words c d m n s files told failed ends =
     let b = ends.between in
     let quietly = calm s m b n failed.ports ends.told in (
       λ names flashes is flashes_told can.
@@ -286,6 +324,8 @@ completes either decoded once words c d m n s files told failed ends =
           (of_emite words names c d m b s is ends.command),
       λ names is can.
           confere_completes names c d m b s files told failed.cabinet quietly can (of_confere words names c d m b s is ends.command),
+      λ names is can.
+          totaliza_completes answers names c d m b s files told failed.cabinet quietly can (of_totaliza words names c d m b s is ends.command),
     )
 
 -- ---- over any cabinet and machine
@@ -304,6 +344,7 @@ not_bad x bytes s (rule h) = refl
 not_bad x bytes s (count h) = refl
 not_bad x bytes s (roll_line h) = refl
 not_bad x bytes s (line h) = refl
+not_bad x bytes s (name_line h) = refl
 
 fault_counts : (files : Option Files) (name : List ℕ) (x : Doc) (most : ℕ) (c d : CabinetTold) (s : Status) (m b : Told) → NothingCounted c d s m b
     → HasTaken most s c d → IsFault files name x s → tells_of_count s ≡ false
@@ -395,6 +436,24 @@ confere_counts names c d m b s none (checked {v} given taken shown) = by_verdict
     by_verdict (verdict.Repeated zone number) = refl
     by_verdict (verdict.Conflict zone number) = refl
 
+totaliza_counts : (names : Totaliza) (c d : CabinetTold) (m b : Told) (s : Status) → NothingCounted c d s m b → TotalizaEnds names c d m b s
+    → tells_of_count s ≡ false
+totaliza_counts names c d m b s none (list_refused h taken untouched) =
+    first_counts c.files names.tables doc.List names.list 2 c d s m b none taken h
+totaliza_counts names c d m b s none (list_no_memory taken untouched) = refl
+totaliza_counts names c d m b s none (list_no_cabinet taken untouched) = absurd (none.faults taken.counts.faults.rose)
+totaliza_counts names c d m b s none (report_refused {listed} {name} given offered fault taken shown) =
+    fault_counts c.files name doc.Report (length listed + 2) c d s m b none taken fault
+totaliza_counts names c d m b s none (report_no_cabinet given offered taken shown) = absurd (none.faults taken.counts.faults.rose)
+totaliza_counts names c d m b s none (report_no_memory given offered taken shown) = refl
+totaliza_counts names c d m b s none (verdict_not_told given offered taken off) = absurd (none.calm Display refl off.faults.rose)
+totaliza_counts names c d m b s none (totals_not_told given totals taken off) = absurd (none.calm Display refl off.faults.rose)
+totaliza_counts names c d m b s none (totalled {verdicts} given totals taken shown) = by_count (refused_count verdicts)
+  where
+    by_count : (k : ℕ) → tells_of_count (refused_status k) ≡ false
+    by_count zero = refl
+    by_count (suc k) = refl
+
 command_counts : (words : List (List ℕ)) (c d : CabinetTold) (m b : Told) (s : Status) → NothingCounted c d s m b → CommandEnds words c d m b s
     → tells_of_count s ≡ false
 command_counts words c d m b s none (no_command not_one taken untouched) = refl
@@ -402,6 +461,7 @@ command_counts words c d m b s none (vota {names} is ends) = vota_counts names c
 command_counts words c d m b s none (carga {names} is ends) = carga_counts names c d m b s none ends
 command_counts words c d m b s none (emite {names} is ends) = emite_counts names c d m b s none ends
 command_counts words c d m b s none (confere {names} is ends) = confere_counts names c d m b s none ends
+command_counts words c d m b s none (totaliza {names} is ends) = totaliza_counts names c d m b s none ends
 
 pub tells_of_risen_counts : TellsOfRisenCounts
 tells_of_risen_counts words c d m n s failed missing too_long ends =

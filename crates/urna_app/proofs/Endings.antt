@@ -1,5 +1,5 @@
 -- How a command ends, by the answer of its steps
-use Rattle.std.proofs.Common.{◌≡◌, ◌≢◌, ◌⊎◌, inl, inr, ℕ, List, Option, Result, Ok, Err, refl, sym, subst}
+use Rattle.std.proofs.Common.{◌≡◌, ◌≢◌, ◌⊎◌, inl, inr, ℕ, zero, suc, List, Option, Result, Ok, Err, refl, sym, subst}
 use Rattle.std.specs.Prelude.{IfErr}
 use Rattle.std.specs.Result.{IsErrAnd}
 use Rattle.urna_outside.specs.Cabinet.{CabinetTold, Files, Tally}
@@ -23,13 +23,14 @@ use Rattle.state_store.specs.declared.store.StoreError.TheVariants as store
 use Rattle.station.specs.declared.station.StartError.{StartError}
 use Rattle.station.specs.declared.station.StartError.TheVariants as start
 use Rattle.urna_app.specs.Carga.{CargaEnds, load_no_cabinet, load_no_memory, load_refused}
-use Rattle.urna_app.specs.Command.{Carga, Confere, Emite, Vota}
+use Rattle.urna_app.specs.Command.{Carga, Confere, Emite, Totaliza, Vota}
 use Rattle.urna_app.specs.Confere.{ConfereEnds, check_no_cabinet, check_no_memory, check_refused}
 use Rattle.urna_app.specs.Documents.{HasKeys, HasRoll, HasTables, IsFirstFault}
 use Rattle.urna_app.specs.Emite.{EmiteEnds, emit_no_cabinet, emit_no_memory, emit_refused}
 use Rattle.urna_app.specs.Errors.{load_status, port_status, start_status, store_status}
 use Rattle.urna_app.specs.Holding.{FailsToHold, hold_status}
 use Rattle.urna_app.specs.Taking.{CountsFor, HasTaken, status_in}
+use Rattle.urna_app.specs.Totaliza.{TotalizaEnds, list_no_cabinet, list_no_memory, list_refused, refused_status}
 use Rattle.urna_app.specs.Vota.{IsGiven, IsRefused, VotaEnds, cut, no_cabinet, no_memory, not_started, refused}
 use Rattle.urna_app.specs.Verdicts.{verdict_status}
 use Rattle.urna_app.specs.declared.status.Doc.TheVariants as doc
@@ -55,7 +56,7 @@ pub untouched : (m : Told) → IsUntouched m m
 untouched m = record { does = does_nothing m; fine = faultless_none m }
 
 -- want of memory, a fault of the cabinet, or neither
-which : (s : Status) → (s ≡ status.Memory) ⊎ (s ≡ status.Cabinet) ⊎ ((s ≢ status.Memory) × (s ≢ status.Cabinet))
+pub which : (s : Status) → (s ≡ status.Memory) ⊎ (s ≡ status.Cabinet) ⊎ ((s ≢ status.Memory) × (s ≢ status.Cabinet))
 which status.Memory = inl refl
 which status.Cabinet = inr (inl refl)
 which status.Done = inr (inr (λ e. absurd (cc), λ e. absurd (cc)))
@@ -74,6 +75,7 @@ which (status.Foreign d) = inr (inr (λ e. absurd (cc), λ e. absurd (cc)))
 which status.NoImage = inr (inr (λ e. absurd (cc), λ e. absurd (cc)))
 which (status.Busy d) = inr (inr (λ e. absurd (cc), λ e. absurd (cc)))
 which (status.ReportRefused v) = inr (inr (λ e. absurd (cc), λ e. absurd (cc)))
+which (status.SomeRefused k) = inr (inr (λ e. absurd (cc), λ e. absurd (cc)))
 which status.NotSealed = inr (inr (λ e. absurd (cc), λ e. absurd (cc)))
 which status.NoSection = inr (inr (λ e. absurd (cc), λ e. absurd (cc)))
 
@@ -119,6 +121,23 @@ check_fault_ends names c d m s found taken = ends s (which s) found taken
     ends u (inr (inl failed)) found taken =
         subst (ConfereEnds names c d m m) (sym failed) (check_no_cabinet (subst (λ (v : Status). HasTaken 2 v c d) failed taken) (untouched m))
     ends u (inr (inr (memory, failed))) found taken = check_refused (found memory failed) taken (untouched m)
+
+pub list_fault_ends : (names : Totaliza) (c d : CabinetTold) (m : Told) (s : Status)
+    → (s ≢ status.Memory → s ≢ status.Cabinet → IsFirstFault c.files names.tables doc.List names.list s) → HasTaken 2 s c d → TotalizaEnds names c d m m s
+list_fault_ends names c d m s found taken = ends s (which s) found taken
+  where
+    ends : (u : Status) → (u ≡ status.Memory) ⊎ (u ≡ status.Cabinet) ⊎ ((u ≢ status.Memory) × (u ≢ status.Cabinet))
+        → (u ≢ status.Memory → u ≢ status.Cabinet → IsFirstFault c.files names.tables doc.List names.list u) → HasTaken 2 u c d → TotalizaEnds names c d m m u
+    ends u (inl memory) found taken =
+        subst (TotalizaEnds names c d m m) (sym memory) (list_no_memory (subst (λ (v : Status). HasTaken 2 v c d) memory taken) (untouched m))
+    ends u (inr (inl failed)) found taken =
+        subst (TotalizaEnds names c d m m) (sym failed) (list_no_cabinet (subst (λ (v : Status). HasTaken 2 v c d) failed taken) (untouched m))
+    ends u (inr (inr (memory, failed))) found taken = list_refused (found memory failed) taken (untouched m)
+
+-- what the count of refused reports says of the cabinet's counts
+pub counts_refused : (n : ℕ) (old new : Tally) → new ≡ old → CountsFor (refused_status n) old new
+counts_refused zero old new same = same
+counts_refused (suc n) old new same = same
 
 pub emit_fault_ends : (names : Emite) (c d : CabinetTold) (m : Told) (s : Status)
     → (s ≢ status.Memory → s ≢ status.Cabinet → IsFirstFault c.files names.tables doc.Roll names.roll s) → HasTaken 2 s c d → EmiteEnds names c d m m s

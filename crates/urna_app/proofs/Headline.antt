@@ -13,11 +13,9 @@ use Rattle.urna_outside.specs.declared.device.Port.TheVariants as port
 use Rattle.urna_outside.proofs.Courses.{stops_silent}
 use Rattle.urna_outside.proofs.Keeping.{synced_clean}
 use Rattle.urna_outside.proofs.Stops.{stops_none}
-use Rattle.election_tables.specs.Roll.{IsRollOf, RollData}
-use Rattle.election_tables.specs.Tables.{IsReadAs}
+use Rattle.election_tables.specs.Roll.{RollData}
 use Rattle.election_tables.specs.TablesData.{IsTables, TablesData}
 use Rattle.election_tables.specs.declared.tables.sections.Section.{Section}
-use Rattle.election_tables.proofs.Determined.{roll_determined, tables_determined}
 use Rattle.key_script.specs.Script.{events_of}
 use Rattle.key_script.specs.declared.keys.Event.{Event}
 use Rattle.vote_kinds.specs.Ballot.{ballot_lines}
@@ -46,7 +44,7 @@ use Rattle.station.proofs.Performing.{tables_setting}
 use Rattle.station.proofs.Casting.{run_counts, run_last}
 use Rattle.station.proofs.RunLaws.{run_exists, run_unique}
 use Rattle.urna_app.specs.Command.{ToVote, Vota, command_of}
-use Rattle.urna_app.specs.Ending.{CommandEnds, carga, confere, emite, no_command, vota}
+use Rattle.urna_app.specs.Ending.{CommandEnds, carga, confere, emite, no_command, totaliza, vota}
 use Rattle.urna_app.specs.Errors.{port_status, start_status}
 use Rattle.urna_app.specs.FaultLines.{Tells, fault_text}
 use Rattle.urna_app.specs.Headline.{AllAreCounted, KeepsVotes, KeysHaveRun, VotesAreKept, session_lines}
@@ -259,6 +257,7 @@ module _ (names : Vota) (files : Files) (c d : CabinetTold) (told : c.files ≡ 
   command_is words answer is (carga that h) = absurd (cc)
   command_is words answer is (emite that h) = absurd (cc)
   command_is words answer is (confere that h) = absurd (cc)
+  command_is words answer is (totaliza that h) = absurd (cc)
 
   pub command_kept : (words : List (List ℕ)) (answer : Status) → command_of words ≡ Some (ToVote names) → CommandEnds words c d m b answer → Tells (fault_text answer) b n → All
   command_kept words answer is h tells = vota_kept answer (command_is words answer is h) tells

@@ -10,6 +10,8 @@ mod FewWords
 mod Headline
 mod Keeping
 mod Loads
+mod Offers
 mod Once
 mod Reports
 mod Sessions
+mod Totals

@@ -7,11 +7,10 @@ use Rattle.urna_outside.specs.Told.{Told}
 use Rattle.urna_outside.specs.declared.device.Dev.TheVariants as dev
 use Rattle.urna_outside.proofs.Showing.{shows_keep}
 use Rattle.urna_outside.proofs.ShowingLines.{shows_lines}
-use Rattle.election_tables.specs.Roll.{IsRoll, IsRollOf, RollData}
-use Rattle.election_tables.specs.Tables.{IsReadAs}
+use Rattle.election_tables.specs.Roll.{IsRoll, RollData}
 use Rattle.election_tables.specs.TablesData.{TablesData}
 use Rattle.election_tables.specs.declared.tables.sections.Section.{Section}
-use Rattle.election_tables.proofs.Determined.{roll_determined, roll_is, tables_determined}
+use Rattle.election_tables.proofs.Determined.{roll_is}
 use Rattle.image_codec.specs.Valid.{ready_state}
 use Rattle.image_codec.proofs.OfTables.{of_tables-ready_state}
 use Rattle.state_store.specs.Calls.{AreFound}
@@ -22,7 +21,7 @@ use Rattle.state_store.proofs.Loaded.{rest_found, rest_whole}
 use Rattle.urna_app.specs.Carga.{CargaEnds, HasLoaded, IsSectionAsked, load_no_cabinet, load_no_memory, load_refused, loaded, loaded_line, no_section, not_loaded, not_told}
 use Rattle.urna_app.specs.Documents.{HasDocuments, IsFirstFault}
 use Rattle.urna_app.specs.Command.{Carga, ToLoad, command_of}
-use Rattle.urna_app.specs.Ending.{CommandEnds, carga, confere, emite, vota}
+use Rattle.urna_app.specs.Ending.{CommandEnds, carga, confere, emite, totaliza, vota}
 use Rattle.urna_app.specs.Errors.{load_status}
 use Rattle.urna_app.specs.Headline.{LoadBeginsDay}
 use Rattle.urna_app.specs.declared.status.Doc.TheVariants as doc
@@ -76,6 +75,7 @@ module _ (files : Files) (names : Carga) (c d : CabinetTold) (told : c.files ≡
   command_begins words is (vota that h) = absurd (cc)
   command_begins words is (emite that h) = absurd (cc)
   command_begins words is (confere that h) = absurd (cc)
+  command_begins words is (totaliza that h) = absurd (cc)
   command_begins words is (carga {names = other} that h) =
       let same : other ≡ names = cc in
       carga_begins status.Done refl (subst (λ (x : Carga). CargaEnds x c d m b status.Done) same h)

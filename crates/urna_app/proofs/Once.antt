@@ -9,13 +9,16 @@ use Rattle.election_tables.specs.Rules.{broken_rule}
 use Rattle.election_tables.specs.Tables.{IsDocument, IsReadAs, IsNoDocument, BreaksFirst}
 use Rattle.election_tables.specs.TablesData.{TablesData}
 use Rattle.key_script.specs.Script.{events_of, first_bad}
+use Rattle.key_script.specs.Names.{first_bad_name, names_of}
+use Rattle.key_script.specs.Laws.{OneListAnswers}
 use Rattle.key_script.proofs.ScriptLaws.{events_or_bad}
 use Rattle.key_script.specs.declared.keys.Event.{Event}
 use Rattle.section_intake.specs.Verdict.{IsVerdict}
 use Rattle.section_intake.specs.declared.verdict.Verdict.{Verdict}
-use Rattle.urna_app.specs.Command.{Confere, Vota}
+use Rattle.urna_app.specs.Command.{Confere, Totaliza, Vota}
 use Rattle.urna_app.specs.Confere.{HasVerdict}
-use Rattle.urna_app.specs.Documents.{IsTaken, IsBad, IsFault, IsFirstFault, HasDocuments, HasTables, HasRoll, HasKeys, first_tables, first_other, limit_of, lacks, longer, bad, no_document, rule, count, roll_line, line}
+use Rattle.urna_app.specs.Documents.{IsTaken, IsBad, IsFault, IsFirstFault, HasDocuments, HasTables, HasRoll, HasKeys, HasNames, first_tables, first_other, limit_of, lacks, longer, bad, no_document, rule, count, roll_line, line, name_line}
+use Rattle.urna_app.specs.Totaliza.{IsListed}
 use Rattle.urna_app.specs.Vota.{IsGiven, IsRefused, documents, keys}
 use Rattle.urna_app.specs.declared.status.Doc.{Doc}
 use Rattle.urna_app.specs.declared.status.Doc.TheVariants as doc
@@ -65,6 +68,9 @@ bad_roll bytes s t (roll_line {k} h) (roll_line {k = n} i) =
 bad_keys : (bytes : List ℕ) (s t : Status) → IsBad doc.Keys bytes s → IsBad doc.Keys bytes t → s ≡ t
 bad_keys bytes s t (line {k} h) (line {k = n} i) = let same : k ≡ n = cc in ap status.Line same
 
+bad_names : (bytes : List ℕ) (s t : Status) → IsBad doc.List bytes s → IsBad doc.List bytes t → s ≡ t
+bad_names bytes s t (name_line {k} h) (name_line {k = n} i) = let same : k ≡ n = cc in ap status.Line same
+
 -- the bytes of a report are tried by their verdict alone
 no_bad_report : (d : Doc) (bytes : List ℕ) (s : Status) → IsBad d bytes s → d ≡ doc.Report → ⊥
 no_bad_report d bytes s (no_document h) e = absurd (cc)
@@ -72,6 +78,7 @@ no_bad_report d bytes s (rule h) e = absurd (cc)
 no_bad_report d bytes s (count h) e = absurd (cc)
 no_bad_report d bytes s (roll_line h) e = absurd (cc)
 no_bad_report d bytes s (line h) e = absurd (cc)
+no_bad_report d bytes s (name_line h) e = absurd (cc)
 
 report_not_bad : (bytes : List ℕ) (s : Status) → IsBad doc.Report bytes s → ⊥
 report_not_bad bytes s h = no_bad_report doc.Report bytes s h refl
@@ -81,6 +88,7 @@ bad_once doc.Tables bytes s t h i = bad_tables bytes s t h i
 bad_once doc.Roll bytes s t h i = bad_roll bytes s t h i
 bad_once doc.Keys bytes s t h i = bad_keys bytes s t h i
 bad_once doc.Report bytes s t h i = absurd (report_not_bad bytes s h)
+bad_once doc.List bytes s t h i = bad_names bytes s t h i
 
 -- A file of a name
 
@@ -110,7 +118,7 @@ longer_not_taken files d name bytes long taken = long_not_short (file_at name fi
 pub same_bytes : (files : Files) (d : Doc) (name a b : List ℕ) → IsTaken (Some files) d name a → IsTaken (Some files) d name b → a ≡ b
 same_bytes files d name a b h i = let p = h.held files refl in let q = i.held files refl in cc
 
-fault_once : (files : Files) (name : List ℕ) (d : Doc) (s t : Status) → IsFault (Some files) name d s → IsFault (Some files) name d t → s ≡ t
+pub fault_once : (files : Files) (name : List ℕ) (d : Doc) (s t : Status) → IsFault (Some files) name d s → IsFault (Some files) name d t → s ≡ t
 fault_once files name d s t (lacks h) (lacks i) = refl
 fault_once files name d s t (lacks h) (longer i) = absurd (lacks_not_longer files name (limit_of d) h i)
 fault_once files name d s t (lacks h) (bad {bytes} taken i) = absurd (lacks_not_taken files d name bytes h taken)
@@ -152,6 +160,17 @@ keys_not_fault files name s es (bad {bytes} taken (line {k} h)) has =
     let none : events_of has.bytes ≡ None =
     subst (λ (o : Option ℕ). MatchOption o (IsSome (events_of has.bytes)) (λ _. events_of has.bytes ≡ None))
     (subst (λ (b : List ℕ). first_bad b ≡ Some k) same h) (events_or_bad has.bytes) in
+    let some = has.read in
+    absurd (cc)
+
+names_not_fault : OneListAnswers → (files : Files) (name : List ℕ) (s : Status) (listed : List (List ℕ)) → IsFault (Some files) name doc.List s → HasNames (Some files) name listed → ⊥
+names_not_fault answers files name s listed (lacks h) has = lacks_not_taken files doc.List name has.bytes h has.taken
+names_not_fault answers files name s listed (longer h) has = longer_not_taken files doc.List name has.bytes h has.taken
+names_not_fault answers files name s listed (bad {bytes} taken (name_line {k} h)) has =
+    let same = same_bytes files doc.List name bytes has.bytes taken has.taken in
+    let none : names_of has.bytes ≡ None =
+    subst (λ (o : Option ℕ). MatchOption o (IsSome (names_of has.bytes)) (λ _. names_of has.bytes ≡ None))
+    (subst (λ (b : List ℕ). first_bad_name b ≡ Some k) same h) (answers has.bytes) in
     let some = has.read in
     absurd (cc)
 
@@ -218,3 +237,17 @@ one_verdict_on files a v w h i =
     let bytes = same_bytes files doc.Report a.report h.bytes i.bytes h.report i.report in
     one_verdict i.t i.bytes v w (small (length i.bytes) i.report.short)
     (subst (λ (t : TablesData). IsVerdict t i.bytes v) tables (subst (λ (b : List ℕ). IsVerdict h.t b v) bytes h.verdict)) i.verdict
+
+-- The tables and the list of some names
+
+pub same_names : (files : Files) (name : List ℕ) (a b : List (List ℕ)) → HasNames (Some files) name a → HasNames (Some files) name b → a ≡ b
+same_names files name a b h i =
+    let same = same_bytes files doc.List name h.bytes i.bytes h.taken i.taken in
+    let read : names_of i.bytes ≡ Some a = subst (λ (x : List ℕ). names_of x ≡ Some a) same h.read in
+    let other = i.read in
+    cc
+
+pub refused_or_listed : OneListAnswers → (files : Files) (names : Totaliza) (s : Status) (t : TablesData) (listed : List (List ℕ)) → IsFirstFault (Some files) names.tables doc.List names.list s
+    → IsListed (Some files) names t listed → ⊥
+refused_or_listed answers files a s t listed (first_tables h) given = tables_not_fault files a.tables s t h given.tables
+refused_or_listed answers files a s t listed (first_other _ h) given = names_not_fault answers files a.list s listed h given.list

@@ -13,6 +13,7 @@ code_of status.RollCount = 3
 code_of (status.RollLine k) = 3
 code_of (status.Line k) = 4
 code_of (status.TooLong d) = 5
+code_of (status.SomeRefused k) = 6
 code_of (status.ReportRefused v) = 7
 code_of (status.Missing d) = 12
 code_of status.Cabinet = 20

@@ -30,6 +30,11 @@ pub record Confere : Type 0 where
   pub tables : List ℕ
   pub report : List ℕ
 
+-- totaliza TABLES LIST: the names of the files
+pub record Totaliza : Type 0 where
+  pub tables : List ℕ
+  pub list : List ℕ
+
 -- five words, the first of which is vota
 abbrev pub vota_of : List (List ℕ) → Option Vota
 vota_of (word ∷ tables ∷ roll ∷ keys ∷ out ∷ []) =
@@ -83,21 +88,31 @@ confere_of (a ∷ []) = None
 confere_of (a ∷ b ∷ []) = None
 confere_of (a ∷ b ∷ c ∷ d ∷ more) = None
 
+-- three words, the first of which is totaliza
+abbrev pub totaliza_of : List (List ℕ) → Option Totaliza
+totaliza_of (word ∷ tables ∷ list ∷ []) = if bytes_eq word (codes "totaliza") then Some (record { tables = tables; list = list }) else None
+totaliza_of [] = None
+totaliza_of (a ∷ []) = None
+totaliza_of (a ∷ b ∷ []) = None
+totaliza_of (a ∷ b ∷ c ∷ d ∷ more) = None
+
 -- a command and its names
 pub data Command : Type 0 where
   ToVote : Vota → Command
   ToLoad : Carga → Command
   ToEmit : Emite → Command
   ToCheck : Confere → Command
+  ToTotal : Totaliza → Command
 
 -- the command that the words are, if they are one of these
-abbrev pub command_in : Option Vota → Option Carga → Option Emite → Option Confere → Option Command
-command_in (Some names) load emit check = Some (ToVote names)
-command_in None (Some names) emit check = Some (ToLoad names)
-command_in None None (Some names) check = Some (ToEmit names)
-command_in None None None (Some names) = Some (ToCheck names)
-command_in None None None None = None
+abbrev pub command_in : Option Vota → Option Carga → Option Emite → Option Confere → Option Totaliza → Option Command
+command_in (Some names) load emit check total = Some (ToVote names)
+command_in None (Some names) emit check total = Some (ToLoad names)
+command_in None None (Some names) check total = Some (ToEmit names)
+command_in None None None (Some names) total = Some (ToCheck names)
+command_in None None None None (Some names) = Some (ToTotal names)
+command_in None None None None None = None
 
 -- the command of the words, if they are one
 abbrev pub command_of : List (List ℕ) → Option Command
-command_of words = command_in (vota_of words) (carga_of words) (emite_of words) (confere_of words)
+command_of words = command_in (vota_of words) (carga_of words) (emite_of words) (confere_of words) (totaliza_of words)

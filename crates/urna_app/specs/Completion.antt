@@ -10,12 +10,14 @@ use Rattle.election_tables.specs.declared.tables.sections.Section.{Section}
 use Rattle.key_script.specs.declared.keys.Event.{Event}
 use Rattle.turnout.specs.declared.phase.Phase.TheVariants as phase
 use Rattle.image_codec.specs.State.{State}
+use Rattle.section_intake.specs.Accepted.{File}
 use Rattle.section_intake.specs.declared.verdict.Verdict.{Verdict}
 use Rattle.state_store.specs.Calls.{AreFound, AreFree}
 use Rattle.urna_app.specs.Carga.{IsSectionAsked}
-use Rattle.urna_app.specs.Command.{Carga, Confere, Emite, ToCheck, ToEmit, ToLoad, ToVote, Vota, command_of}
+use Rattle.urna_app.specs.Command.{Carga, Confere, Emite, ToCheck, ToEmit, ToLoad, ToTotal, ToVote, Totaliza, Vota, command_of}
 use Rattle.urna_app.specs.Documents.{HasDocuments, HasTables, IsTaken}
 use Rattle.urna_app.specs.Ending.{Ends}
+use Rattle.urna_app.specs.Totaliza.{AreTaken, IsListed}
 use Rattle.urna_app.specs.Vota.{IsGiven}
 use Rattle.urna_app.specs.declared.status.Doc.TheVariants as doc
 use Rattle.urna_app.specs.declared.status.Status.{Status}
@@ -47,6 +49,7 @@ tells_of_count status.RollCount = false
 tells_of_count (status.RollLine k) = false
 tells_of_count (status.Line k) = false
 tells_of_count (status.ReportRefused v) = false
+tells_of_count (status.SomeRefused k) = false
 tells_of_count (status.Foreign d) = false
 tells_of_count status.NoImage = false
 tells_of_count (status.Busy d) = false
@@ -94,10 +97,18 @@ pub record CanCheck (names : Confere) (files : Option Files) : Type 0 where
   pub tables : HasTables files names.tables t
   pub report : IsTaken files doc.Report names.report bytes
 
+-- the files of these names are tables and a list, and each listed report is there and no longer than a report may be
+pub record CanTotal (names : Totaliza) (files : Option Files) : Type 0 where
+  pub t : TablesData
+  pub listed : List (List ℕ)
+  pub given : IsListed files names t listed
+  pub reports : List File
+  pub taken : AreTaken files listed reports
+
 -- ---- and then they complete
 
 -- Where the cabinet tells its files and the machine its flashes, a call of the program that has what its command needs, and in which no
--- count of faults rose, is Done, or memory was wanted; a check may refuse the report besides.
+-- count of faults rose, is Done, or memory was wanted; a check may refuse the report besides, and the totals some reports.
 abbrev pub CompletesWhereItCan : Type 0
 CompletesWhereItCan = (words : List (List ℕ)) (c d : CabinetTold) (m n : Told) (s : Status) (files : Files)
     → c.files ≡ Some files → NothingFailed c d m n → Ends words c d m n s
@@ -109,6 +120,8 @@ CompletesWhereItCan = (words : List (List ℕ)) (c d : CabinetTold) (m n : Told)
     → CanEmit names (Some files) flashes → IsDoneOrMemory s)
     × ((names : Confere) → command_of words ≡ Some (ToCheck names) → CanCheck names (Some files)
     → IsDoneOrMemory s ⊎ ((v : Verdict) × (s ≡ status.ReportRefused v)))
+    × ((names : Totaliza) → command_of words ≡ Some (ToTotal names) → CanTotal names (Some files)
+    → IsDoneOrMemory s ⊎ ((k : ℕ) × (s ≡ status.SomeRefused k)))
 
 -- Of any cabinet and machine: where no count rose in a call, also not that of names not found or of files found too long, the status tells
 -- of none.

@@ -6,6 +6,7 @@ use Rattle.urna_outside.specs.Cabinet.{Files, Holds, HoldsLonger, Lacks}
 use Rattle.election_tables.specs.Roll.{IsRollOf, RollData, HasBadLine, has_count}
 use Rattle.election_tables.specs.Tables.{IsReadAs, IsNoDocument, BreaksFirst}
 use Rattle.election_tables.specs.TablesData.{IsTables, TablesData}
+use Rattle.key_script.specs.Names.{first_bad_name, names_of}
 use Rattle.key_script.specs.Script.{events_of, first_bad}
 use Rattle.key_script.specs.declared.keys.Event.{Event}
 use Rattle.urna_app.specs.declared.status.Doc.{Doc}
@@ -19,6 +20,7 @@ limit_of doc.Tables = 4194304
 limit_of doc.Roll = 16384
 limit_of doc.Keys = 16777216
 limit_of doc.Report = 1048576
+limit_of doc.List = 1048576
 
 -- These are the bytes of the file of that name, where the cabinet tells its files, and they are no more than the document may have.
 pub record IsTaken (files : Option Files) (d : Doc) (name bytes : List ℕ) : Type 0 where
@@ -32,6 +34,7 @@ pub data IsBad : Doc → List ℕ → Status → Type 0 where
   count : {bytes : List ℕ} → has_count (lines_of bytes) ≡ false → IsBad doc.Roll bytes status.RollCount
   roll_line : {bytes : List ℕ} {k : ℕ} → HasBadLine bytes k → IsBad doc.Roll bytes (status.RollLine k)
   line : {bytes : List ℕ} {k : ℕ} → first_bad bytes ≡ Some k → IsBad doc.Keys bytes (status.Line k)
+  name_line : {bytes : List ℕ} {k : ℕ} → first_bad_name bytes ≡ Some k → IsBad doc.List bytes (status.Line k)
 
 -- what is wrong with a document, and the status that says so
 pub data IsFault (files : Option Files) (name : List ℕ) (d : Doc) : Status → Type 0 where
@@ -62,6 +65,12 @@ pub record HasKeys (files : Option Files) (name : List ℕ) (es : List Event) : 
   pub bytes : List ℕ
   pub taken : IsTaken files doc.Keys name bytes
   pub read : events_of bytes ≡ Some es
+
+-- a file of this name is taken, and holds these names of files
+pub record HasNames (files : Option Files) (name : List ℕ) (listed : List (List ℕ)) : Type 0 where
+  pub bytes : List ℕ
+  pub taken : IsTaken files doc.List name bytes
+  pub read : names_of bytes ≡ Some listed
 
 -- The tables or another document of this name are at fault, and this status says it: the tables are tried first.
 pub data IsFirstFault (files : Option Files) (tables : List ℕ) (d : Doc) (name : List ℕ) : Status → Type 0 where

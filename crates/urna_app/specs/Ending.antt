@@ -4,11 +4,12 @@ use Rattle.urna_outside.specs.Cabinet.{CabinetTold}
 use Rattle.urna_outside.specs.Told.{Told}
 use Rattle.state_store.specs.Calls.{IsUntouched}
 use Rattle.urna_app.specs.Carga.{CargaEnds}
-use Rattle.urna_app.specs.Command.{Carga, Confere, Emite, ToCheck, ToEmit, ToLoad, ToVote, Vota, command_of}
+use Rattle.urna_app.specs.Command.{Carga, Confere, Emite, ToCheck, ToEmit, ToLoad, ToTotal, ToVote, Totaliza, Vota, command_of}
 use Rattle.urna_app.specs.Confere.{ConfereEnds}
 use Rattle.urna_app.specs.Emite.{EmiteEnds}
 use Rattle.urna_app.specs.FaultLines.{Tells, fault_text}
 use Rattle.urna_app.specs.Taking.{HasTaken}
+use Rattle.urna_app.specs.Totaliza.{TotalizaEnds}
 use Rattle.urna_app.specs.Vota.{VotaEnds}
 use Rattle.urna_app.specs.declared.status.Status.{Status}
 use Rattle.urna_app.specs.declared.status.Status.TheVariants as status
@@ -20,6 +21,7 @@ pub data CommandEnds (words : List (List ℕ)) (c d : CabinetTold) (m n : Told) 
   carga : {names : Carga} {s : Status} → command_of words ≡ Some (ToLoad names) → CargaEnds names c d m n s → CommandEnds words c d m n s
   emite : {names : Emite} {s : Status} → command_of words ≡ Some (ToEmit names) → EmiteEnds names c d m n s → CommandEnds words c d m n s
   confere : {names : Confere} {s : Status} → command_of words ≡ Some (ToCheck names) → ConfereEnds names c d m n s → CommandEnds words c d m n s
+  totaliza : {names : Totaliza} {s : Status} → command_of words ≡ Some (ToTotal names) → TotalizaEnds names c d m n s → CommandEnds words c d m n s
 
 -- How a call of the program ends, by what the cabinet and the machine told before and after: as its command, and then the line
 -- that tells a fault was shown, where the status has one.

@@ -16,6 +16,7 @@ doc_word doc.Tables = codes "TABELAS"
 doc_word doc.Roll = codes "ROL"
 doc_word doc.Keys = codes "TECLAS"
 doc_word doc.Report = codes "BOLETIM"
+doc_word doc.List = codes "LISTA"
 
 -- how a fault line names a flash
 abbrev pub device_word : Dev → List ℕ
@@ -35,6 +36,7 @@ fault_text (status.Line k) = Some (codes "LINHA " ++ decimal k)
 fault_text (status.TooLong d) = Some (codes "TAMANHO " ++ doc_word d)
 fault_text (status.Missing d) = Some (codes "FALTA " ++ doc_word d)
 fault_text (status.ReportRefused v) = None
+fault_text (status.SomeRefused k) = None
 fault_text status.Cabinet = None
 fault_text status.InternalFlash = None
 fault_text status.ExternalFlash = None

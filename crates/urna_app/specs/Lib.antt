@@ -12,9 +12,11 @@ pub mod FaultLines
 pub mod Headline
 pub mod Holding
 pub mod Laws
+pub mod Offering
 pub mod Putting
 pub mod Reports
 pub mod Results
 pub mod Taking
+pub mod Totaliza
 pub mod Verdicts
 pub mod Vota

@@ -28,6 +28,7 @@ CountsFor (status.Busy d) old new = new ≡ old
 CountsFor status.NotSealed old new = new ≡ old
 CountsFor status.NoSection old new = new ≡ old
 CountsFor (status.ReportRefused v) old new = new ≡ old
+CountsFor (status.SomeRefused k) old new = new ≡ old
 
 -- the count of calls after so many more
 abbrev pub calls_made : ℕ → Option ℕ → Option ℕ

@@ -1,6 +1,6 @@
 //! The words of a command.
 ghost use Rattle.std.specs.Prelude.{◌≡◌, IfNone, IfSome, None, Some, map, string_bytes};
-ghost use Rattle.urna_app.specs.Command.{carga_of, confere_of, emite_of, named_number, vota_of};
+ghost use Rattle.urna_app.specs.Command.{carga_of, confere_of, emite_of, named_number, totaliza_of, vota_of};
 
 use election_tables::GREATEST_SECTION;
 use urna_base::decimal;
@@ -36,6 +36,13 @@ pub(crate) struct EmiteNames<'a> {
 pub(crate) struct ConfereNames<'a> {
     pub tables: &'a str,
     pub report: &'a str,
+}
+
+/// The names of the files of `totaliza`.
+#[derive(Clone, Copy)]
+pub(crate) struct TotalizaNames<'a> {
+    pub tables: &'a str,
+    pub list: &'a str,
 }
 
 /// `vota TABLES ROLL KEYS OUT`.
@@ -113,6 +120,23 @@ pub(crate) fn confere_words(words: &[String]) -> Option<ConfereNames<'_>>
     Some(ConfereNames {
         tables: tables.as_str(),
         report: report.as_str(),
+    })
+}
+
+/// `totaliza TABLES LIST`.
+pub(crate) fn totaliza_words(words: &[String]) -> Option<TotalizaNames<'_>>
+    ensures names { IfSome result (λ n. totaliza_of (map string_bytes words.now) ≡ Some (record { tables = n.tables.now; list = n.list.now })) }
+    ensures none { IfNone result (totaliza_of (map string_bytes words.now) ≡ None) }
+{
+    let [command, tables, list] = words else {
+        return None;
+    };
+    if command.as_str() != "totaliza" {
+        return None;
+    }
+    Some(TotalizaNames {
+        tables: tables.as_str(),
+        list: list.as_str(),
     })
 }
 

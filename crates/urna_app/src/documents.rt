@@ -1,13 +1,13 @@
 //! Taking and reading the files of a command.
 ghost use Rattle.std.specs.Prelude.{◌≡◌, ◌≢◌, IfOk, IfErr};
 ghost use Rattle.election_tables.specs.TablesData.{IsTables};
-ghost use Rattle.urna_app.specs.Documents.{HasTables, HasRoll, HasKeys, IsFault, IsFirstFault, IsTaken, limit_of};
+ghost use Rattle.urna_app.specs.Documents.{HasNames, HasTables, HasRoll, HasKeys, IsFault, IsFirstFault, IsTaken, limit_of};
 ghost use Rattle.urna_app.specs.Taking.{HasTaken, status_in};
 
 use crate::errors::not_taken;
 use crate::status::{Doc, Status};
 use election_tables::{Roll, Tables};
-use key_script::Script;
+use key_script::{Names, Script};
 use std::alloc::Global;
 use urna_outside::Cabinet;
 
@@ -19,6 +19,8 @@ const KEYS_LIMIT: u32 = 16_777_216;
 
 const REPORT_LIMIT: u32 = 1_048_576;
 
+const LIST_LIMIT: u32 = 1_048_576;
+
 /// The most bytes that a document may have.
 fn limit(doc: Doc) -> u32
     ensures { result ≡ limit_of doc }
@@ -28,6 +30,7 @@ fn limit(doc: Doc) -> u32
         Doc::Roll => ROLL_LIMIT,
         Doc::Keys => KEYS_LIMIT,
         Doc::Report => REPORT_LIMIT,
+        Doc::List => LIST_LIMIT,
     }
 }
 
@@ -111,4 +114,45 @@ pub(crate) fn take_tables_and_report<C: Cabinet>(
     let tables = take_tables(alloc, cabinet, tables)?;
     let bytes = take(alloc, cabinet, report, Doc::Report)?;
     Ok((tables, bytes))
+}
+
+/// The bytes of a report.
+pub(crate) fn take_report<C: Cabinet>(
+    alloc: Global,
+    cabinet: &mut C,
+    name: &str,
+) -> Result<Vec<u8>, Status>
+    ensures report { IfOk result (λ bytes. IsTaken (C.told cabinet.old).files Doc.Report name.now bytes.items) }
+    ensures fault { IfErr result (λ s. s ≢ Status.Memory → s ≢ Status.Cabinet → IsFault (C.told cabinet.old).files name.now Doc.Report s) }
+    ensures taken { HasTaken 1 (status_in result) (C.told cabinet.old) (C.told cabinet.new) }
+{
+    take(alloc, cabinet, name, Doc::Report)
+}
+
+fn take_names<C: Cabinet>(alloc: Global, cabinet: &mut C, name: &str) -> Result<Names, Status>
+    ensures names { IfOk result (HasNames (C.told cabinet.old).files name.now) }
+    ensures fault { IfErr result (λ s. s ≢ Status.Memory → s ≢ Status.Cabinet → IsFault (C.told cabinet.old).files name.now Doc.List s) }
+    ensures taken { HasTaken 1 (status_in result) (C.told cabinet.old) (C.told cabinet.new) }
+{
+    let bytes = take(alloc, cabinet, name, Doc::List)?;
+    let names = Names::read(bytes)?;
+    Ok(names)
+}
+
+/// The tables of a command, and the names of its list.
+pub(crate) fn take_tables_and_list<C: Cabinet>(
+    alloc: Global,
+    cabinet: &mut C,
+    tables: &str,
+    list: &str,
+) -> Result<(Tables, Names), Status>
+    ensures tables { IfOk result (λ both. HasTables (C.told cabinet.old).files tables.now both.0) }
+    ensures valid { IfOk result (λ both. IsTables both.0) }
+    ensures names { IfOk result (λ both. HasNames (C.told cabinet.old).files list.now both.1) }
+    ensures fault { IfErr result (λ s. s ≢ Status.Memory → s ≢ Status.Cabinet → IsFirstFault (C.told cabinet.old).files tables.now Doc.List list.now s) }
+    ensures taken { HasTaken 2 (status_in result) (C.told cabinet.old) (C.told cabinet.new) }
+{
+    let tables = take_tables(alloc, cabinet, tables)?;
+    let names = take_names(alloc, cabinet, list)?;
+    Ok((tables, names))
 }

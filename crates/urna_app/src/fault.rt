@@ -1,5 +1,5 @@
 //! The line that tells why a command was refused.
-ghost use Rattle.std.specs.Prelude.{◌≡◌, ◌++◌, ◌≤◌, IfSome, IfNone, length, None, option_map};
+ghost use Rattle.std.specs.Prelude.{◌≡◌, ◌++◌, ◌≤◌, length, None, option_map};
 ghost use Rattle.std.specs.Fmt.{decimal};
 ghost use Rattle.urna_app.specs.FaultLines.{Tells, device_word, doc_word, fault_line, fault_text};
 
@@ -33,6 +33,7 @@ fn fault_line(status: &Status) -> Option<LineBuffer>
         Status::Line(line) => Some(numbered(b"LINHA ", u64::from(*line))),
         Status::TooLong(doc) => Some(worded(b"TAMANHO ", doc_word(*doc))),
         Status::Missing(doc) => Some(worded(b"FALTA ", doc_word(*doc))),
+        Status::SomeRefused(_) => None,
         Status::ReportRefused(_) => None,
         Status::Cabinet => None,
         Status::InternalFlash => None,
@@ -55,6 +56,7 @@ fn doc_word(doc: Doc) -> &'static [u8]
         Doc::Roll => b"ROL",
         Doc::Keys => b"TECLAS",
         Doc::Report => b"BOLETIM",
+        Doc::List => b"LISTA",
     }
 }
 

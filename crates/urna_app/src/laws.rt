@@ -3,16 +3,20 @@
 ghost use Rattle.urna_app.specs.AtRest.{SameAtRest};
 ghost use Rattle.urna_app.specs.Completion.{CompletesWhereItCan, TellsOfRisenCounts};
 ghost use Rattle.urna_app.specs.Headline.{AllAreCounted, DayKeepsVotes, KeysHaveRun, LoadBeginsDay, VotesAreKept};
-ghost use Rattle.urna_app.specs.Laws.{FoundOnce, RefusedOnce, RefusedOrGiven};
+ghost use Rattle.urna_app.specs.Laws.{FoundOnce, OneTotalStatus, RefusedOnce, RefusedOrGiven, TotalEndsSo};
 ghost use Rattle.urna_app.specs.Putting.{BothAreThere};
 ghost use Rattle.urna_app.specs.Reports.{SealedHasReport, SealedHasText, SealedIsAccepted};
 
 /// Where the cabinet tells its files, the words and the files determine whether they are refused, with which status, and which verdict
-/// `confere` gives.
+/// `confere` gives. So they do the status of `totaliza`, which ends with it unless memory was wanted or a port failed.
 pub fn one_ending()
     ensures once { RefusedOnce }
     ensures either { RefusedOrGiven }
-{}
+    ensures total { OneTotalStatus }
+    ensures so { TotalEndsSo }
+{
+    key_script::laws::names_or_bad_line();
+}
 
 /// Where the machine tells its flashes, they say which poll they hold, and so whether `emite` finds it sealed.
 pub fn one_poll()
@@ -32,6 +36,7 @@ pub fn completion()
     one_poll();
     state_store::laws::one_finding();
     state_store::laws::one_held();
+    key_script::laws::names_or_bad_line();
 }
 
 /// The headline. Wherever the power stops a call of `vota` behind its two opening syncs, both flashes, and from the first shown byte on

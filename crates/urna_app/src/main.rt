@@ -1,8 +1,8 @@
 //! The program `urna`: its words name a command and its files, and its status says how the command ended.
 //!
 //! `urna` is the call by which the program does its command. What it says of the files, of the text that is shown and of each
-//! status stands in `specs/Ending.antt`, and by command in `specs/Vota.antt`, `specs/Carga.antt`, `specs/Emite.antt` and
-//! `specs/Confere.antt` (docs/RULES.md, "The run"; docs/FORMATS.md, "Statuses").
+//! status stands in `specs/Ending.antt`, and by command in `specs/Vota.antt`, `specs/Carga.antt`, `specs/Emite.antt`,
+//! `specs/Confere.antt` and `specs/Totaliza.antt` (docs/RULES.md, "The run"; docs/FORMATS.md, "Statuses").
 #![tactic(auto)]
 
 ghost use Rattle.std.specs.Prelude.{map, string_bytes};
@@ -27,12 +27,13 @@ mod stops;
 mod telling;
 #[cfg(test)]
 mod tests;
+mod totaliza;
 mod verdict;
 mod vota;
 mod words;
 
 use carga::carga;
-use command::{carga_words, confere_words, emite_words, vota_words};
+use command::{carga_words, confere_words, emite_words, totaliza_words, vota_words};
 use confere::confere;
 use emite::emite;
 use fault::tell_fault;
@@ -40,6 +41,8 @@ use state_store::DEVICE_SIZE;
 use status::Status;
 use std::alloc::Global;
 use std::process::ExitCode;
+use totaliza::totaliza;
+pub use totals::contest_of;
 use urna_outside::{Cabinet, FileMachine, FolderCabinet, Machine};
 use vota::vota;
 use words::words;
@@ -52,8 +55,9 @@ const NO_WORDS: u8 = 40;
 /// `carga TABLES ROLL ZONE SECTION` loads both flashes for a section of the tables. `vota TABLES ROLL KEYS OUT` takes the three files,
 /// recovers the poll that the flashes hold, runs the session of the keys over it, and where the poll is sealed then puts its report and
 /// its record as `OUT.bu` and `OUT.rdv`. `emite TABLES ROLL OUT` puts these two files of the sealed poll that the flashes hold, and writes
-/// nothing on a flash. `confere TABLES REPORT` tells whether the file of a report is whole and fits the tables. Where the command was
-/// refused, a line tells why.
+/// nothing on a flash. `confere TABLES REPORT` tells whether the file of a report is whole and fits the tables. `totaliza TABLES LIST` tells
+/// that of each report that the list names, and the sums and the seats, or the winner, of each office over those that are accepted. Where
+/// the command was refused, a line tells why.
 pub fn urna<M: Machine, C: Cabinet>(
     alloc: Global,
     words: &[String],
@@ -92,6 +96,9 @@ fn run_command<M: Machine, C: Cabinet>(
     }
     if let Some(names) = confere_words(words) {
         return confere(alloc, names, machine, cabinet);
+    }
+    if let Some(names) = totaliza_words(words) {
+        return totaliza(alloc, names, machine, cabinet);
     }
     Err(Status::Usage)
 }

@@ -12,6 +12,7 @@ pub enum Doc {
     Roll,
     Keys,
     Report,
+    List,
 }
 
 /// What a command answers (docs/FORMATS.md, "Statuses").
@@ -31,10 +32,12 @@ pub enum Status {
     RollCount,
     /// The first line of the roll at fault, from 1.
     RollLine(u32),
-    /// The first line of the keys that isn't of their form, from 1.
+    /// The first line of the keys, or of the list, that isn't of its form, from 1.
     Line(u32),
     /// The file is longer than its limit.
     TooLong(Doc),
+    /// So many reports of the list were not accepted.
+    SomeRefused(u32),
     /// The verdict on the report isn't Accepted.
     ReportRefused(Verdict),
     /// The file isn't there.
@@ -74,6 +77,7 @@ impl Status {
             | Status::RollLine(_) => 3,
             Status::Line(_) => 4,
             Status::TooLong(_) => 5,
+            Status::SomeRefused(_) => 6,
             Status::ReportRefused(_) => 7,
             Status::Missing(_) => 12,
             Status::Cabinet => 20,

@@ -2,6 +2,7 @@
 
 mod confere;
 pub(crate) mod given;
+mod lists;
 mod polls;
 mod refused;
 mod results;

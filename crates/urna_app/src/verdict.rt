@@ -2,6 +2,7 @@
 ghost use Rattle.std.specs.Prelude.{◌≡◌, ◌+◌, ◌++◌, ◌≤◌, length};
 ghost use Rattle.std.specs.Fmt.{decimal};
 ghost use Rattle.urna_app.specs.Taking.{status_in};
+ghost use Rattle.urna_app.specs.Totaliza.{numbered_line};
 ghost use Rattle.urna_app.specs.Verdicts.{field_fault_text, part_fault_text, section_text, verdict_line, verdict_status, verdict_text};
 
 use crate::status::Status;
@@ -15,6 +16,19 @@ pub(crate) fn verdict_line(verdict: Verdict) -> LineBuffer
     ensures { result ≡ verdict_line verdict }
 {
     let mut line = LineBuffer::new();
+    push_verdict(&mut line, verdict);
+    line.push_text(b"\n");
+    line
+}
+
+/// The line of the verdict on a report that has this number in a list.
+#[tactic(auto, using(urna_base::proofs::DecimalLaws::line_lengths))]
+pub(crate) fn numbered_line(number: u32, verdict: Verdict) -> LineBuffer
+    ensures { result ≡ numbered_line number verdict }
+{
+    let mut line = LineBuffer::new();
+    line.push_decimal(u64::from(number));
+    line.push_text(b" ");
     push_verdict(&mut line, verdict);
     line.push_text(b"\n");
     line

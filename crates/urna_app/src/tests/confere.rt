@@ -1,5 +1,5 @@
 //! `confere` of files of reports.
-use super::given::{Given, LOAD, Row, TABLES, blank, step};
+use super::given::{Given, LOAD, Row, TABLES, blank, has_only_shown, shelf_of, step_on};
 use crate::status::{Doc, Status};
 use hash_chain::PartFault;
 use qr_text::FieldFault;
@@ -119,11 +119,11 @@ const FAULTS: [Row; 3] = [
     ),
 ];
 
-/// The check of a row, which leaves the flashes blank.
+/// The check of a row, which does nothing on a flash.
 fn check(rt: &(impl Abort + AllocGlobal), row: Row<'_>) -> Result<(), Fail> {
-    let left = step(rt, row, blank(rt)?)?;
-    assert!(rt; left.internal.iter().all(|byte| *byte == 0));
-    assert!(rt; left.external.iter().all(|byte| *byte == 0));
+    let mut shelf = shelf_of(rt, row.0)?;
+    let m = step_on(rt, row, &mut shelf, blank(rt)?)?;
+    assert!(rt; has_only_shown(&m));
     Ok(())
 }
 

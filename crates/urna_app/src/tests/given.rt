@@ -106,6 +106,7 @@ pub(crate) struct Given<'a> {
     pub roll: Option<&'static [u8]>,
     pub keys: Option<&'a [u8]>,
     pub report: Option<&'a [u8]>,
+    pub list: Option<&'a [u8]>,
     pub failing: &'static [u32],
     pub failing_takes: &'static [u32],
 }
@@ -116,6 +117,7 @@ pub(crate) const CARGA: Given = Given {
     roll: Some(ROLL),
     keys: None,
     report: None,
+    list: None,
     failing: &[],
     failing_takes: &[],
 };
@@ -266,11 +268,27 @@ pub(super) fn shelf_of(rt: &impl AllocGlobal, given: Given<'_>) -> Result<Shelf,
     place(&mut shelf, "r", given.roll)?;
     place(&mut shelf, "k", given.keys)?;
     place(&mut shelf, "b", given.report)?;
+    place(&mut shelf, "l", given.list)?;
     Ok(shelf)
 }
 
 /// A command, and the status, number and text with which it has to end.
 pub(super) type Row<'a> = (Given<'a>, Status, u8, &'a [u8]);
+
+/// The machine that the command of a row was run on, over these files and images.
+pub(super) fn step_on(
+    rt: &(impl Abort + AllocGlobal),
+    row: Row<'_>,
+    shelf: &mut Shelf,
+    images: Images,
+) -> Result<Recorder, Fail> {
+    let (given, status, code, shown) = row;
+    let (answered, m) = run_on(rt, given, shelf, images, given.failing)?;
+    assert_eq!(rt; answered, status);
+    assert_eq!(rt; answered.code(), code);
+    assert_eq!(rt; m.shown(), shown);
+    Ok(m)
+}
 
 /// What the command of a row leaves.
 pub(super) fn step(
@@ -278,12 +296,21 @@ pub(super) fn step(
     row: Row<'_>,
     images: Images,
 ) -> Result<Images, Fail> {
-    let (given, status, code, shown) = row;
-    let (answered, m) = run(rt, given, images)?;
-    assert_eq!(rt; answered, status);
-    assert_eq!(rt; answered.code(), code);
-    assert_eq!(rt; m.shown(), shown);
+    let m = step_on(rt, row, &mut shelf_of(rt, row.0)?, images)?;
     Ok(left(rt, &m)?)
+}
+
+/// Whether a machine over blank flashes has shown lines, the last of them whole or cut off, and has done nothing else.
+pub(super) fn has_only_shown(m: &Recorder) -> bool {
+    let mut lines = 0u32;
+    for piece in m.shown().split(|byte| *byte == b'\n') {
+        if !piece.is_empty() {
+            lines = lines.saturating_add(1);
+        }
+    }
+    m.trail_len() == lines
+        && m.content(Dev::Internal).iter().all(|byte| *byte == 0)
+        && m.content(Dev::External).iter().all(|byte| *byte == 0)
 }
 
 /// Each command of a table over the same flashes.
