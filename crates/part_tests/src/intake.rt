@@ -1,4 +1,4 @@
-//! Files of reports, offered one behind the other (the crate `section_intake`).
+//! Files of reports, offered one behind the other (the crate `section_intake`), and the contest of their votes (the crate `totals`).
 ghost use Rattle.std.specs.Prelude.{◌<◌};
 ghost use Rattle.section_intake.specs.Intake.{IsIntakeFor, panels_of};
 
@@ -9,6 +9,7 @@ use election_tables::Tables;
 use section_intake::Intake;
 use std::alloc::{AllocError, Global};
 use std::test::Fail;
+use totals::contest_of;
 use urna_base::Memory;
 
 /// Two offices and two sections.
@@ -97,6 +98,11 @@ const FIRST_SUMS: &str = "13001:1 13:0 45:0 99:0 L13:0 L45:1 L99:0 B:1 X:0\n\
 
 const BOTH_SUMS: &str = "13001:1 13:0 45:0 99:0 L13:0 L45:3 L99:0 B:1 X:2\n\
      13001:0 13:1 45:4 99:0 L13:0 L45:0 L99:0 B:1 X:1\n";
+
+/// The contest of the first office over the same reports.
+const CONTEST: &str = "Contest { seats: 5, parties: Contestants { items: [\
+     Contestant { number: 13, party_votes: 0, candidates: Entries { items: [Entry { number: 13001, birth: 19700101, votes: 1 }] } }, \
+     Contestant { number: 45, party_votes: 3, candidates: Entries { items: [Entry { number: 45001, birth: 19650520, votes: 0 }] } }] } }";
 
 /// Whether the verdict on a file that is offered is told so.
 fn is_told(
@@ -206,5 +212,7 @@ fn sections_count_in_any_order(rt: HostRuntime) -> Result<(), Fail> {
         told_sums(rt.alloc(), &tables, &intake)?.as_str(),
         BOTH_SUMS
     );
+    let contest = contest_of(rt.alloc(), &tables, &intake, 0)?;
+    assert_eq!(rt; format!(in rt.alloc(); "{contest:?}")?.as_str(), CONTEST);
     Ok(())
 }

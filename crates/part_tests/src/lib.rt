@@ -1,7 +1,7 @@
-//! The tests of eleven parts: what each answers to values from outside, and each of its public calls once on its happy path.
+//! The tests of twelve parts: what each answers to values from outside, and each of its public calls once on its happy path.
 //! They stand in a crate of their own because a crate with tests is proved twice, with them and without them.
 //!
-//! One module has the tests of one crate, and `reports` and `files` have those of two each. `lines` is no test itself: it
+//! One module has the tests of one crate, and `reports`, `files` and `intake` have those of two each. `lines` is no test itself: it
 //! has a line that is pushed in five pieces, which `numbers` tests.
 #![tactic(auto)]
 
