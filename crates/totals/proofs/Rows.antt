@@ -105,6 +105,25 @@ two_offices : AreTotals tables (first ∷ second ∷ []) (
 unfolding digits
 two_offices = are_totals tables (first ∷ second ∷ [])
 
+-- in the second turn half of them is enough
+in_turn_two : AreTotals (record {
+  process = 1;
+  date = 20241027;
+  turn = 2;
+  panels = mayor ∷ [];
+  parties = party 10 ∷ party 11 ∷ [];
+  sections = section 1 ∷ [];
+  digest = [];
+}) (report 1 50 (office 11 (count 10 20 ∷ count 11 20 ∷ []) [] 5 5 ∷ []) ∷ []) (
+    line (codes "SECOES 1 DE 1")
+    ∷ line (codes "CARGO 11 VALIDOS 40 NOMINAIS 40 LEGENDA 0 BRANCOS 5 NULOS 5 TOTAL 50")
+    ∷ line (codes "CANDIDATO 10 VOTOS 20")
+    ∷ line (codes "CANDIDATO 11 VOTOS 20")
+    ∷ line (codes "ELEITO 11")
+    ∷ [])
+unfolding digits
+in_turn_two = are_totals _ (report 1 50 (office 11 (count 10 20 ∷ count 11 20 ∷ []) [] 5 5 ∷ []) ∷ [])
+
 -- without reports nobody has a vote
 no_reports : AreTotals tables [] (
     line (codes "SECOES 0 DE 3")

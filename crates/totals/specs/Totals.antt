@@ -1,5 +1,5 @@
 -- The totals of an election over the reports that were accepted: the sums of each office, and what comes of them by law
-use Rattle.std.specs.Prelude.{◌≡◌, ℕ, ◌+◌, true, false, List, [], ◌∷◌, ◌++◌, length, map}
+use Rattle.std.specs.Prelude.{◌≡◌, ℕ, ◌+◌, ◌==◌, false, List, [], ◌∷◌, ◌++◌, length, map}
 use Rattle.election_tables.specs.TablesData.{TablesData}
 use Rattle.election_tables.specs.declared.office.Kind.{Kind}
 use Rattle.election_tables.specs.declared.office.Kind.TheVariants as kind
@@ -14,17 +14,18 @@ use Rattle.seat_remainders.specs.declared.outcome.Outcome.{Outcome}
 use Rattle.totals.specs.Contest.{contest_for, entries_in, votes_in}
 use Rattle.totals.specs.Lines.{candidate_line, majority_line, office_line, outcome_lines, section_line}
 
--- These lines tell what comes of an office: in a proportional one the outcome of its contest, and else that of its candidates by the
--- absolute or the simple rule. Each number of a candidate has so many votes.
-abbrev pub TellResult : Kind → Contest → List Entry → (ℕ → ℕ) → List (List ℕ) → Type 0
-TellResult kind.Proportional contest candidates votes lines = (o : Outcome) × IsOutcome contest o × (lines ≡ outcome_lines votes o)
-TellResult kind.Absolute contest candidates votes lines = lines ≡ majority_line (majority_outcome candidates true) ∷ []
-TellResult kind.Simple contest candidates votes lines = lines ≡ majority_line (majority_outcome candidates false) ∷ []
+-- These lines tell what comes of an office: in a proportional one the outcome of its contest; where it is decided by the absolute majority,
+-- that of its candidates by the absolute rule in the first turn, and by the simple one in the second (Constitution art. 77, paragraph 3);
+-- where it is decided by the simple majority, by the simple rule. Each number of a candidate has so many votes.
+abbrev pub TellResult : Kind → ℕ → Contest → List Entry → (ℕ → ℕ) → List (List ℕ) → Type 0
+TellResult kind.Proportional turn contest candidates votes lines = (o : Outcome) × IsOutcome contest o × (lines ≡ outcome_lines votes o)
+TellResult kind.Absolute turn contest candidates votes lines = lines ≡ majority_line (majority_outcome candidates (turn == 1)) ∷ []
+TellResult kind.Simple turn contest candidates votes lines = lines ≡ majority_line (majority_outcome candidates false) ∷ []
 
 -- These lines tell of the panel of a number: its votes, those of each candidate, and what comes of them.
 pub record TellPanel (t : TablesData) (reports : List Report) (panel : ℕ) (p : Panel) (lines : List (List ℕ)) : Type 0 where
   pub result : List (List ℕ)
-  pub told : TellResult p.office.kind (contest_for t reports panel p) (entries_in reports panel p) (λ number. nominal_sum panel number reports) result
+  pub told : TellResult p.office.kind t.turn (contest_for t reports panel p) (entries_in reports panel p) (λ number. nominal_sum panel number reports) result
   pub all : lines ≡ office_line p.office.code (votes_in reports panel) ∷ (map candidate_line (entries_in reports panel p) ++ result)
 
 -- these lines tell of these panels, the first of which has this number

@@ -69,7 +69,7 @@ fn push_panel(
     push_candidates(lines, entries.as_slice())?;
     match office.kind {
         Kind::Proportional => push_contest(alloc, lines, tables, intake, panel),
-        Kind::Absolute => push_majority(lines, entries.as_slice(), true),
+        Kind::Absolute => push_majority(lines, entries.as_slice(), tables.turn() == 1),
         Kind::Simple => push_majority(lines, entries.as_slice(), false),
     }
 }

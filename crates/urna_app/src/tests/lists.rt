@@ -396,6 +396,49 @@ CANDIDATO 45 VOTOS 30
 ELEITO 45
 ";
 
+/// A second turn, and the report of its section, in which both candidates have half of the votes.
+const SECOND_TURN: &[u8] = br#"
+processo = 7
+data = 20261025
+turno = 2
+cargo = [{codigo = 11, regra = "absoluta", cadeiras = 1}]
+partido = [
+  {numero = 13, nome = "PA"},
+  {numero = 45, nome = "PB"},
+]
+candidato = [
+  {cargo = 11, numero = 13, nascimento = 19600303, nome = "CARLA"},
+  {cargo = 11, numero = 45, nascimento = 19551212, nome = "DAVI"},
+]
+secao = [{zona = 1, secao = 42, eleitores = 3}]
+"#;
+
+const OF_SECOND_TURN: &[u8] =
+    b"QRBU:1:1 VRQR:U1 ORIG:VOTA PROC:7 DTPL:20261025 TURN:2 ZONA:1 SECA:42 APTO:3 COMP:2 FALT:1 \
+    DTAB:20261025 HRAB:080000 DTFC:20261025 HRFC:170000 \
+    CARG:11 TIPO:0 13:1 45:1 APTA:3 NOMI:2 BRAN:0 NULO:0 TOTC:2 \
+    HASH:552EEE2A421FA20E6577CED98B8B8080D3E455621E149C361544E5B31F0798D7\
+    EF8C59F986B7673B957E6BCA16532F3BAE03D329724EA116FBEA5D8BCD1F3FA6\n";
+
+/// A second turn has no other one behind it: the elder of the two is elected.
+#[test]
+fn a_second_turn_elects(rt: HostRuntime) -> Result<(), Fail> {
+    let given = Given {
+        tables: Some(SECOND_TURN),
+        report: Some(OF_SECOND_TURN),
+        list: Some(b"b\n"),
+        ..TOTALIZA
+    };
+    let shown = b"1 ACEITO 1 42
+SECOES 1 DE 1
+CARGO 11 VALIDOS 2 NOMINAIS 2 LEGENDA 0 BRANCOS 0 NULOS 0 TOTAL 2
+CANDIDATO 13 VOTOS 1
+CANDIDATO 45 VOTOS 1
+ELEITO 45
+";
+    check(&rt, (given, Status::Done, 0, shown))
+}
+
 #[test]
 fn seats_come_of_the_votes_of_all_sections(rt: HostRuntime) -> Result<(), Fail> {
     let given = Given {

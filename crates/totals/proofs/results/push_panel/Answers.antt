@@ -1,4 +1,4 @@
-use Rattle.std.proofs.Common.{◌∷◌, [], ◌++◌, true, false, List, map, ap, ◌∙◌, arith}
+use Rattle.std.proofs.Common.{◌==◌, ◌∷◌, [], ◌++◌, ℕ, false, List, map, ap, ◌∙◌, arith}
 use Rattle.vote_kinds.proofs.Lookups.{office_known}
 use Rattle.seat_remainders.specs.Majority.{majority_outcome}
 use Rattle.seat_remainders.specs.Parties.{nominal_votes}
@@ -51,11 +51,11 @@ returns-in-Absolute c =
     on_ok c.push_majority.result
     (λ all reports read.
     panel_told t reports panel office c.of-votes.result c.in_ok-entries.entries fn c.push.new.self.items c.push_candidates.new.lines.items
-    c.push_majority.new.lines.items (majority_line (majority_outcome entries true) ∷ []) known
+    c.push_majority.new.lines.items (majority_line (majority_outcome entries (t.turn == 1)) ∷ []) known
     (c.of-votes.ensures.votes reports read) (c.in_ok-entries.ensures.entries reports read)
     (line_behind _ fn _ _ c.in_ok-push.ensures.items c.office_line.ensures)
     (c.in_ok-push_candidates.ensures ∙ ap (λ (es : List Entry). c.push.new.self.items ++ map candidate_line es) c.as_slice-2.ensures.items)
-    all
+    (all ∙ ap (λ (n : ℕ). c.push_candidates.new.lines.items ++ majority_line (majority_outcome entries (n == 1)) ∷ []) c.turn.ensures)
     (tells_absolute t reports panel office known c.in-Absolute.is entries (c.as_slice-in-Absolute.ensures.items ∙ c.in_ok-entries.ensures.entries reports read)))
     c.push_majority.ensures
 
