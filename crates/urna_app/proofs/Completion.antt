@@ -29,7 +29,7 @@ use Rattle.station.specs.declared.station.StartError.{StartError}
 use Rattle.station.specs.declared.station.StartError.TheVariants as start
 use Rattle.urna_app.specs.Carga.{CargaEnds, IsSectionAsked, load_no_cabinet, load_no_memory, load_refused, loaded, no_section, not_loaded, not_told}
 use Rattle.urna_app.specs.Command.{Carga, Confere, Emite, ToCheck, ToEmit, ToLoad, ToTotal, ToVote, Totaliza, Vota, command_of}
-use Rattle.urna_app.specs.Completion.{CanCheck, CanEmit, CanLoad, CanTotal, CanVote, CompletesWhereItCan, IsDoneOrMemory, TellsOfRisenCounts, tells_of_count}
+use Rattle.urna_app.specs.Completion.{CanCheck, CanEmit, CanLoad, CanTotal, CanVote, IsByVerdicts, CompletesWhereItCan, IsDoneOrMemory, TellsOfRisenCounts, tells_of_count}
 use Rattle.urna_app.specs.Confere.{ConfereEnds, check_no_cabinet, check_no_memory, check_not_told, check_refused, checked}
 use Rattle.urna_app.specs.Documents.{HasDocuments, IsBad, IsFault, IsFirstFault, bad, count, first_other, first_tables, lacks, line, longer, name_line, no_document, roll_line, rule}
 use Rattle.urna_app.specs.Emite.{EmiteEnds, emit_no_cabinet, emit_no_memory, emit_refused, emitted, files_stopped, no_files, not_emitted, not_found, not_sealed}
@@ -39,7 +39,7 @@ use Rattle.urna_app.specs.FaultLines.{Tells, fault_text}
 use Rattle.urna_app.specs.Laws.{FoundOnce}
 use Rattle.urna_app.specs.Putting.{PutsResults, StopPutting, no_results, result_files, results_not_made, results_not_put, results_put}
 use Rattle.urna_app.specs.Taking.{HasTaken}
-use Rattle.urna_app.specs.Totaliza.{IsListed, TotalizaEnds, list_no_cabinet, list_no_memory, list_refused, refused_count, refused_status, report_no_cabinet, report_no_memory, report_refused, totalled, totals_not_told, verdict_not_told}
+use Rattle.urna_app.specs.Totaliza.{HasOffered, IsListed, TotalizaEnds, list_no_cabinet, list_no_memory, list_refused, refused_count, refused_status, report_no_cabinet, report_no_memory, report_refused, totalled, totals_not_told, verdict_not_told}
 use Rattle.urna_app.specs.Verdicts.{verdict_status}
 use Rattle.urna_app.specs.Vota.{HasVotedTo, IsGiven, IsRefused, VotaEnds, cut, documents, keys, no_cabinet, no_memory, not_started, refused, session_held}
 use Rattle.urna_app.specs.declared.status.Doc.{Doc}
@@ -220,10 +220,10 @@ emite_completes either decoded once names c d m b s files flashes told none calm
 
 pub totaliza_completes : OneListAnswers → (names : Totaliza) (c d : CabinetTold) (m b : Told) (s : Status) (files : Files) → c.files ≡ Some files
     → ¬ Rose c.tally.faults d.tally.faults → Calm s m b → CanTotal names (Some files) → TotalizaEnds names c d m b s
-    → IsDoneOrMemory s ⊎ ((k : ℕ) × (s ≡ status.SomeRefused k))
+    → IsByVerdicts names (Some files) s ⊎ (s ≡ status.Memory)
 totaliza_completes answers names c d m b s files told none calm can (list_refused h taken untouched) =
     absurd (refused_or_listed answers files names s can.t can.listed (subst (λ (f : Option Files). IsFirstFault f names.tables doc.List names.list s) told h) can.given)
-totaliza_completes answers names c d m b s files told none calm can (list_no_memory taken untouched) = inl (inr refl)
+totaliza_completes answers names c d m b s files told none calm can (list_no_memory taken untouched) = inr refl
 totaliza_completes answers names c d m b s files told none calm can (list_no_cabinet taken untouched) = absurd (none taken.counts.faults.rose)
 totaliza_completes answers names c d m b s files told none calm can (report_refused {t} {listed} {left} {name} {verdicts} {accepted} given offered fault taken shown) =
     let found = subst (λ (f : Option Files). IsListed f names t listed) told given in
@@ -231,14 +231,19 @@ totaliza_completes answers names c d m b s files told none calm can (report_refu
     absurd (none_at_fault files offered.names name left can.listed can.reports s (sym offered.all ∙ same) can.taken
     (subst (λ (f : Option Files). IsFault f name doc.Report s) told fault))
 totaliza_completes answers names c d m b s files told none calm can (report_no_cabinet given offered taken shown) = absurd (none taken.counts.faults.rose)
-totaliza_completes answers names c d m b s files told none calm can (report_no_memory given offered taken shown) = inl (inr refl)
+totaliza_completes answers names c d m b s files told none calm can (report_no_memory given offered taken shown) = inr refl
 totaliza_completes answers names c d m b s files told none calm can (verdict_not_told given offered taken off) = absurd (calm Display refl off.faults.rose)
 totaliza_completes answers names c d m b s files told none calm can (totals_not_told given totals taken off) = absurd (calm Display refl off.faults.rose)
-totaliza_completes answers names c d m b s files told none calm can (totalled {verdicts} given totals taken shown) = by_count (refused_count verdicts)
-  where
-    by_count : (k : ℕ) → IsDoneOrMemory (refused_status k) ⊎ ((n : ℕ) × (refused_status k ≡ status.SomeRefused n))
-    by_count zero = inl (inl refl)
-    by_count (suc k) = inr (suc k, refl)
+totaliza_completes answers names c d m b s files told none calm can (totalled {t} {listed} {verdicts} given totals taken shown) =
+    inl (record {
+      t = t;
+      listed = listed;
+      given = subst (λ (f : Option Files). IsListed f names t listed) told given;
+      verdicts = verdicts;
+      accepted = totals.accepted;
+      offered = subst (λ (f : Option Files). HasOffered f t listed [] verdicts totals.accepted) told totals.offered;
+      is = refl;
+    })
 
 -- ---- confere
 

@@ -1,5 +1,5 @@
 -- Calls that have what they need and meet no fault: they do all their steps, or memory was wanted
-use Rattle.std.specs.Prelude.{◌≡◌, ◌⊎◌, ℕ, Bool, true, false, List, Option, Some}
+use Rattle.std.specs.Prelude.{◌≡◌, ◌⊎◌, ℕ, Bool, true, false, List, [], Option, Some}
 use Rattle.urna_outside.specs.Cabinet.{CabinetTold, Files}
 use Rattle.urna_outside.specs.Flash.{Flashes}
 use Rattle.urna_outside.specs.Told.{Rose, Told, faults_of}
@@ -17,7 +17,7 @@ use Rattle.urna_app.specs.Carga.{IsSectionAsked}
 use Rattle.urna_app.specs.Command.{Carga, Confere, Emite, ToCheck, ToEmit, ToLoad, ToTotal, ToVote, Totaliza, Vota, command_of}
 use Rattle.urna_app.specs.Documents.{HasDocuments, HasTables, IsTaken}
 use Rattle.urna_app.specs.Ending.{Ends}
-use Rattle.urna_app.specs.Totaliza.{AreTaken, IsListed}
+use Rattle.urna_app.specs.Totaliza.{AreTaken, HasOffered, IsListed, refused_count, refused_status}
 use Rattle.urna_app.specs.Vota.{IsGiven}
 use Rattle.urna_app.specs.declared.status.Doc.TheVariants as doc
 use Rattle.urna_app.specs.declared.status.Status.{Status}
@@ -105,10 +105,20 @@ pub record CanTotal (names : Totaliza) (files : Option Files) : Type 0 where
   pub reports : List File
   pub taken : AreTaken files listed reports
 
+-- the status that the verdicts on all listed reports give
+pub record IsByVerdicts (names : Totaliza) (files : Option Files) (s : Status) : Type 0 where
+  pub t : TablesData
+  pub listed : List (List ℕ)
+  pub given : IsListed files names t listed
+  pub verdicts : List Verdict
+  pub accepted : List File
+  pub offered : HasOffered files t listed [] verdicts accepted
+  pub is : s ≡ refused_status (refused_count verdicts)
+
 -- ---- and then they complete
 
 -- Where the cabinet tells its files and the machine its flashes, a call of the program that has what its command needs, and in which no
--- count of faults rose, is Done, or memory was wanted; a check may refuse the report besides, and the totals some reports.
+-- count of faults rose, is Done, or memory was wanted; a check may refuse the report besides, and of the totals the verdicts say.
 abbrev pub CompletesWhereItCan : Type 0
 CompletesWhereItCan = (words : List (List ℕ)) (c d : CabinetTold) (m n : Told) (s : Status) (files : Files)
     → c.files ≡ Some files → NothingFailed c d m n → Ends words c d m n s
@@ -120,8 +130,7 @@ CompletesWhereItCan = (words : List (List ℕ)) (c d : CabinetTold) (m n : Told)
     → CanEmit names (Some files) flashes → IsDoneOrMemory s)
     × ((names : Confere) → command_of words ≡ Some (ToCheck names) → CanCheck names (Some files)
     → IsDoneOrMemory s ⊎ ((v : Verdict) × (s ≡ status.ReportRefused v)))
-    × ((names : Totaliza) → command_of words ≡ Some (ToTotal names) → CanTotal names (Some files)
-    → IsDoneOrMemory s ⊎ ((k : ℕ) × (s ≡ status.SomeRefused k)))
+    × ((names : Totaliza) → command_of words ≡ Some (ToTotal names) → CanTotal names (Some files) → IsByVerdicts names (Some files) s ⊎ (s ≡ status.Memory))
 
 -- Of any cabinet and machine: where no count rose in a call, also not that of names not found or of files found too long, the status tells
 -- of none.

@@ -8,7 +8,7 @@ ghost use Rattle.urna_app.specs.Putting.{BothAreThere};
 ghost use Rattle.urna_app.specs.Reports.{SealedHasReport, SealedHasText, SealedIsAccepted};
 
 /// Where the cabinet tells its files, the words and the files determine whether they are refused, with which status, and which verdict
-/// `confere` gives. So they do the status of `totaliza`, which ends with it unless memory was wanted or a port failed.
+/// `confere` gives. So they do the status of `totaliza`, which ends with it unless memory was wanted or the cabinet or the display failed.
 pub fn one_ending()
     ensures once { RefusedOnce }
     ensures either { RefusedOrGiven }
@@ -27,7 +27,7 @@ pub fn one_poll()
 }
 
 /// Where the cabinet tells its files and the machine its flashes, a call that has what its command needs, and in which nothing failed,
-/// does all its steps, or memory was wanted; `confere` may refuse the report besides. Over any cabinet and machine a call in which no
+/// does all its steps, or memory was wanted; `confere` may refuse the report besides, and `totaliza` some of the listed ones. Over any cabinet and machine a call in which no
 /// count rose tells of none.
 pub fn completion()
     ensures told { CompletesWhereItCan }
