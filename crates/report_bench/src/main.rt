@@ -1,11 +1,12 @@
-//! Reads, writes or hashes the field text or the file of a report some times, for `make bench`.
+//! Reads, writes or hashes the field text or the file of a report some times, or offers many reports, for `make bench`.
 //!
-//! The words are WORK FILE TIMES, or `confere` FILE TABLES TIMES. `le` reads the text of the file TIMES times, `escreve` reads it once
-//! and writes its report TIMES times, and `hash` takes the SHA-512 of its bytes TIMES times. `junta` joins the parts of the file TIMES
-//! times, `parte` joins them once and makes them TIMES times, and `confere` checks the file by the tables TIMES times. It prints a sum
-//! over what was made each time.
+//! The words are WORK FILE TIMES, `confere` FILE TABLES TIMES, or `totaliza` TEXTS TABLES. `le` reads the text of the file TIMES times,
+//! `escreve` reads it once and writes its report TIMES times, and `hash` takes the SHA-512 of its bytes TIMES times. `junta` joins the
+//! parts of the file TIMES times, `parte` joins them once and makes them TIMES times, and `confere` checks the file by the tables TIMES
+//! times. It prints a sum over what was made each time. `totaliza` makes the files of the reports whose texts stand in the lines of TEXTS,
+//! hashes them, offers them in order and gives the seats of the first office, and tells each step as it is done.
 //!
-//! Its status is 0 where each time went well, 1 where one did not, and 3 where the words are others.
+//! Its status is 0 where each time or step went well, 1 where one did not, and 3 where the words are others.
 #![tactic(auto)]
 
 ghost use Rattle.std.specs.Prelude.{◌≡◌, ◌<◌, ◌^◌, Some, codes, length};
@@ -13,10 +14,13 @@ ghost use Rattle.urna_base.specs.Words.{pieces};
 ghost use Rattle.hash_chain.specs.Fault.{AreFields};
 ghost use Rattle.poll_report.specs.Report.{IsReport};
 
+mod reports;
+
 use election_tables::Tables;
 use hash_chain::{join_parts, make_parts};
 use poll_report::Report;
 use qr_text::{read_fields, write_fields};
+use reports::tell_reports;
 use section_intake::{Verdict, check};
 use sha2::{Digest, Sha512};
 use std::alloc::Global;
@@ -194,6 +198,10 @@ fn status(rt: &HostRuntime) -> io::Result<u8> {
             check_status(rt, name.as_str(), third.as_str(), times.as_str())
         }
         Some(_) => Ok(3),
+        None if work.as_str() == "totaliza" => {
+            let well = tell_reports(rt, name.as_str(), third.as_str())?;
+            Ok(if well { 0 } else { 1 })
+        }
         None => work_status(rt, work.as_str(), name.as_str(), third.as_str()),
     }
 }
