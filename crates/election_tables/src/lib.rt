@@ -15,7 +15,7 @@ mod rules;
 mod shape;
 mod tables;
 
-pub use limits::{GREATEST_SECTION, MOST_OFFICES};
+pub use limits::{GREATEST_SECTION, MOST_OFFICES, MOST_VOTERS};
 pub use office::{Kind, Office, code_digits, code_proportional};
 pub use roll::{Roll, RollError};
 pub use tables::{Candidate, Section, Tables, TablesError};

@@ -13,7 +13,7 @@ pub(crate) const MOST_CANDIDATES: usize = 4_096;
 pub(crate) const MOST_SECTIONS: usize = 2_000;
 
 /// The most voters of a section, and so the most titles of a roll.
-pub(crate) const MOST_VOTERS: u64 = 600;
+pub const MOST_VOTERS: u64 = 600;
 
 /// The most seats of an office that is decided in proportion.
 pub(crate) const PROPORTIONAL_SEATS: u64 = 200;

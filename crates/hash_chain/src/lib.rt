@@ -2,7 +2,8 @@
 //!
 //! `specs/Chain.antt` says which file a field text has, and `specs/Fault.antt` what the fault of any other file is: both of whole files,
 //! with the SHA-512 of the crate `sha2`. `laws` has what is so of every file: it has one fault, or it is the parts of one text, and never
-//! both. `make_parts` makes the file of a text; `join_parts` answers the text of which a file is the parts, or its fault.
+//! both. `make_parts` makes the file of a text, which has `count_parts` parts; `join_parts` answers the text of which a file is the parts,
+//! or its fault.
 #![tactic(auto)]
 
 mod cut;
@@ -15,4 +16,4 @@ mod make;
 
 pub use fault::{PartError, PartFault};
 pub use join::join_parts;
-pub use make::make_parts;
+pub use make::{count_parts, make_parts};

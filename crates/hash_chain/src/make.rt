@@ -26,9 +26,11 @@ pub fn make_parts(alloc: Global, fields: &[u8]) -> Result<Vec<u8>, Memory>
     Ok(file)
 }
 
-/// How many parts a field text has.
+/// How many parts the file of a field text has (docs/FORMATS.md, "Parts").
+///
+/// The caller owes the same of the text.
 #[tactic(auto, using(crate::proofs::PutLaws::no_cut))]
-fn count_parts(fields: &[u8]) -> u64
+pub fn count_parts(fields: &[u8]) -> u64
     requires { AreFields (pieces fields.now) }
     ensures { result ≡ length (cut (pieces fields.now)) }
 {

@@ -2,8 +2,9 @@
 ghost use Rattle.std.specs.Prelude.{◌≡◌, ◌≤◌, IfOk};
 ghost use Rattle.sha2.specs.Sha256.{sha256};
 ghost use Rattle.election_tables.specs.Limits.{most_voters};
-ghost use Rattle.election_tables.specs.Roll.{IsRollOf};
+ghost use Rattle.election_tables.specs.Roll.{IsRoll, IsRollOf};
 ghost use Rattle.election_tables.specs.Tables.{IsReadAs};
+ghost use Rattle.election_tables.specs.TablesData.{IsTables};
 ghost use Rattle.rehearsal.specs.Roll.{generated_roll};
 ghost use Rattle.rehearsal.specs.Script.{generated_events};
 ghost use Rattle.rehearsal.specs.Tables.{generated_tables};
@@ -22,6 +23,7 @@ pub fn read_tables(alloc: Global, n: u32) -> Result<(Vec<u8>, Tables), Memory>
     requires few { n ≤ most_voters }
     ensures read { IfOk result (λ r. IsReadAs r.0.items r.1) }
     ensures tables { IfOk result (λ r. r.1 ≡ generated_tables n (sha256 r.0.items)) }
+    ensures valid { IfOk result (λ r. IsTables r.1) }
 {
     let text = rehearsal_tables(alloc, n)?;
     // bytes have one reading, so it is that of the clause of `rehearsal_tables`
@@ -41,6 +43,7 @@ pub fn read_roll(alloc: Global, n: u32) -> Result<(Vec<u8>, Roll), Memory>
     requires few { n ≤ most_voters }
     ensures read { IfOk result (λ r. IsRollOf r.0.items r.1) }
     ensures roll { IfOk result (λ r. r.1 ≡ generated_roll n (sha256 r.0.items)) }
+    ensures valid { IfOk result (λ r. IsRoll r.1) }
 {
     let text = rehearsal_roll(alloc, n)?;
     // and so it is with a roll

@@ -15,8 +15,11 @@ use section_intake::Intake;
 use std::alloc::Global;
 use urna_base::Memory;
 
-/// The candidates of a panel, rising, with their nominal votes.
-pub(crate) fn entries_of(
+/// The candidates of a panel, rising, with their nominal votes over the reports of the accepted files.
+///
+/// The caller owes that there is such a panel, and that the intake was made for these tables. `Memory` comes only where an allocation
+/// failed.
+pub fn entries_of(
     alloc: Global,
     tables: &Tables,
     intake: &Intake,

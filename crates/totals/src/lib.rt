@@ -1,9 +1,10 @@
 //! The totals of an election over the reports that were accepted: the sums of each office, and by law its seats or its winner.
 //!
-//! The layer above asks `contest_of` for the contest of a panel, which `specs/Contest.antt` says over the reports of the accepted files,
-//! and `total_lines` for the lines that tell all totals (`specs/Totals.antt`, by `specs/Lines.antt`; docs/FORMATS.md, "Totals"). `laws`
-//! says that each list of reports has one list of such lines, that the votes of an office's line are all votes of the reports and those of
-//! its candidates and parties, and that whoever is elected is a candidate of the office.
+//! The layer above asks `contest_of` for the contest of a panel, `entries_of` for its candidates and `PanelVotes::of` for its votes, which
+//! `specs/Contest.antt` says over the reports of the accepted files, and `total_lines` for the lines that tell all totals
+//! (`specs/Totals.antt`, by `specs/Lines.antt`; docs/FORMATS.md, "Totals"). `laws` says that each list of reports has one list of such
+//! lines, that the votes of an office's line are all votes of the reports and those of its candidates and parties, and that whoever is
+//! elected is a candidate of the office.
 #![tactic(auto)]
 
 mod contest;
@@ -14,4 +15,7 @@ mod results;
 mod votes;
 
 pub use contest::contest_of;
+pub use entries::entries_of;
+pub use lines::{number_line, pair_line, push_numbered};
 pub use results::total_lines;
+pub use votes::PanelVotes;

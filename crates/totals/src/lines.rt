@@ -7,9 +7,9 @@ use crate::votes::PanelVotes;
 use seat_remainders::{Award, Entry, MajorityOutcome, PartySeats};
 use urna_base::LineBuffer;
 
-/// Appends a word and a number.
+/// Appends a word and a number. The caller owes that there is room for the word and 20 digits more, and one byte behind them.
 #[tactic(auto, using(urna_base::proofs::DecimalLaws::line_lengths))]
-fn push_numbered(line: &mut LineBuffer, word: &[u8], number: u64)
+pub fn push_numbered(line: &mut LineBuffer, word: &[u8], number: u64)
     requires { length line.old + length word.now ≤ 107 }
     ensures text { line.new ≡ line.old ++ (word.now ++ decimal number) }
     ensures short { length line.new ≤ length line.old + length word.now + 20 }
@@ -70,9 +70,9 @@ pub(crate) fn candidate_line(candidate: Entry) -> LineBuffer
     line
 }
 
-/// A word and a number.
-pub(crate) fn number_line(word: &[u8], number: u64) -> LineBuffer
-    requires { length word.now ≤ 20 }
+/// A line of a word and a number. The caller owes that the word has at most 40 bytes.
+pub fn number_line(word: &[u8], number: u64) -> LineBuffer
+    requires { length word.now ≤ 40 }
     ensures { result ≡ number_line word.now number }
 {
     let mut line = LineBuffer::new();
@@ -81,9 +81,9 @@ pub(crate) fn number_line(word: &[u8], number: u64) -> LineBuffer
     line
 }
 
-/// A word and two numbers.
-pub(crate) fn pair_line(word: &[u8], first: u64, second: u64) -> LineBuffer
-    requires { length word.now ≤ 20 }
+/// A line of a word and two numbers. The caller owes that the word has at most 40 bytes.
+pub fn pair_line(word: &[u8], first: u64, second: u64) -> LineBuffer
+    requires { length word.now ≤ 40 }
     ensures { result ≡ pair_line word.now first second }
 {
     let mut line = LineBuffer::new();

@@ -22,8 +22,11 @@ pub struct PanelVotes {
 }
 
 impl PanelVotes {
-    /// The votes of a panel whose candidates are these.
-    pub(crate) fn of(tables: &Tables, intake: &Intake, panel: u32, entries: &[Entry]) -> PanelVotes
+    /// The votes of a panel whose candidates are these, over the reports of the accepted files.
+    ///
+    /// The caller owes that there is such a panel, that the intake was made for these tables, and that the candidates are those of
+    /// `entries_of`.
+    pub fn of(tables: &Tables, intake: &Intake, panel: u32, entries: &[Entry]) -> PanelVotes
         requires panel { panel < length tables.now.panels }
         requires made { IsIntakeFor tables.now intake.now }
         requires entries { (reports : List Report) → AreReportsOf (accepted_files intake.now) reports
@@ -40,8 +43,8 @@ impl PanelVotes {
         }
     }
 
-    /// The valid ones: the nominal and the party votes.
-    pub(crate) fn valid(&self) -> u64
+    /// The valid ones: the nominal and the party votes. The caller owes that all votes are fewer than 10^8, as those of a panel are.
+    pub fn valid(&self) -> u64
         requires { total_of self.now < 10 ^ 8 }
         ensures { result ≡ valid_of self.now }
     {
