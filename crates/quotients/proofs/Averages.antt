@@ -2,8 +2,12 @@
 use Rattle.std.proofs.Common.{◌≡◌, ℕ, ◌*◌, ◌<◌, ◌≤◌, ◌⊎◌, Bool, true, false, ◌&&◌, ◌||◌, nat_lt, ◌==◌, inl, inr, ap, ◌∙◌, subst, arith}
 use Rattle.std.proofs.lemmas.Bool.{cases_eq, false_from_ne_true}
 use Rattle.std.proofs.lemmas.Bool.Decides.{nat_tests}
-use Rattle.std.proofs.Math.Nat.{mul-le-mul_right, le_of_mul-le-mul_right, mul-lt-mul_of_pos_right, lt_of_mul-lt-mul_right}
+use Rattle.std.proofs.Math.Nat.{mul-lt-mul_of_pos_left}
+use Rattle.std.specs.Ordering.{nat_cmp, is_lt, ordering_then}
+use Rattle.quotients.specs.declared.average.Average.{Average as Kept}
 use Rattle.quotients.specs.Average.{Average, comes_before}
+use Rattle.quotients.specs.Order.{parts_of, average_cmp}
+use Rattle.quotients.specs.Products.{products_le, products_lt_left, products_lt_right}
 
 -- The test and what it tests, over plain numbers: x and y are the two products
 
@@ -18,30 +22,6 @@ from_test x y va vb pa pb da db h = grind (arith, nat_tests)
 
 to_test : (x y va vb pa pb da db : ℕ) → Precedes x y va vb pa pb da db → precedes x y va vb pa pb da db ≡ true
 to_test x y va vb pa pb da db h = grind (arith, nat_tests)
-
--- Fractions in order, by products
-
--- vb/db ≤ va/da and vc/dc ≤ vb/db
-products_le : (va da vb db vc dc : ℕ) → 1 ≤ db → vb * da ≤ va * db → vc * db ≤ vb * dc → vc * da ≤ va * dc
-products_le va da vb db vc dc pos h g =
-    let one = mul-le-mul_right da g in
-    let two = mul-le-mul_right dc h in
-    let both : vc * da * db ≤ va * dc * db = omega arith in
-    le_of_mul-le-mul_right both pos
-
-products_lt_left : (va da vb db vc dc : ℕ) → 1 ≤ dc → vb * da < va * db → vc * db ≤ vb * dc → vc * da < va * dc
-products_lt_left va da vb db vc dc pos h g =
-    let one = mul-le-mul_right da g in
-    let two = mul-lt-mul_of_pos_right {k = dc} h pos in
-    let both : vc * da * db < va * dc * db = omega arith in
-    lt_of_mul-lt-mul_right db both
-
-products_lt_right : (va da vb db vc dc : ℕ) → 1 ≤ da → vb * da ≤ va * db → vc * db < vb * dc → vc * da < va * dc
-products_lt_right va da vb db vc dc pos h g =
-    let one = mul-lt-mul_of_pos_right {k = da} g pos in
-    let two = mul-le-mul_right dc h in
-    let both : vc * da * db < va * dc * db = omega arith in
-    lt_of_mul-lt-mul_right db both
 
 -- the order of equal averages
 ties_join : (va vb vc pa pb pc da db dc : ℕ)
@@ -83,7 +63,7 @@ not_itself a = not_itself_at (a.votes * a.divisor) a.votes a.party a.divisor
 one_precedes : (x y va vb pa pb da db : ℕ) → (Precedes x y va vb pa pb da db) ⊎ ((Precedes y x vb va pb pa db da) ⊎ ((va ≡ vb) × ((pa ≡ pb) × (da ≡ db))))
 one_precedes x y va vb pa pb da db = grind arith
 
-same_average : (a b : Average) → a.votes ≡ b.votes → a.party ≡ b.party → a.divisor ≡ b.divisor → a ≡ b
+pub same_average : (a b : Average) → a.votes ≡ b.votes → a.party ≡ b.party → a.divisor ≡ b.divisor → a ≡ b
 same_average a b e f g =
     let make : ℕ → ℕ → ℕ → Average = λ v d p. record { votes = v; divisor = d; party = p } in
     ap (λ v. make v a.divisor a.party) e ∙ ap (λ p. make b.votes a.divisor p) f ∙ ap (λ d. make b.votes d b.party) g
@@ -97,7 +77,19 @@ some_order a b = elim (one_precedes (a.votes * b.divisor) (b.votes * a.divisor) 
   ]
 ]
 
+-- The order of the type
+
+order_at : (x y va vb pa pb da db : ℕ) → is_lt (ordering_then (nat_cmp y x) (ordering_then (nat_cmp vb va) (ordering_then (nat_cmp pa pb) (nat_cmp da db)))) ≡ precedes x y va vb pa pb da db
+order_at x y va vb pa pb da db = grind (arith, nat_tests)
+
+pub is_order_of_law : (a b : Kept) → is_lt (average_cmp a b) ≡ comes_before (parts_of a) (parts_of b)
+is_order_of_law a b = order_at (a.votes * b.divisor) (b.votes * a.divisor) a.votes b.votes a.party b.party a.divisor b.divisor
+
 -- For the crates above
+
+-- the averages of a party with a vote fall as its divisor grows
+pub falls : (votes party d e : ℕ) → 1 ≤ votes → d < e → comes_before (record { votes = votes; divisor = d; party = party }) (record { votes = votes; divisor = e; party = party }) ≡ true
+falls votes party d e some lt = to_test (votes * e) (votes * d) votes votes party party d e (inl (mul-lt-mul_of_pos_left lt some))
 
 not_both_at : (x y va vb pa pb da db : ℕ) → precedes x y va vb pa pb da db ≡ true → precedes y x vb va pb pa db da ≡ false
 not_both_at x y va vb pa pb da db h = grind (arith, nat_tests)

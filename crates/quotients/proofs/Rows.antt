@@ -49,3 +49,7 @@ more_votes_first = refl
 
 the_lower_number_first : comes_before (average 10 300 3) (average 11 300 3) ≡ true
 the_lower_number_first = refl
+
+-- without votes both averages are 0
+the_lower_divisor_first : comes_before (average 10 0 2) (average 10 0 3) ≡ true
+the_lower_divisor_first = refl

@@ -1,7 +1,10 @@
 -- What is so of all quotients and averages
 use Rattle.std.specs.Prelude.{◌≡◌, ℕ, ◌+◌, ◌*◌, ◌≤◌, ◌<◌, true, false, ◌⊎◌}
 use Rattle.quotients.specs.Quotients.{electoral_quotient}
+use Rattle.std.specs.Ordering.{is_lt}
+use Rattle.quotients.specs.declared.average.Average.{Average as Kept}
 use Rattle.quotients.specs.Average.{Average, comes_before}
+use Rattle.quotients.specs.Order.{parts_of, average_cmp}
 
 -- a whole number is nearest to votes over seats, and of two that are equally near it is the lower one
 abbrev pub IsNearest : ℕ → ℕ → ℕ → Type 0
@@ -27,3 +30,7 @@ ComeInSomeOrder = (a b : Average) → (comes_before a b ≡ true) ⊎ ((comes_be
 abbrev pub ComesBeforeAllBehind : Type 0
 ComesBeforeAllBehind = (a b c : Average) → 1 ≤ a.divisor → 1 ≤ b.divisor → 1 ≤ c.divisor
     → comes_before a b ≡ true → comes_before b c ≡ true → comes_before a c ≡ true
+
+-- and that is the order of the type `Average`
+abbrev pub TypeIsInOrder : Type 0
+TypeIsInOrder = (a b : Kept) → is_lt (average_cmp a b) ≡ comes_before (parts_of a) (parts_of b)

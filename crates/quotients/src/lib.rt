@@ -1,13 +1,17 @@
 //! The quotients of the seat law (Código Eleitoral arts. 106 to 109), in whole numbers.
 //!
 //! The layer above asks `quotient` and `party_quotient` for the two quotients, and `tenth`, `fifth` and `four_fifths` for the three
-//! minimums. `specs/Quotients.antt` says what they are, and `specs/Average.antt` which of two averages comes first; `laws` says that the
-//! electoral quotient is the nearest whole number, and that averages stand in one order.
+//! minimums, and sorts values of `Average`. `specs/Quotients.antt` says what the quotients are, and `specs/Average.antt` which of two
+//! averages comes first; `laws` says that the electoral quotient is the nearest whole number, and that averages stand in one order, which
+//! is that of the type.
 #![tactic(auto)]
 
+mod average;
 mod division;
 pub mod laws;
 mod minimum;
+mod order;
 
+pub use average::Average;
 pub use division::{party_quotient, quotient};
 pub use minimum::{fifth, four_fifths, tenth};

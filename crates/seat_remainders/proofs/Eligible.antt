@@ -11,7 +11,7 @@ use Rattle.seat_remainders.specs.declared.outcome.Award.{Award}
 use Rattle.seat_remainders.specs.Candidates.{stands_first, in_order}
 use Rattle.seat_remainders.specs.Parties.{votes_of}
 use Rattle.seat_remainders.specs.Rounds.{seats_after, unseated, is_eligible}
-use Rattle.seat_remainders.specs.Standing.{fifths_of, most_in_two, most_in_three, most_seats}
+use Rattle.seat_remainders.specs.Table.{fifths_of, most_in_two, most_in_three, most_seats}
 use Rattle.seat_remainders.proofs.Ordered.{in_order-length, in_order-sum, are_in_order, left_pass, first_votes, never_below}
 
 fifth_up : (qe : ℕ) (a b : Entry) → stands_first a b ≡ true → has_fifth b.votes qe ≡ true → has_fifth a.votes qe ≡ true

@@ -6,6 +6,10 @@ pub mod Rising
 pub mod Awarded
 pub mod Eligible
 pub mod Filled
+pub mod SortedAverages
+pub mod TableEntries
+pub mod OneTable
+pub mod MadeTable
 pub mod Winner
 pub mod OneOutcome
 pub mod Scanning

@@ -4,6 +4,9 @@ use Rattle.std.specs.List.{AllByRecursion, Contains, list_any}
 use Rattle.std.proofs.lemmas.List.Elements.{All-from_recursion, All-contains, Contains-get_or}
 use Rattle.std.proofs.lemmas.List.Folds.{list_any_at, list_any_none}
 
+pub contains_here : {X : Type 0} (x : X) (xs : List X) → Contains (x ∷ xs) x
+contains_here x xs = Contains-get_or (x ∷ xs) 0 x (omega arith)
+
 pub contains_there : {X : Type 0} (y x : X) (xs : List X) → Contains xs x → Contains (y ∷ xs) x
 contains_there y x xs (k, lt, e) = (suc k, omega arith, e)
 
@@ -16,7 +19,7 @@ of_member P xs x all at = All-contains P xs x (All-from_recursion P xs all) at
 
 pub all_of_members : {X : Type 0} (P : X → Type 0) (xs : List X) → ((x : X) → Contains xs x → P x) → AllByRecursion P xs
 all_of_members P [] h = tt
-all_of_members P (x ∷ xs) h = (h x (Contains-get_or (x ∷ xs) 0 x (omega arith)), all_of_members P xs (λ y at. h y (contains_there x y xs at)))
+all_of_members P (x ∷ xs) h = (h x (contains_here x xs), all_of_members P xs (λ y at. h y (contains_there x y xs at)))
 
 -- one that passes, and none
 pub any_of_member : {X : Type 0} (f : X → Bool) (xs : List X) (x : X) → Contains xs x → f x ≡ true → list_any f xs ≡ true

@@ -8,7 +8,8 @@ use Rattle.seat_remainders.specs.declared.contest.Contestant.{Contestant}
 use Rattle.seat_remainders.specs.declared.outcome.Award.{Award}
 use Rattle.seat_remainders.specs.declared.standing.Standing.{Standing}
 use Rattle.seat_remainders.specs.Rounds.{seats_after, meets_minimums, is_eligible, next_phase, beats, TakesSeat, NobodyLeft}
-use Rattle.seat_remainders.specs.Standing.{most_in_two, most_in_three, average_now, competes_in, standing_after, standings_after}
+use Rattle.seat_remainders.specs.Table.{most_in_two, most_in_three}
+use Rattle.seat_remainders.specs.Standing.{average_now, competes_in, standing_after, standings_after}
 use Rattle.seat_remainders.specs.Scan.{IsBestAt, IsBestAmong}
 use Rattle.seat_remainders.specs.Played.{IsNextRound}
 use Rattle.seat_remainders.proofs.Eligible.{eligible_below}

@@ -1,5 +1,5 @@
 -- What is so of all contests, and of all candidates
-use Rattle.std.specs.Prelude.{◌≡◌, ◌↔◌, ℕ, Bool, true, ◌+◌, ◌/◌, ◌≤◌, ◌<◌, List, length, sum_by}
+use Rattle.std.specs.Prelude.{◌≡◌, ◌↔◌, ℕ, Bool, true, ◌+◌, ◌/◌, ◌≤◌, ◌<◌, List, [], length, sum_by}
 use Rattle.std.specs.List.Sorted.{IsPermutation}
 use Rattle.seat_remainders.specs.declared.contest.Entry.{Entry}
 use Rattle.seat_remainders.specs.declared.contest.Contest.{Contest}
@@ -9,6 +9,8 @@ use Rattle.seat_remainders.specs.declared.outcome.MajorityOutcome.TheVariants.{R
 use Rattle.seat_remainders.specs.Candidates.{in_order, AreInOrder}
 use Rattle.seat_remainders.specs.Contest.{PartiesRise}
 use Rattle.seat_remainders.specs.Parties.{nominal_votes, quotient_of, first_phase}
+use Rattle.quotients.specs.Average.{Average}
+use Rattle.seat_remainders.specs.Table.{AreAverages, seats_left}
 use Rattle.seat_remainders.specs.Outcome.{AreSeats, IsOver, IsOutcome, is_without_quotient, is_over}
 use Rattle.seat_remainders.specs.Computed.{outcome_of}
 use Rattle.seat_remainders.specs.Majority.{majority_outcome, NobodyHasMajority}
@@ -41,6 +43,14 @@ EachSeatIsFilled = (contest : Contest) (s : SeatsData) → PartiesRise contest.p
 -- the first phase comes to more seats than there are only where the quotient is at most half of them
 abbrev pub OverOnlyBelowHalf : Type 0
 OverOnlyBelowHalf = (contest : Contest) (first seats : ℕ) → 1 ≤ contest.seats → IsOver contest first seats → quotient_of contest ≤ contest.seats / 2
+
+-- a contest has one list of averages
+abbrev pub HasOneTable : Type 0
+HasOneTable = (contest : Contest) (xs ys : List Average) → AreAverages contest xs → AreAverages contest ys → xs ≡ ys
+
+-- which is empty where the first phase leaves no seat
+abbrev pub NoAveragesWithoutSeats : Type 0
+NoAveragesWithoutSeats = (contest : Contest) (xs : List Average) → seats_left contest ≡ 0 → AreAverages contest xs → xs ≡ []
 
 -- candidates in their order stand in order
 abbrev pub StandInOrder : Type 0

@@ -2,6 +2,8 @@ pub mod Candidates
 pub mod Parties
 pub mod Contest
 pub mod Rounds
+pub mod Table
+pub mod Sorted
 pub mod Outcome
 pub mod Computed
 pub mod Majority

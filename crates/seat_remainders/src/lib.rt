@@ -3,23 +3,27 @@
 //!
 //! The layer above makes a `Contest` of an office's votes and asks `distribute` what comes of it, which `specs/Outcome.antt` says with
 //! `specs/Parties.antt` (the first phase), `specs/Rounds.antt` (the seats that remain) and `specs/Candidates.antt` (the order of
-//! candidates); it asks `majority` by `specs/Majority.antt`. `laws` says that each contest has one outcome, that its seats add up and are
-//! filled, and when nobody is elected or two go to a second round.
+//! candidates); it asks `averages` for the sorted table that decides the seats of phase 2, which `specs/Table.antt` says, and `majority`
+//! by `specs/Majority.antt`. `laws` says that each contest has one outcome and one table, that its seats add up and are filled, and when
+//! nobody is elected or two go to a second round.
 #![tactic(auto)]
 
 mod contest;
 mod distribution;
 mod elected;
 pub mod laws;
+mod limits;
 mod majority_rule;
 mod outcome;
 mod rounds;
 mod standing;
+mod table;
 mod votes;
 
 pub use contest::{Contest, Contestant, Contestants, Entries, Entry};
 pub use distribution::distribute;
 pub use majority_rule::majority;
 pub use outcome::{
-    Award, Awards, MajorityOutcome, Numbers, Outcome, PartySeatList, PartySeats, Seats,
+    Averages, Award, Awards, MajorityOutcome, Numbers, Outcome, PartySeatList, PartySeats, Seats,
 };
+pub use table::averages;

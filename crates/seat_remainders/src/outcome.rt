@@ -1,6 +1,10 @@
 //! What comes of a contest, and of a majority office. Contracts see each list as its list.
-ghost use Rattle.std.specs.Prelude.{◌≡◌, ◌+◌, ◌<◌, ◌^◌, [], ◌∷◌, ◌++◌, length, OnErr, OnOk, Some, slice_get};
+ghost use Rattle.std.specs.Prelude.{◌≡◌, ◌+◌, ◌<◌, ◌^◌, [], ◌∷◌, ◌++◌, length, map, IfOk, OnErr, OnOk, Some, slice_get};
+ghost use Rattle.std.specs.List.Sorted.{IsPermutation};
+ghost use Rattle.quotients.specs.Order.{parts_of};
+ghost use Rattle.seat_remainders.specs.Sorted.{NeverDescend};
 
+use quotients::Average;
 use std::alloc::Global;
 use std::marker::Model;
 use urna_base::Memory;
@@ -63,6 +67,79 @@ impl Awards {
         ensures { slice_get self.now i ≡ Some result.now }
     {
         &self.items[i as usize]
+    }
+
+    /// All of them.
+    pub fn as_slice(&self) -> &[Award]
+        ensures items { result.now ≡ self.now }
+        ensures few { length result.now < 2 ^ 32 }
+    {
+        self.items.as_slice()
+    }
+}
+
+/// Averages in order, which contracts see as the list of their parts.
+#[derive(Debug, Drop)]
+pub struct Averages {
+    items: Vec<Average>,
+}
+
+impl Model for Averages {
+    ghost use Rattle.std.specs.Prelude.{◌<◌, ◌^◌, List, length, map};
+    ghost use Rattle.quotients.specs.Average.{Average};
+    ghost use Rattle.quotients.specs.Order.{parts_of};
+
+    ghost Value = { List Average };
+
+    ghost view = { λ l. map parts_of l.items.items };
+
+    ghost invariant = { λ l. length l.items.items < 2 ^ 32 };
+}
+
+impl Averages {
+    /// No averages.
+    pub fn new(alloc: Global) -> Averages
+        ensures { result ≡ [] }
+    {
+        Averages {
+            items: Vec::new(alloc),
+        }
+    }
+
+    /// One average more, behind the others. The caller owes that there are fewer than 2^32 - 1. `Memory` comes only where an allocation
+    /// failed, and then nothing has changed.
+    pub fn push(&mut self, item: Average) -> Result<(), Memory>
+        requires { length self.old + 1 < 2 ^ 32 }
+        ensures pushed { OnOk result (self.new ≡ self.old ++ parts_of item ∷ []) }
+        ensures kept { OnErr result (self.new ≡ self.old) }
+    {
+        self.items.push(item)?;
+        Ok(())
+    }
+
+    /// How many there are.
+    pub fn len(&self) -> u32
+        ensures { result ≡ length self.now }
+    {
+        self.items.len() as u32
+    }
+
+    /// The i-th, counted from 0.
+    pub fn get(&self, i: u32) -> &Average
+        requires { i < length self.now }
+        ensures { slice_get self.now i ≡ Some (parts_of result.now) }
+    {
+        &self.items[i as usize]
+    }
+
+    /// All of them, sorted. `Memory` comes only where an allocation failed.
+    pub(crate) fn sorted(mut items: Vec<Average>) -> Result<Averages, Memory>
+        requires { length items.items < 2 ^ 32 }
+        ensures sorted { IfOk result (λ averages. NeverDescend averages) }
+        ensures same { IfOk result (λ averages. IsPermutation (map parts_of items.items) averages) }
+    {
+        items.sort()?;
+        Ok(Averages { items })
     }
 }
 

@@ -3,13 +3,13 @@ ghost use Rattle.std.specs.Prelude.{◌≡◌, ◌+◌, ◌≤◌, ◌^◌, [], 
 ghost use Rattle.seat_remainders.specs.Contest.{PartiesRise};
 ghost use Rattle.seat_remainders.specs.Parties.{valid_votes, votes_of, first_phase};
 ghost use Rattle.seat_remainders.specs.Played.{IsNextRound, ArePlayed};
-ghost use Rattle.seat_remainders.specs.Standing.{most_in_two, most_in_three, standing_after, standings_after};
+ghost use Rattle.seat_remainders.specs.Standing.{standing_after, standings_after};
 
 use crate::contest::{Contest, Contestant};
+use crate::limits::{most_in_three, most_in_two};
 use crate::outcome::{Award, Awards};
 use crate::standing::{Standing, best_of};
-use crate::votes::{fifths_of, first_seats, votes_of};
-use quotients::four_fifths;
+use crate::votes::{first_seats, votes_of};
 use std::alloc::Global;
 use urna_base::Memory;
 
@@ -92,30 +92,5 @@ fn first_standing(party: &Contestant, qe: u64) -> Standing
         seats: first_seats(party, qe),
         most_in_two: most_in_two(party, qe),
         most_in_three: most_in_three(party),
-    }
-}
-
-/// How many seats a party can have at most by rounds of phase 2 (art. 109, paragraph 2).
-fn most_in_two(party: &Contestant, qe: u64) -> u32
-    requires votes { votes_of party.now ≤ 10 ^ 12 }
-    requires quotient { qe ≤ 10 ^ 12 }
-    ensures { result ≡ most_in_two qe party.now }
-{
-    if four_fifths(votes_of(party), qe) {
-        fifths_of(party, qe)
-    } else {
-        0
-    }
-}
-
-/// How many seats a party can have at most by rounds of phase 3 (art. 109, III).
-fn most_in_three(party: &Contestant) -> u32
-    requires { votes_of party.now ≤ 10 ^ 12 }
-    ensures { result ≡ most_in_three party.now }
-{
-    if votes_of(party) >= 1 {
-        party.candidates.len()
-    } else {
-        0
     }
 }

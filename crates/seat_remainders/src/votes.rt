@@ -1,10 +1,9 @@
 //! Sums of votes, counts of candidates, and the first phase.
 ghost use Rattle.std.specs.Prelude.{◌≡◌, ◌≤◌, ◌^◌, length};
 ghost use Rattle.seat_remainders.specs.Parties.{nominal_votes, votes_of, valid_votes, able_of, first_seats, first_phase};
-ghost use Rattle.seat_remainders.specs.Standing.{fifths_of};
 
 use crate::contest::{Contest, Contestant, Entry};
-use quotients::{fifth, party_quotient, tenth};
+use quotients::{party_quotient, tenth};
 
 /// The nominal votes of some candidates.
 pub(crate) fn nominal_votes(entries: &[Entry]) -> u64
@@ -47,21 +46,6 @@ fn able_of(party: &Contestant, qe: u64) -> u32
         }
     }
     able
-}
-
-/// How many candidates of a party have at least 20% of the quotient (art. 109, paragraph 2).
-pub(crate) fn fifths_of(party: &Contestant, qe: u64) -> u32
-    requires votes { votes_of party.now ≤ 10 ^ 12 }
-    requires quotient { qe ≤ 10 ^ 12 }
-    ensures { result ≡ fifths_of qe party.now }
-{
-    let mut fifths = 0u32;
-    for entry in party.candidates.as_slice() {
-        if fifth(entry.votes, qe) {
-            fifths += 1;
-        }
-    }
-    fifths
 }
 
 /// The seats of a party in the first phase (arts. 107 and 108).

@@ -1,9 +1,9 @@
 //! What comes of a contest.
 use crate::owed::is_contest;
-use crate::rows::CONTESTS;
+use crate::rows::{AVERAGES, CONTESTS};
 use seat_remainders::{
-    Award, Awards, Contest, Contestant, Contestants, Entries, Entry, Numbers, Outcome,
-    PartySeatList, PartySeats, distribute,
+    Averages, Award, Awards, Contest, Contestant, Contestants, Entries, Entry, Numbers, Outcome,
+    PartySeatList, PartySeats, averages, distribute,
 };
 use std::alloc::{AllocError, Global};
 use std::test::Fail;
@@ -111,6 +111,19 @@ fn told_awards(alloc: Global, awards: &Awards) -> Result<String, AllocError> {
     Ok(text)
 }
 
+/// Each average, as votes over a divisor and the party.
+fn told_averages(alloc: Global, averages: &Averages) -> Result<String, AllocError> {
+    let mut text = String::new(alloc);
+    for i in 0..averages.len() {
+        let average = averages.get(i);
+        let votes = average.votes();
+        let divisor = average.divisor();
+        let party = average.party();
+        write!(text, " {votes}/{divisor}>{party}")?;
+    }
+    Ok(text)
+}
+
 fn told_numbers(alloc: Global, numbers: &Numbers) -> Result<String, AllocError> {
     let mut text = String::new(alloc);
     for i in 0..numbers.len() {
@@ -163,5 +176,27 @@ fn wrong_contest(alloc: Global) -> Result<Option<&'static str>, Memory> {
 fn each_contest_has_its_outcome(rt: HostRuntime) -> Result<(), Fail> {
     assert_eq!(rt; CONTESTS.len(), 40);
     assert_eq!(rt; wrong_contest(rt.alloc())?, None);
+    Ok(())
+}
+
+/// Whether a contest gives seats and has these averages.
+fn has_averages(alloc: Global, row: &str, expected: &str) -> Result<bool, Memory> {
+    match contest_of(alloc, row)? {
+        Some(contest) if is_contest(&contest) => match distribute(alloc, &contest)? {
+            Outcome::Seats(_) => {
+                let table = averages(alloc, &contest)?;
+                Ok(told_averages(alloc, &table)?.as_str() == expected)
+            }
+            _ => Ok(false),
+        },
+        _ => Ok(false),
+    }
+}
+
+#[test]
+fn each_contest_has_its_averages(rt: HostRuntime) -> Result<(), Fail> {
+    for (row, expected) in AVERAGES {
+        assert!(rt; has_averages(rt.alloc(), row, expected)?);
+    }
     Ok(())
 }

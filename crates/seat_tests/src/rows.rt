@@ -273,3 +273,37 @@ pub(crate) const MAJORITIES: &[(&[(u64, u32)], bool, MajorityOutcome)] = &[
     ),
     (&[], true, MajorityOutcome::Nobody),
 ];
+
+/// A contest, and its averages in order, each as votes over a divisor and the party.
+pub(crate) const AVERAGES: &[(&str, &str)] = &[
+    (
+        "5 seats, 10: 300 100 100, 11: 200 100, 12: 150, 13: 50",
+        " 500/3>10 300/2>11",
+    ),
+    // equal averages: more votes, then the lower party
+    (
+        "4 seats, 10: 100 100 100, 11: 100 100",
+        " 300/3>10 200/2>11",
+    ),
+    (
+        "4 seats, 10: 100 100, 11: 100 100 100",
+        " 300/3>11 200/2>10",
+    ),
+    (
+        "5 seats, 10: 100 100 100, 11: 90 90, 12: 90 90, 13: 85 85, 14: 85 85",
+        " 180/1>11 180/1>12 170/1>13 170/1>14 300/2>10 300/3>10 180/2>11 180/2>12 170/2>13 170/2>14",
+    ),
+    // no more of a party than seats remain
+    ("2 seats, 10: 40 40 40, 11: 20", " 120/2>10"),
+    // phase 2 gives two of the three seats that remain
+    (
+        "6 seats, 10: 150 60 10 5, 11: 95 60 10, 12: 70, 13: 60 19 1, 14: 60",
+        " 165/2>11 80/1>13",
+    ),
+    // no party meets the minimums
+    ("2 seats, 10: 61, 11: 39", ""),
+    ("3 seats, 10: 61, 11: 39", ""),
+    ("4 seats, 10: L195 5, 11: 150 50", ""),
+    // no seat remains
+    ("4 seats, 10: 150 100 50, 11: 60 40", ""),
+];

@@ -1,4 +1,4 @@
-use Rattle.quotients.proofs.Averages.{before_all_behind, not_itself, some_order}
+use Rattle.quotients.proofs.Averages.{before_all_behind, is_order_of_law, not_itself, some_order}
 use Rattle.quotients.proofs.laws.averages.Goals as goal
 
 pub returns-clause-strict : goal.returns-clause-strict
@@ -9,3 +9,6 @@ returns-clause-total _ = some_order
 
 pub returns-clause-transitive : goal.returns-clause-transitive
 returns-clause-transitive _ = before_all_behind
+
+pub returns-clause-kept : goal.returns-clause-kept
+returns-clause-kept _ = is_order_of_law

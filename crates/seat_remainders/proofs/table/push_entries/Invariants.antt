@@ -1,0 +1,12 @@
+use Rattle.std.proofs.Common.{◌≡◌, ◌≤◌, ◌⊎◌, ◌+◌, ◌-◌, ◌++◌, map}
+use Rattle.quotients.specs.Order.{parts_of}
+use Rattle.seat_remainders.specs.Table.{averages_from}
+use Rattle.seat_remainders.proofs.table.push_entries.Given as goal
+
+-- the averages so far
+abbrev pub invariant-loop-seats : goal.invariant-loop-seats
+invariant-loop-seats l =
+    record {
+      pushed : map parts_of l.entries.items ≡ map parts_of l.fn.entries.items ++ averages_from l.party (l.first + 1) (l.seats - l.first);
+      within : (l.seats ≤ l.limit) ⊎ (l.seats ≡ l.first);
+    }
