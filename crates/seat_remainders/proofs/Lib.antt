@@ -10,11 +10,10 @@ pub mod SortedAverages
 pub mod TableEntries
 pub mod OneTable
 pub mod MadeTable
+pub mod Front
+pub mod Fronts
 pub mod Winner
 pub mod OneOutcome
-pub mod Scanning
-pub mod NextRound
-pub mod OneMore
 pub mod Results
 pub mod Majorities
 mod Rows

@@ -6,17 +6,13 @@ use Rattle.std.proofs.lemmas.List.Concat.{flat_map-append}
 use Rattle.std.proofs.lemmas.List.Sums.{sum_by_more_le}
 use Rattle.seat_remainders.specs.declared.contest.Contestant.{Contestant}
 use Rattle.seat_remainders.specs.declared.outcome.Award.{Award}
-use Rattle.seat_remainders.specs.declared.standing.Standing.{Standing}
 use Rattle.seat_remainders.specs.Contest.{PartiesRise}
 use Rattle.seat_remainders.specs.Parties.{first_phase}
-use Rattle.seat_remainders.specs.Rounds.{seats_after}
+use Rattle.seat_remainders.specs.Rounds.{seats_after, AreRounds}
 use Rattle.seat_remainders.specs.Outcome.{party_seats, elected_of, elected_by}
-use Rattle.seat_remainders.specs.Played.{ArePlayed}
-use Rattle.seat_remainders.specs.Standing.{standing_after}
 use Rattle.seat_remainders.proofs.Awarded.{sum_over, sum_none}
 use Rattle.seat_remainders.proofs.Filled.{elected_sum, within_candidates}
 use Rattle.seat_remainders.proofs.Lists.{all_of_members}
-use Rattle.seat_remainders.proofs.NextRound.{standing_at}
 use Rattle.seat_remainders.proofs.Rising.{are_rising}
 
 pub elected_more : (qe : ℕ) (awards : List Award) (parties : List Contestant) (i : ℕ) (d : Contestant) → i < length parties → elected_by qe awards (take (i + 1) parties) ≡ elected_by qe awards (take i parties) ++ elected_of qe awards (get_or parties i d)
@@ -33,37 +29,32 @@ all_take P zero xs all = tt
 all_take P (suc i) [] all = tt
 all_take P (suc i) (x ∷ xs) all = (all.0, all_take P i xs all.1)
 
-room_within : (qe left : ℕ) (parties : List Contestant) (standings : List Standing) (awards : List Award) (i : ℕ) (d : Contestant) → ArePlayed qe parties left standings awards → PartiesRise parties → first_phase qe parties + left ≤ 200 → i < length parties
+room_within : (qe left vacant : ℕ) (parties : List Contestant) (awards : List Award) (i : ℕ) (d : Contestant) → AreRounds qe parties left awards vacant → PartiesRise parties → first_phase qe parties + left ≤ 200 → i < length parties
     → length (elected_by qe awards (take i parties)) + seats_after qe awards (get_or parties i d) ≤ 200
-room_within qe left parties standings awards i d played rise few lt =
-    let all = all_of_members (λ p. seats_after qe awards p ≤ length p.candidates) parties (λ p at. within_candidates qe parties awards p (are_rising parties rise) at played.each) in
+room_within qe left vacant parties awards i d rounds rise few lt =
+    let all = all_of_members (λ p. seats_after qe awards p ≤ length p.candidates) parties (λ p at. within_candidates qe parties awards p (are_rising parties rise) at rounds.each) in
     let told = elected_sum qe awards (take i parties) (all_take (λ p. seats_after qe awards p ≤ length p.candidates) i parties all) in
     let more = sum_by_more_le (seats_after qe awards) parties i d lt in
-    let over = sum_over qe parties [] awards (are_rising parties rise) played.each in
+    let over = sum_over qe parties [] awards (are_rising parties rise) rounds.each in
     let none = sum_none qe parties in
-    omega (arith, played.within)
+    omega (arith, rounds.all)
 
-pub seats_at : (qe left : ℕ) (parties items : List Contestant) (standings : List Standing) (awards : List Award) (i : ℕ) (p : Contestant) (s : Standing) → ArePlayed qe parties left standings awards → items ≡ parties → i < length items
-    → p ≡ get_or items i p → s ≡ get_or standings i s → s.seats ≡ seats_after qe awards p
-seats_at qe left parties items standings awards i p s played same lt is at =
-    let len = ap length same in
-    let here : p ≡ get_or parties i p = is ∙ ap (λ (l : List Contestant). get_or l i p) same in
-    let stands : s ≡ standing_after qe awards (get_or parties i p) = at ∙ ap (λ (l : List Standing). get_or l i s) played.standing ∙ standing_at qe awards parties i s p (omega arith) in
-    ap (λ (t : Standing). t.seats) stands ∙ ap (λ (c : Contestant). seats_after qe awards c) (sym here)
+pub seats_are : (qe seats : ℕ) (p : Contestant) (slice awards : List Award) → seats ≡ seats_after qe slice p → slice ≡ awards → seats ≡ seats_after qe awards p
+seats_are qe seats p slice awards is same = is ∙ ap (λ (l : List Award). seats_after qe l p) same
 
-pub candidates_at : (qe left : ℕ) (parties items : List Contestant) (standings : List Standing) (awards : List Award) (i : ℕ) (p : Contestant) → ArePlayed qe parties left standings awards → PartiesRise parties → items ≡ parties → i < length items
+pub candidates_at : (qe left vacant : ℕ) (parties items : List Contestant) (awards : List Award) (i : ℕ) (p : Contestant) → AreRounds qe parties left awards vacant → PartiesRise parties → items ≡ parties → i < length items
     → p ≡ get_or items i p → seats_after qe awards p ≤ length p.candidates
-candidates_at qe left parties items standings awards i p played rise same lt is =
+candidates_at qe left vacant parties items awards i p rounds rise same lt is =
     let len = ap length same in
     let here : p ≡ get_or parties i p = is ∙ ap (λ (l : List Contestant). get_or l i p) same in
-    within_candidates qe parties awards p (are_rising parties rise) (i, omega arith, sym here) played.each
+    within_candidates qe parties awards p (are_rising parties rise) (i, omega arith, sym here) rounds.each
 
-pub room_at : (qe left : ℕ) (parties items : List Contestant) (standings : List Standing) (awards : List Award) (i : ℕ) (p : Contestant) → ArePlayed qe parties left standings awards → PartiesRise parties → first_phase qe parties + left ≤ 200 → items ≡ parties → i < length items
+pub room_at : (qe left vacant : ℕ) (parties items : List Contestant) (awards : List Award) (i : ℕ) (p : Contestant) → AreRounds qe parties left awards vacant → PartiesRise parties → first_phase qe parties + left ≤ 200 → items ≡ parties → i < length items
     → p ≡ get_or items i p → length (elected_by qe awards (take i items)) + seats_after qe awards p ≤ 200
-room_at qe left parties items standings awards i p played rise few same lt is =
+room_at qe left vacant parties items awards i p rounds rise few same lt is =
     let len = ap length same in
     let here : p ≡ get_or parties i p = is ∙ ap (λ (l : List Contestant). get_or l i p) same in
-    let room = room_within qe left parties standings awards i p played rise few (omega arith) in
+    let room = room_within qe left vacant parties awards i p rounds rise few (omega arith) in
     let told = ap (λ (l : List Contestant). length (elected_by qe awards (take i l))) same in
     let seats = ap (λ (c : Contestant). seats_after qe awards c) here in
     omega arith

@@ -7,8 +7,5 @@ pub mod Sorted
 pub mod Outcome
 pub mod Computed
 pub mod Majority
-pub mod Standing
 pub mod Leading
-pub mod Scan
-pub mod Played
 pub mod Laws

@@ -1,5 +1,5 @@
 -- The seats of a phase from one sorted table of averages (art. 109). The law `tables` says that its front is the rounds.
-use Rattle.std.specs.Prelude.{◌≡◌, ℕ, zero, suc, ◌+◌, ◌-◌, ◌≤◌, ◌<◌, min, true, nat_le, ◌==◌, if◌then◌else◌, List, [], ◌∷◌, length, map, count_by, flat_map}
+use Rattle.std.specs.Prelude.{◌≡◌, ℕ, zero, suc, ◌+◌, ◌-◌, ◌≤◌, ◌<◌, min, true, nat_le, ◌==◌, if◌then◌else◌, List, [], ◌∷◌, ◌++◌, length, map, take, count_by, flat_map}
 use Rattle.std.specs.List.{AllByRecursion, Contains}
 use Rattle.quotients.specs.Quotients.{has_fifth, has_four_fifths}
 use Rattle.quotients.specs.Average.{Average, comes_before}
@@ -63,6 +63,10 @@ AreAverages contest averages = IsTable (quotient_of contest) contest.parties [] 
 -- the awards of a phase that averages stand for
 abbrev pub awards_for : ℕ → List Average → List Award
 awards_for phase averages = map (λ a. record { phase = phase; party = a.party }) averages
+
+-- the awards for so many seats: the averages of the table of phase 2 from the front, and where it ends before the seats do, those of a table of phase 3
+abbrev pub awards_of : ℕ → List Average → List Average → List Award
+awards_of left two three = let before = awards_for 2 (take left two) in before ++ awards_for 3 (take (left - length before) three)
 
 -- the averages of a party over so many divisors from this one on
 abbrev pub averages_from : Contestant → ℕ → ℕ → List Average

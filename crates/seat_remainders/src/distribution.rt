@@ -3,12 +3,14 @@ ghost use Rattle.std.specs.Prelude.{◌≡◌, ◌+◌, ◌-◌, ◌≤◌, ◌^
 ghost use Rattle.seat_remainders.specs.Contest.{PartiesRise, IsContest};
 ghost use Rattle.seat_remainders.specs.Outcome.{IsOutcome, party_seats, elected_by};
 ghost use Rattle.seat_remainders.specs.Parties.{valid_votes, first_phase};
-ghost use Rattle.seat_remainders.specs.Played.{ArePlayed};
+ghost use Rattle.seat_remainders.specs.Rounds.{AreRounds};
 
+use crate::awards::award_seats;
 use crate::contest::Contest;
 use crate::elected::{in_order, push_elected};
-use crate::outcome::{Numbers, Outcome, PartySeatList, PartySeats, Seats};
-use crate::rounds::{Played, play_rounds};
+use crate::limits::seats_after;
+use crate::outcome::{Awards, Numbers, Outcome, PartySeatList, PartySeats, Seats};
+use crate::table::table_of;
 use crate::votes::{first_phase, valid_votes, votes_of};
 use quotients::{party_quotient, quotient};
 use std::alloc::Global;
@@ -34,35 +36,37 @@ pub fn distribute(alloc: Global, contest: &Contest) -> Result<Outcome, Memory>
         return Ok(Outcome::Over { first, seats });
     }
     let left = seats - first as u32;
-    let played = play_rounds(alloc, contest, qe, left)?;
-    let seats = seats_of(alloc, contest, qe, left, played)?;
+    let averages = table_of(alloc, contest, qe, 2, &[], left)?;
+    let awards = award_seats(alloc, contest, qe, &averages, left)?;
+    let seats = seats_of(alloc, contest, qe, left, awards)?;
     Ok(Outcome::Seats(seats))
 }
 
-/// The seats after the rounds, of which there were so many to play.
+/// The seats after the awards, where so many were to be given.
 fn seats_of(
     alloc: Global,
     contest: &Contest,
     qe: u64,
     left: u32,
-    played: Played,
+    awards: Awards,
 ) -> Result<Seats, Memory>
     requires rising { PartiesRise contest.now.parties }
     requires votes { valid_votes contest.now.parties ≤ 10 ^ 12 }
     requires some { 1 ≤ qe }
+    requires quotient { qe ≤ 10 ^ 12 }
     requires within { first_phase qe contest.now.parties + left ≤ 200 }
-    requires played { ArePlayed qe contest.now.parties left played.standings.items played.awards }
+    requires rounds { AreRounds qe contest.now.parties left awards (left - length awards) }
     ensures quotient { IfOk result (λ s. s.quotient ≡ qe) }
-    ensures parties { IfOk result (λ s. s.parties ≡ map (party_seats qe played.awards) contest.now.parties) }
-    ensures awards { IfOk result (λ s. s.awards ≡ played.awards) }
-    ensures elected { IfOk result (λ s. s.elected ≡ elected_by qe played.awards contest.now.parties) }
-    ensures vacant { IfOk result (λ s. s.vacant ≡ left - length played.awards) }
+    ensures parties { IfOk result (λ s. s.parties ≡ map (party_seats qe awards) contest.now.parties) }
+    ensures awards { IfOk result (λ s. s.awards ≡ awards) }
+    ensures elected { IfOk result (λ s. s.elected ≡ elected_by qe awards contest.now.parties) }
+    ensures vacant { IfOk result (λ s. s.vacant ≡ left - length awards) }
 {
     let mut parties = PartySeatList::new(alloc);
     let mut elected = Numbers::new(alloc);
-    for (i, party) in contest.parties.as_slice().iter().enumerate() {
+    for party in contest.parties.as_slice() {
         let votes = votes_of(party);
-        let seats = played.standings[i].seats;
+        let seats = seats_after(party, qe, awards.as_slice());
         parties.push(PartySeats {
             number: party.number,
             votes,
@@ -72,11 +76,11 @@ fn seats_of(
         let ordered = in_order(alloc, party)?;
         push_elected(&mut elected, &ordered, seats)?;
     }
-    let vacant = left - played.awards.len();
+    let vacant = left - awards.len();
     Ok(Seats {
         quotient: qe,
         parties,
-        awards: played.awards,
+        awards,
         elected,
         vacant,
     })

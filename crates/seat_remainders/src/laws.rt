@@ -1,5 +1,5 @@
 //! What is so of all contests, and of all candidates. Each function here does nothing: its contract is the law.
-ghost use Rattle.seat_remainders.specs.Laws.{AreTheSame, EachSeatIsFilled, HasOneOutcome, HasOneTable, HasOutcome, NoAveragesWithoutSeats, NoQuotientAtZero, NobodyWithoutVotes, OverBeyondAllSeats, OverOnlyBelowHalf, RunoffWithoutMajority, SeatsAddUp, StandInOrder};
+ghost use Rattle.seat_remainders.specs.Laws.{AreTheSame, EachSeatIsFilled, FrontsAreRounds, HasOneOutcome, HasOneTable, HasOutcome, NoAveragesWithoutSeats, NoQuotientAtZero, NobodyWithoutVotes, OverBeyondAllSeats, OverOnlyBelowHalf, RunoffWithoutMajority, SeatsAddUp, StandInOrder};
 
 /// A contest has exactly one outcome, which can be computed, and the numbers of the contest say of which kind it is.
 pub fn outcomes()
@@ -17,10 +17,12 @@ pub fn seats()
     ensures over { OverOnlyBelowHalf }
 {}
 
-/// A contest has one list of averages, and none where the first phase leaves no seat.
+/// A contest has one list of averages, and none where the first phase leaves no seat. The seats that remain go to the averages at the
+/// front.
 pub fn tables()
     ensures one { HasOneTable }
     ensures none { NoAveragesWithoutSeats }
+    ensures fronts { FrontsAreRounds }
 {}
 
 /// The candidates in their order are the same candidates, each before all that are behind it.

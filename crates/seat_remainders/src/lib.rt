@@ -8,6 +8,7 @@
 //! nobody is elected or two go to a second round.
 #![tactic(auto)]
 
+mod awards;
 mod contest;
 mod distribution;
 mod elected;
@@ -15,8 +16,6 @@ pub mod laws;
 mod limits;
 mod majority_rule;
 mod outcome;
-mod rounds;
-mod standing;
 mod table;
 mod votes;
 

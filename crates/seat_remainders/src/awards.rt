@@ -1,0 +1,54 @@
+//! The seats that the first phase leaves (art. 109), from the fronts of two sorted tables.
+ghost use Rattle.std.specs.Prelude.{◌≡◌, ◌+◌, ◌-◌, ◌≤◌, ◌<◌, ◌^◌, ◌++◌, [], length, take, IfOk, OnOk};
+ghost use Rattle.seat_remainders.specs.Contest.{PartiesRise};
+ghost use Rattle.seat_remainders.specs.Parties.{valid_votes, first_phase};
+ghost use Rattle.seat_remainders.specs.Rounds.{AreRounds};
+ghost use Rattle.seat_remainders.specs.Table.{IsTable, awards_for, limit_of};
+
+use crate::contest::Contest;
+use crate::outcome::{Averages, Award, Awards};
+use crate::table::table_of;
+use std::alloc::Global;
+use urna_base::Memory;
+
+/// The awards of so many seats: those of phase 2 by its sorted table, and where that ends before the seats do, those of phase 3 by a second
+/// one.
+pub(crate) fn award_seats(
+    alloc: Global,
+    contest: &Contest,
+    qe: u64,
+    averages: &Averages,
+    left: u32,
+) -> Result<Awards, Memory>
+    requires rising { PartiesRise contest.now.parties }
+    requires votes { valid_votes contest.now.parties ≤ 10 ^ 12 }
+    requires some { 1 ≤ qe }
+    requires quotient { qe ≤ 10 ^ 12 }
+    requires within { first_phase qe contest.now.parties + left ≤ 200 }
+    requires table { IsTable qe contest.now.parties [] (limit_of qe 2 [] left) averages.now }
+    ensures { IfOk result (λ awards. AreRounds qe contest.now.parties left awards (left - length awards)) }
+{
+    let mut awards = Awards::new(alloc);
+    push_awards(&mut awards, 2, averages, left)?;
+    let vacant = left - awards.len();
+    let third = table_of(alloc, contest, qe, 3, awards.as_slice(), vacant)?;
+    push_awards(&mut awards, 3, &third, vacant)?;
+    Ok(awards)
+}
+
+/// The awards of a phase for the averages at the front of its table, for at most so many seats, behind those before.
+fn push_awards(
+    awards: &mut Awards,
+    phase: u8,
+    averages: &Averages,
+    seats: u32,
+) -> Result<(), Memory>
+    requires { length awards.old + seats < 2 ^ 32 }
+    ensures { OnOk result (awards.new ≡ awards.old ++ awards_for phase (take seats averages.now)) }
+{
+    for i in 0..averages.len().min(seats) {
+        let party = averages.get(i).party();
+        awards.push(Award { phase, party })?;
+    }
+    Ok(())
+}
