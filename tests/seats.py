@@ -7,6 +7,7 @@ import re
 from fractions import Fraction
 
 ROW = re.compile(r'\(\s*(?://[^\n]*\n\s*)?"([^"]*)",\s*"([^"]*)",\s*"([^"]*)",\s*\)')
+TABLE = re.compile(r'\(\s*"([^"]* seats, [^"]*)",\s*"([^"]*)",?\s*\)')
 BIRTH = "19600101"
 
 
@@ -63,6 +64,24 @@ def outcome(contest):
     return f"QE {quotient}, {standings}, {' '.join(['rounds', *rounds])}, {' '.join(['elected', *elected])}, vacant {vacant}"
 
 
+def averages(contest):
+    """The averages that the seats of the second phase are taken from, each as votes/divisor>party."""
+    told, *parties = contest.split(", ")
+    seats, parties = int(told.split()[0]), [Party(party) for party in parties]
+    quotient = -((seats - 2 * sum(party.votes for party in parties)) // (2 * seats))
+    table = []
+    for party in parties:
+        able = sum(-nominal >= Fraction(quotient, 10) for nominal, _, _ in party.candidates)
+        party.seats = min(party.votes // quotient, able)
+    left = seats - sum(party.seats for party in parties)
+    for party in parties:
+        if party.votes >= Fraction(4 * quotient, 5):
+            most = sum(-nominal >= Fraction(quotient, 5) for nominal, _, _ in party.candidates)
+            for divisor in range(party.seats + 1, min(most, party.seats + left) + 1):
+                table.append((-Fraction(party.votes, divisor), -party.votes, party.number, divisor))
+    return "".join(f" {-votes}/{divisor}>{number}" for _, votes, number, divisor in sorted(table))
+
+
 def other_rows(text):
     contests = re.sub(r"\\\n\s*", "", text.split("MAJORITIES", 1)[0])
     rows = ROW.findall(contests)
@@ -71,3 +90,9 @@ def other_rows(text):
     for name, contest, told in rows:
         if outcome(contest) != told:
             yield f"{name!r}: the law gives {outcome(contest)!r}"
+    tables = TABLE.findall(text.split("AVERAGES", 1)[1])
+    if not tables:
+        yield "no row of averages is found"
+    for contest, told in tables:
+        if averages(contest) != told:
+            yield f"{contest!r}: the averages are {averages(contest)!r}"

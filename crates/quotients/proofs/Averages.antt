@@ -4,8 +4,8 @@ use Rattle.std.proofs.lemmas.Bool.{cases_eq, false_from_ne_true}
 use Rattle.std.proofs.lemmas.Bool.Decides.{nat_tests}
 use Rattle.std.proofs.Math.Nat.{mul-lt-mul_of_pos_left}
 use Rattle.std.specs.Ordering.{nat_cmp, is_lt, ordering_then}
-use Rattle.quotients.specs.declared.average.Average.{Average as Kept}
-use Rattle.quotients.specs.Average.{Average, comes_before}
+use Rattle.quotients.specs.declared.average.Average.{Average}
+use Rattle.quotients.specs.Average.{AverageData, comes_before}
 use Rattle.quotients.specs.Order.{parts_of, average_cmp}
 use Rattle.quotients.specs.Products.{products_le, products_lt_left, products_lt_right}
 
@@ -48,7 +48,7 @@ transitive va da pa vb db pb vc dc pc some_a some_b some_c (inr h) (inr g) =
 
 -- The laws
 
-pub before_all_behind : (a b c : Average) → 1 ≤ a.divisor → 1 ≤ b.divisor → 1 ≤ c.divisor → comes_before a b ≡ true → comes_before b c ≡ true → comes_before a c ≡ true
+pub before_all_behind : (a b c : AverageData) → 1 ≤ a.divisor → 1 ≤ b.divisor → 1 ≤ c.divisor → comes_before a b ≡ true → comes_before b c ≡ true → comes_before a c ≡ true
 before_all_behind a b c some_a some_b some_c h g =
     to_test _ _ _ _ _ _ _ _ (transitive a.votes a.divisor a.party b.votes b.divisor b.party c.votes c.divisor c.party some_a some_b some_c
     (from_test (a.votes * b.divisor) (b.votes * a.divisor) a.votes b.votes a.party b.party a.divisor b.divisor h)
@@ -57,18 +57,18 @@ before_all_behind a b c some_a some_b some_c h g =
 not_itself_at : (x va pa da : ℕ) → precedes x x va va pa pa da da ≡ false
 not_itself_at x va pa da = grind (arith, nat_tests)
 
-pub not_itself : (a : Average) → comes_before a a ≡ false
+pub not_itself : (a : AverageData) → comes_before a a ≡ false
 not_itself a = not_itself_at (a.votes * a.divisor) a.votes a.party a.divisor
 
 one_precedes : (x y va vb pa pb da db : ℕ) → (Precedes x y va vb pa pb da db) ⊎ ((Precedes y x vb va pb pa db da) ⊎ ((va ≡ vb) × ((pa ≡ pb) × (da ≡ db))))
 one_precedes x y va vb pa pb da db = grind arith
 
-pub same_average : (a b : Average) → a.votes ≡ b.votes → a.party ≡ b.party → a.divisor ≡ b.divisor → a ≡ b
+pub same_average : (a b : AverageData) → a.votes ≡ b.votes → a.party ≡ b.party → a.divisor ≡ b.divisor → a ≡ b
 same_average a b e f g =
-    let make : ℕ → ℕ → ℕ → Average = λ v d p. record { votes = v; divisor = d; party = p } in
+    let make : ℕ → ℕ → ℕ → AverageData = λ v d p. record { votes = v; divisor = d; party = p } in
     ap (λ v. make v a.divisor a.party) e ∙ ap (λ p. make b.votes a.divisor p) f ∙ ap (λ d. make b.votes d b.party) g
 
-pub some_order : (a b : Average) → (comes_before a b ≡ true) ⊎ ((comes_before b a ≡ true) ⊎ (a ≡ b))
+pub some_order : (a b : AverageData) → (comes_before a b ≡ true) ⊎ ((comes_before b a ≡ true) ⊎ (a ≡ b))
 some_order a b = elim (one_precedes (a.votes * b.divisor) (b.votes * a.divisor) a.votes b.votes a.party b.party a.divisor b.divisor) [
   | inl h ↦ inl (to_test (a.votes * b.divisor) (b.votes * a.divisor) a.votes b.votes a.party b.party a.divisor b.divisor h)
   | inr w ↦ elim w [
@@ -82,7 +82,7 @@ some_order a b = elim (one_precedes (a.votes * b.divisor) (b.votes * a.divisor) 
 order_at : (x y va vb pa pb da db : ℕ) → is_lt (ordering_then (nat_cmp y x) (ordering_then (nat_cmp vb va) (ordering_then (nat_cmp pa pb) (nat_cmp da db)))) ≡ precedes x y va vb pa pb da db
 order_at x y va vb pa pb da db = grind (arith, nat_tests)
 
-pub is_order_of_law : (a b : Kept) → is_lt (average_cmp a b) ≡ comes_before (parts_of a) (parts_of b)
+pub is_order_of_law : (a b : Average) → is_lt (average_cmp a b) ≡ comes_before (parts_of a) (parts_of b)
 is_order_of_law a b = order_at (a.votes * b.divisor) (b.votes * a.divisor) a.votes b.votes a.party b.party a.divisor b.divisor
 
 -- For the crates above
@@ -95,15 +95,15 @@ not_both_at : (x y va vb pa pb da db : ℕ) → precedes x y va vb pa pb da db �
 not_both_at x y va vb pa pb da db h = grind (arith, nat_tests)
 
 -- of two averages one at most comes before the other
-pub not_both : (a b : Average) → comes_before a b ≡ true → comes_before b a ≡ false
+pub not_both : (a b : AverageData) → comes_before a b ≡ true → comes_before b a ≡ false
 not_both a b h = not_both_at (a.votes * b.divisor) (b.votes * a.divisor) a.votes b.votes a.party b.party a.divisor b.divisor h
 
 -- what does not come before an average doesn't come before one that isn't behind it
-pub not_before_all : (a b c : Average) → 1 ≤ a.divisor → 1 ≤ b.divisor → 1 ≤ c.divisor → comes_before b a ≡ false → comes_before c b ≡ false → comes_before c a ≡ false
+pub not_before_all : (a b c : AverageData) → 1 ≤ a.divisor → 1 ≤ b.divisor → 1 ≤ c.divisor → comes_before b a ≡ false → comes_before c b ≡ false → comes_before c a ≡ false
 not_before_all a b c some_a some_b some_c h g = false_from_ne_true (comes_before c a) (λ ca. elim (some_order a b) [
   | inl ab ↦ let cb = before_all_behind c a b some_c some_a some_b ca ab in cc
   | inr w ↦ elim w [
     | inl ba ↦ cc
-    | inr e ↦ let cb = subst (λ (x : Average). comes_before c x ≡ true) e ca in cc
+    | inr e ↦ let cb = subst (λ (x : AverageData). comes_before c x ≡ true) e ca in cc
   ]
 ])

@@ -1,7 +1,7 @@
 -- Worked rows of the quotients and of the order of averages
 use Rattle.std.proofs.Common.{◌≡◌, ℕ, true, false, refl}
 use Rattle.quotients.specs.Quotients.{electoral_quotient, party_quotient, has_tenth, has_fifth, has_four_fifths}
-use Rattle.quotients.specs.Average.{Average, comes_before}
+use Rattle.quotients.specs.Average.{AverageData, comes_before}
 
 -- 112.5
 a_half_is_dropped : electoral_quotient 450 4 ≡ 112
@@ -36,7 +36,7 @@ just_four_fifths = refl
 one_vote_below_four_fifths : has_four_fifths 159 200 ≡ false
 one_vote_below_four_fifths = refl
 
-abbrev average : ℕ → ℕ → ℕ → Average
+abbrev average : ℕ → ℕ → ℕ → AverageData
 average party votes divisor = record { votes = votes; divisor = divisor; party = party }
 
 -- 166.7 against 150

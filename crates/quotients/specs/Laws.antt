@@ -2,8 +2,8 @@
 use Rattle.std.specs.Prelude.{◌≡◌, ℕ, ◌+◌, ◌*◌, ◌≤◌, ◌<◌, true, false, ◌⊎◌}
 use Rattle.quotients.specs.Quotients.{electoral_quotient}
 use Rattle.std.specs.Ordering.{is_lt}
-use Rattle.quotients.specs.declared.average.Average.{Average as Kept}
-use Rattle.quotients.specs.Average.{Average, comes_before}
+use Rattle.quotients.specs.declared.average.Average.{Average}
+use Rattle.quotients.specs.Average.{AverageData, comes_before}
 use Rattle.quotients.specs.Order.{parts_of, average_cmp}
 
 -- a whole number is nearest to votes over seats, and of two that are equally near it is the lower one
@@ -20,17 +20,17 @@ OnlyQuotientIsNearest = (valid seats q : ℕ) → 1 ≤ seats → IsNearest vali
 
 -- no average comes before itself
 abbrev pub NeverBeforeItself : Type 0
-NeverBeforeItself = (a : Average) → comes_before a a ≡ false
+NeverBeforeItself = (a : AverageData) → comes_before a a ≡ false
 
 -- of two averages one comes before the other, or they are one
 abbrev pub ComeInSomeOrder : Type 0
-ComeInSomeOrder = (a b : Average) → (comes_before a b ≡ true) ⊎ ((comes_before b a ≡ true) ⊎ (a ≡ b))
+ComeInSomeOrder = (a b : AverageData) → (comes_before a b ≡ true) ⊎ ((comes_before b a ≡ true) ⊎ (a ≡ b))
 
 -- what comes before an average comes before all that come behind that one; a divisor is at least 1
 abbrev pub ComesBeforeAllBehind : Type 0
-ComesBeforeAllBehind = (a b c : Average) → 1 ≤ a.divisor → 1 ≤ b.divisor → 1 ≤ c.divisor
+ComesBeforeAllBehind = (a b c : AverageData) → 1 ≤ a.divisor → 1 ≤ b.divisor → 1 ≤ c.divisor
     → comes_before a b ≡ true → comes_before b c ≡ true → comes_before a c ≡ true
 
 -- and that is the order of the type `Average`
 abbrev pub TypeIsInOrder : Type 0
-TypeIsInOrder = (a b : Kept) → is_lt (average_cmp a b) ≡ comes_before (parts_of a) (parts_of b)
+TypeIsInOrder = (a b : Average) → is_lt (average_cmp a b) ≡ comes_before (parts_of a) (parts_of b)

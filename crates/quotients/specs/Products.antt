@@ -1,4 +1,4 @@
--- Fractions in order, by products
+-- Fractions in order, by products, for specs/OrderLaws.antt and the laws
 use Rattle.std.proofs.Common.{ℕ, ◌*◌, ◌<◌, ◌≤◌, arith}
 use Rattle.std.proofs.Math.Nat.{mul-le-mul_right, le_of_mul-le-mul_right, mul-lt-mul_of_pos_right, lt_of_mul-lt-mul_right}
 

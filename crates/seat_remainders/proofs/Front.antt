@@ -1,19 +1,19 @@
--- The front of the sorted table is the rounds.
-use Rattle.std.proofs.Common.{◌≡◌, ◌≢◌, ℕ, zero, suc, ◌+◌, ◌≤◌, ◌<◌, ◌⊎◌, Bool, true, false, cond, ltb, ◌==◌, List, [], ◌∷◌, ◌++◌, length, take, count_by, inl, inr, refl, sym, ap, ◌∙◌, subst, append-nil, append_assoc, arith}
+-- The front of the sorted table is the rounds of a phase.
+use Rattle.std.proofs.Common.{◌≡◌, ◌≢◌, ℕ, zero, suc, ◌+◌, ◌≤◌, ◌<◌, ◌⊎◌, Bool, true, false, cond, ltb, ◌==◌, List, [], ◌∷◌, ◌++◌, length, take, inl, inr, refl, sym, ap, ◌∙◌, subst, append-nil, append_assoc, arith}
 use Rattle.std.specs.List.{AllByRecursion, Contains}
 use Rattle.std.proofs.lemmas.Bool.{cases_Bool, cases_eq, cases_lt, ltb-true, lt-ltb}
 use Rattle.std.proofs.lemmas.Bool.Decides.{nat_tests}
-use Rattle.quotients.specs.Average.{Average, comes_before}
-use Rattle.quotients.specs.Quotients.{has_fifth, has_four_fifths}
+use Rattle.quotients.specs.Average.{AverageData, comes_before}
+use Rattle.quotients.specs.Quotients.{has_four_fifths}
 use Rattle.quotients.proofs.Averages.{not_itself, not_both, falls}
 use Rattle.seat_remainders.specs.declared.contest.Contestant.{Contestant}
 use Rattle.seat_remainders.specs.declared.outcome.Award.{Award}
 use Rattle.seat_remainders.specs.Parties.{votes_of}
 use Rattle.seat_remainders.specs.Rounds.{seats_after, is_eligible, next_phase, average_of, beats, TakesSeat, EachFollows}
-use Rattle.seat_remainders.specs.Table.{most_in_two, most_in_three, most_seats, average_over, IsEntry, IsTable, awards_for}
+use Rattle.seat_remainders.specs.Table.{fifths_of, most_in_two, most_in_three, most_seats, average_over, IsEntry, IsTable, awards_for}
 use Rattle.seat_remainders.proofs.Awarded.{seats_more}
 use Rattle.seat_remainders.proofs.Eligible.{eligible_below}
-use Rattle.seat_remainders.proofs.Lists.{contains_here, contains_there, contains_cases, of_member, all_of_members}
+use Rattle.seat_remainders.proofs.Lists.{contains_first, contains_there, contains_cases, of_member, all_of_members}
 use Rattle.seat_remainders.proofs.OneTable.{in_none}
 use Rattle.seat_remainders.proofs.Rising.{AreRising, one_if, one_party}
 
@@ -24,7 +24,7 @@ pub record LeavesRoom (qe : ℕ) (phase : ℕ) (parties : List Contestant) (befo
 
 -- One entry at the front
 
-voted_two : (qe : ℕ) (p : Contestant) (b : Bool) → 1 ≤ qe → has_four_fifths (votes_of p) qe ≡ b → 0 < cond b (count_by (λ c. has_fifth c.votes qe) p.candidates) 0 → 1 ≤ votes_of p
+voted_two : (qe : ℕ) (p : Contestant) (b : Bool) → 1 ≤ qe → has_four_fifths (votes_of p) qe ≡ b → 0 < cond b (fifths_of qe p) 0 → 1 ≤ votes_of p
 voted_two qe p true some is h = grind (arith, nat_tests)
 voted_two qe p false some is h = absurd (omega arith)
 
@@ -53,11 +53,11 @@ next_entry qe phase parties before left limit p at room lt =
       within = elim enough [ inl le ↦ omega arith | inr le ↦ omega arith ];
     }
 
-same_divisor : (a b : Average) → a ≡ b → a.divisor ≡ b.divisor
-same_divisor a b e = ap (λ (x : Average). x.divisor) e
+same_divisor : (a b : AverageData) → a ≡ b → a.divisor ≡ b.divisor
+same_divisor a b e = ap (λ (x : AverageData). x.divisor) e
 
 -- the entry at the front is the next average of its party
-front_is_next : (qe phase : ℕ) (parties : List Contestant) (before : List Award) (left : ℕ) (limit : Contestant → ℕ) (e : Average) (rest : List Average) → 1 ≤ qe
+front_is_next : (qe phase : ℕ) (parties : List Contestant) (before : List Award) (left : ℕ) (limit : Contestant → ℕ) (e : AverageData) (rest : List AverageData) → 1 ≤ qe
     → IsTable qe parties before limit (e ∷ rest) → LeavesRoom qe phase parties before (suc left) limit → (entry : IsEntry qe parties before limit e) → e.divisor ≡ seats_after qe before entry.party + 1
 front_is_next qe phase parties before left limit e rest some table room entry =
     let p = entry.party in
@@ -72,13 +72,13 @@ front_is_next qe phase parties before left limit e rest some table room entry =
             | inr le ↦ omega (arith, entry.above)
             | inl gt ↦
                 let fall = falls (votes_of p) p.number (seats_after qe before p + 1) e.divisor (voted qe phase p some (omega arith)) gt in
-                let back : comes_before e (average_of qe before p) ≡ false = subst (λ (a : Average). comes_before a (average_of qe before p) ≡ false) (sym entry.is) (not_both (average_of qe before p) (average_over p e.divisor) fall) in
+                let back : comes_before e (average_of qe before p) ≡ false = subst (λ (a : AverageData). comes_before a (average_of qe before p) ≡ false) (sym entry.is) (not_both (average_of qe before p) (average_over p e.divisor) fall) in
                 absurd (cc)
           ]
     ]
 
 -- so it is the average of a party that no eligible one beats
-front_takes : (qe phase : ℕ) (parties : List Contestant) (before : List Award) (left : ℕ) (limit : Contestant → ℕ) (e : Average) (rest : List Average) → 1 ≤ qe
+front_takes : (qe phase : ℕ) (parties : List Contestant) (before : List Award) (left : ℕ) (limit : Contestant → ℕ) (e : AverageData) (rest : List AverageData) → 1 ≤ qe
     → next_phase qe before parties ≡ phase → IsTable qe parties before limit (e ∷ rest) → LeavesRoom qe phase parties before (suc left) limit → (entry : IsEntry qe parties before limit e)
     → TakesSeat qe parties before (record { phase = phase; party = e.party }) entry.party
 front_takes qe phase parties before left limit e rest some is table room entry =
@@ -88,37 +88,37 @@ front_takes qe phase parties before left limit e rest some is table room entry =
     let within = of_member (λ p. limit p ≤ most_seats qe phase p) parties p room.within entry.stands in
     record {
       stands = entry.stands;
-      named = ap (λ (a : Average). a.party) entry.is;
+      named = ap (λ (a : AverageData). a.party) entry.is;
       phase = sym is;
       eligible = eligible_below qe before phase p ∙ lt-ltb _ _ (omega (arith, entry.above, entry.within));
       unbeaten = all_of_members (λ q. is_eligible qe before phase q ≡ true → beats qe before q p ≡ false) parties (λ q at h.
           let lt = ltb-true _ _ (sym (eligible_below qe before phase q) ∙ h) in
           let other = next_entry qe phase parties before left limit q at room lt in
           elim (contains_cases e (average_of qe before q) rest (table.all (average_of qe before q) other)) [
-            | inl one ↦ subst (λ (a : Average). comes_before a (average_of qe before p) ≡ false) (sym same ∙ one) (not_itself (average_of qe before p))
+            | inl one ↦ subst (λ (a : AverageData). comes_before a (average_of qe before p) ≡ false) (sym same ∙ one) (not_itself (average_of qe before p))
             | inr later ↦
                 let first = of_member (λ b. comes_before e b ≡ true) rest (average_of qe before q) table.ordered.0 later in
-                subst (λ (a : Average). comes_before (average_of qe before q) a ≡ false) same (not_both e (average_of qe before q) first)
+                subst (λ (a : AverageData). comes_before (average_of qe before q) a ≡ false) same (not_both e (average_of qe before q) first)
           ]);
     }
 
 -- the awards after one more
-abbrev pub and_then : ℕ → List Award → Average → List Award
+abbrev and_then : ℕ → List Award → AverageData → List Award
 and_then phase before e = before ++ (record { phase = phase; party = e.party }) ∷ []
 
-more_or_same : (qe phase : ℕ) (before : List Award) (e : Average) (p : Contestant) → seats_after qe before p ≤ seats_after qe (and_then phase before e) p
+more_or_same : (qe phase : ℕ) (before : List Award) (e : AverageData) (p : Contestant) → seats_after qe before p ≤ seats_after qe (and_then phase before e) p
 more_or_same qe phase before e p = let more = seats_more qe before (record { phase = phase; party = e.party }) p in omega arith
 
-one_more_at_most : (qe phase : ℕ) (before : List Award) (e : Average) (p : Contestant) → seats_after qe (and_then phase before e) p ≤ seats_after qe before p + 1
+one_more_at_most : (qe phase : ℕ) (before : List Award) (e : AverageData) (p : Contestant) → seats_after qe (and_then phase before e) p ≤ seats_after qe before p + 1
 one_more_at_most qe phase before e p = let more = seats_more qe before (record { phase = phase; party = e.party }) p in let few : one_if (e.party == p.number) ≤ 1 = grind (arith, nat_tests) in omega arith
 
-one_more_for : (qe phase : ℕ) (before : List Award) (e : Average) (p : Contestant) → e.party ≡ p.number → seats_after qe (and_then phase before e) p ≡ seats_after qe before p + 1
+one_more_for : (qe phase : ℕ) (before : List Award) (e : AverageData) (p : Contestant) → e.party ≡ p.number → seats_after qe (and_then phase before e) p ≡ seats_after qe before p + 1
 one_more_for qe phase before e p is = let more = seats_more qe before (record { phase = phase; party = e.party }) p in let one : one_if (e.party == p.number) ≡ 1 = grind (arith, nat_tests) in omega arith
 
-same_for_others : (qe phase : ℕ) (before : List Award) (e : Average) (p : Contestant) → e.party ≢ p.number → seats_after qe (and_then phase before e) p ≡ seats_after qe before p
+same_for_others : (qe phase : ℕ) (before : List Award) (e : AverageData) (p : Contestant) → e.party ≢ p.number → seats_after qe (and_then phase before e) p ≡ seats_after qe before p
 same_for_others qe phase before e p ne = let more = seats_more qe before (record { phase = phase; party = e.party }) p in let none : one_if (e.party == p.number) ≡ 0 = grind (arith, nat_tests) in omega arith
 
-pub room_left : (qe phase : ℕ) (parties : List Contestant) (before : List Award) (left : ℕ) (limit : Contestant → ℕ) (e : Average) → LeavesRoom qe phase parties before (suc left) limit → LeavesRoom qe phase parties (and_then phase before e) left limit
+room_left : (qe phase : ℕ) (parties : List Contestant) (before : List Award) (left : ℕ) (limit : Contestant → ℕ) (e : AverageData) → LeavesRoom qe phase parties before (suc left) limit → LeavesRoom qe phase parties (and_then phase before e) left limit
 room_left qe phase parties before left limit e room =
     record {
       within = room.within;
@@ -129,12 +129,12 @@ room_left qe phase parties before left limit e room =
     }
 
 -- the rest is the table after that award
-pub table_left : (qe phase : ℕ) (parties : List Contestant) (before : List Award) (left : ℕ) (limit : Contestant → ℕ) (e : Average) (rest : List Average) → 1 ≤ qe → AreRising parties
+table_left : (qe phase : ℕ) (parties : List Contestant) (before : List Award) (left : ℕ) (limit : Contestant → ℕ) (e : AverageData) (rest : List AverageData) → 1 ≤ qe → AreRising parties
     → IsTable qe parties before limit (e ∷ rest) → LeavesRoom qe phase parties before (suc left) limit → IsTable qe parties (and_then phase before e) limit rest
 table_left qe phase parties before left limit e rest some rising table room =
-    let entry = table.only e (contains_here e rest) in
+    let entry = table.only e (contains_first e e rest refl) in
     let next = front_is_next qe phase parties before left limit e rest some table room entry in
-    let named : e.party ≡ entry.party.number = ap (λ (a : Average). a.party) entry.is in
+    let named : e.party ≡ entry.party.number = ap (λ (a : AverageData). a.party) entry.is in
     record {
       ordered = table.ordered.1;
       only = λ f at.
@@ -154,7 +154,7 @@ table_left qe phase parties before left limit e rest some rising table room =
                   elim (cases_eq f.divisor e.divisor) [
                     | inl d ↦
                         let same : f ≡ e = other.is ∙ ap (λ (c : Contestant). average_over c f.divisor) party ∙ ap (λ (n : ℕ). average_over entry.party n) d ∙ sym entry.is in
-                        let back = subst (λ (a : Average). comes_before e a ≡ true) same first in
+                        let back = subst (λ (a : AverageData). comes_before e a ≡ true) same first in
                         let never = not_itself e in
                         absurd (cc)
                     | inr nd ↦ omega (arith, other.above)
@@ -166,7 +166,7 @@ table_left qe phase parties before left limit e rest some rising table room =
           elim (contains_cases e f rest (table.all f (record { party = other.party; stands = other.stands; is = other.is; within = other.within; above = omega (arith, other.above) }))) [
             | inr later ↦ later
             | inl same ↦
-                let number : e.party ≡ other.party.number = ap (λ (a : Average). a.party) (same ∙ other.is) in
+                let number : e.party ≡ other.party.number = ap (λ (a : AverageData). a.party) (same ∙ other.is) in
                 let party : other.party ≡ entry.party = one_party other.party entry.party parties rising other.stands entry.stands (sym number ∙ named) in
                 let seats = ap (λ (c : Contestant). seats_after qe before c) party in
                 let one = one_more_for qe phase before e other.party number in
@@ -186,12 +186,12 @@ stays qe phase parties before more h later p at e =
     let same = append_assoc before more later in
     subst (λ (t : List Award). next_phase qe t parties ≡ phase) (sym same) (h (more ++ later) p at (subst (λ (t : List Award). is_eligible qe t phase p ≡ true) same e))
 
-pub front_follows : (qe phase : ℕ) (parties : List Contestant) (left : ℕ) (before : List Award) (limit : Contestant → ℕ) (table : List Average) → 1 ≤ qe → AreRising parties
+pub front_follows : (qe phase : ℕ) (parties : List Contestant) (left : ℕ) (before : List Award) (limit : Contestant → ℕ) (table : List AverageData) → 1 ≤ qe → AreRising parties
     → StaysInPhase qe phase parties before → IsTable qe parties before limit table → LeavesRoom qe phase parties before left limit → EachFollows qe parties before (awards_for phase (take left table))
 front_follows qe phase parties zero before limit table some rising phases is room = tt
 front_follows qe phase parties (suc left) before limit [] some rising phases is room = tt
 front_follows qe phase parties (suc left) before limit (e ∷ rest) some rising phases is room =
-    let entry = is.only e (contains_here e rest) in
+    let entry = is.only e (contains_first e e rest refl) in
     let within = of_member (λ p. limit p ≤ most_seats qe phase p) parties entry.party room.within entry.stands in
     let eligible : is_eligible qe before phase entry.party ≡ true = eligible_below qe before phase entry.party ∙ lt-ltb _ _ (omega (arith, entry.above, entry.within)) in
     let same = append-nil before in
@@ -203,7 +203,7 @@ front_follows qe phase parties (suc left) before limit (e ∷ rest) some rising 
     )
 
 -- where the table ends before the rounds do, nobody is eligible any more
-pub front_ends : (qe phase : ℕ) (parties : List Contestant) (left : ℕ) (before : List Award) (limit : Contestant → ℕ) (table : List Average) → 1 ≤ qe → AreRising parties
+pub front_ends : (qe phase : ℕ) (parties : List Contestant) (left : ℕ) (before : List Award) (limit : Contestant → ℕ) (table : List AverageData) → 1 ≤ qe → AreRising parties
     → IsTable qe parties before limit table → LeavesRoom qe phase parties before left limit → length table < left
     → AllByRecursion (λ p. is_eligible qe (before ++ awards_for phase table) phase p ≡ false) parties
 front_ends qe phase parties zero before limit table some rising is room short = absurd (omega arith)

@@ -9,9 +9,10 @@ pub mod Filled
 pub mod SortedAverages
 pub mod TableEntries
 pub mod OneTable
+pub mod ComputedTable
 pub mod MadeTable
 pub mod Front
-pub mod Fronts
+pub mod BothTables
 pub mod Winner
 pub mod OneOutcome
 pub mod Results

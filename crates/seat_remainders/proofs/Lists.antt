@@ -1,11 +1,11 @@
 -- Members of lists
-use Rattle.std.proofs.Common.{◌≡◌, zero, suc, ◌⊎◌, Bool, true, false, List, [], ◌∷◌, inl, inr, arith}
+use Rattle.std.proofs.Common.{◌≡◌, zero, suc, ◌⊎◌, Bool, true, false, List, [], ◌∷◌, inl, inr, refl, arith}
 use Rattle.std.specs.List.{AllByRecursion, Contains, list_any}
-use Rattle.std.proofs.lemmas.List.Elements.{All-from_recursion, All-contains, Contains-get_or}
+use Rattle.std.proofs.lemmas.List.Elements.{All-from_recursion, All-contains}
 use Rattle.std.proofs.lemmas.List.Folds.{list_any_at, list_any_none}
 
-pub contains_here : {X : Type 0} (x : X) (xs : List X) → Contains (x ∷ xs) x
-contains_here x xs = Contains-get_or (x ∷ xs) 0 x (omega arith)
+pub contains_first : {X : Type 0} (x a : X) (xs : List X) → x ≡ a → Contains (x ∷ xs) a
+contains_first x a xs e = (zero, omega arith, e)
 
 pub contains_there : {X : Type 0} (y x : X) (xs : List X) → Contains xs x → Contains (y ∷ xs) x
 contains_there y x xs (k, lt, e) = (suc k, omega arith, e)
@@ -19,7 +19,7 @@ of_member P xs x all at = All-contains P xs x (All-from_recursion P xs all) at
 
 pub all_of_members : {X : Type 0} (P : X → Type 0) (xs : List X) → ((x : X) → Contains xs x → P x) → AllByRecursion P xs
 all_of_members P [] h = tt
-all_of_members P (x ∷ xs) h = (h x (contains_here x xs), all_of_members P xs (λ y at. h y (contains_there x y xs at)))
+all_of_members P (x ∷ xs) h = (h x (contains_first x x xs refl), all_of_members P xs (λ y at. h y (contains_there x y xs at)))
 
 -- one that passes, and none
 pub any_of_member : {X : Type 0} (f : X → Bool) (xs : List X) (x : X) → Contains xs x → f x ≡ true → list_any f xs ≡ true

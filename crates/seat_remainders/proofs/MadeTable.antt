@@ -3,9 +3,9 @@ use Rattle.std.proofs.Common.{◌≡◌, ℕ, zero, suc, ◌+◌, ◌-◌, ◌�
 use Rattle.std.specs.List.{AllByRecursion}
 use Rattle.std.proofs.lemmas.List.{map-append, length-map, take_more}
 use Rattle.std.proofs.lemmas.List.Concat.{flat_map-append}
-use Rattle.quotients.specs.Average.{Average}
+use Rattle.quotients.specs.Average.{AverageData}
 use Rattle.quotients.specs.Order.{parts_of}
-use Rattle.quotients.specs.declared.average.Average.{Average as Kept}
+use Rattle.quotients.specs.declared.average.Average.{Average}
 use Rattle.quotients.proofs.Averages.{same_average}
 use Rattle.seat_remainders.specs.declared.contest.Contestant.{Contestant}
 use Rattle.seat_remainders.specs.declared.outcome.Award.{Award}
@@ -21,22 +21,22 @@ from_more : (p : Contestant) (d n : ℕ) → averages_from p d (suc n) ≡ avera
 from_more p d zero = let e : d ≡ d + 0 = omega arith in ap (λ (k : ℕ). average_over p k ∷ []) e
 from_more p d (suc n) =
     let e : d + 1 + n ≡ d + suc n = omega arith in
-    ap (λ (t : List Average). average_over p d ∷ t) (from_more p (d + 1) n ∙ ap (λ (k : ℕ). averages_from p (d + 1) n ++ average_over p k ∷ []) e)
+    ap (λ (t : List AverageData). average_over p d ∷ t) (from_more p (d + 1) n ∙ ap (λ (k : ℕ). averages_from p (d + 1) n ++ average_over p k ∷ []) e)
 
-pub parts_are : (a : Kept) (p : Contestant) (votes seats : ℕ) → a.votes ≡ votes → votes ≡ votes_of p → a.divisor ≡ seats + 1 → a.party ≡ p.number → parts_of a ≡ average_over p (seats + 1)
+pub parts_are : (a : Average) (p : Contestant) (votes seats : ℕ) → a.votes ≡ votes → votes ≡ votes_of p → a.divisor ≡ seats + 1 → a.party ≡ p.number → parts_of a ≡ average_over p (seats + 1)
 parts_are a p votes seats v w d n = same_average (parts_of a) (average_over p (seats + 1)) (v ∙ w) n d
 
-pub pushed_more : (old items : List Kept) (a : Kept) (p : Contestant) (first seats : ℕ) → map parts_of items ≡ map parts_of old ++ averages_from p (first + 1) (seats - first) → first ≤ seats
+pub pushed_more : (old items : List Average) (a : Average) (p : Contestant) (first seats : ℕ) → map parts_of items ≡ map parts_of old ++ averages_from p (first + 1) (seats - first) → first ≤ seats
     → parts_of a ≡ average_over p (seats + 1) → map parts_of (items ++ a ∷ []) ≡ map parts_of old ++ averages_from p (first + 1) (seats + 1 - first)
 pushed_more old items a p first seats h le is =
     let next : seats + 1 - first ≡ suc (seats - first) = omega arith in
     let place : first + 1 + (seats - first) ≡ seats + 1 = omega arith in
     let so_far = averages_from p (first + 1) (seats - first) in
     map-append parts_of items (a ∷ [])
-    ∙ ap (λ (t : List Average). t ++ parts_of a ∷ []) h
+    ∙ ap (λ (t : List AverageData). t ++ parts_of a ∷ []) h
     ∙ append_assoc (map parts_of old) so_far (parts_of a ∷ [])
-    ∙ ap (λ (x : Average). map parts_of old ++ (so_far ++ x ∷ [])) (is ∙ ap (λ (d : ℕ). average_over p d) (sym place))
-    ∙ ap (λ (t : List Average). map parts_of old ++ t) (sym (from_more p (first + 1) (seats - first)))
+    ∙ ap (λ (x : AverageData). map parts_of old ++ (so_far ++ x ∷ [])) (is ∙ ap (λ (d : ℕ). average_over p d) (sym place))
+    ∙ ap (λ (t : List AverageData). map parts_of old ++ t) (sym (from_more p (first + 1) (seats - first)))
     ∙ ap (λ (n : ℕ). map parts_of old ++ averages_from p (first + 1) n) (sym next)
 
 count_is : (first limit seats : ℕ) → (seats ≤ limit) ⊎ (seats ≡ first) → limit ≤ seats → first ≤ seats → seats - first ≡ limit - first
@@ -44,7 +44,7 @@ count_is first limit seats (inl h) ge le = omega arith
 count_is first limit seats (inr h) ge le = omega arith
 
 -- at the end of the loop they are those of the party
-pub all_pushed : (qe phase left : ℕ) (before : List Award) (old items : List Kept) (p : Contestant) (first limit seats : ℕ) → map parts_of items ≡ map parts_of old ++ averages_from p (first + 1) (seats - first)
+pub all_pushed : (qe phase left : ℕ) (before : List Award) (old items : List Average) (p : Contestant) (first limit seats : ℕ) → map parts_of items ≡ map parts_of old ++ averages_from p (first + 1) (seats - first)
     → (seats ≤ limit) ⊎ (seats ≡ first) → limit ≤ seats → first ≤ seats → first ≡ seats_after qe before p → limit ≡ min (most_seats qe phase p) (first + left)
     → map parts_of items ≡ map parts_of old ++ entries_for qe before (limit_of qe phase before left) p
 all_pushed qe phase left before old items p first limit seats h within ge le is top =
@@ -62,7 +62,7 @@ pub entries_more : (qe : ℕ) (before : List Award) (limit : Contestant → ℕ)
 entries_more qe before limit parties i p lt is =
     sym (ap (λ (t : List Contestant). entries_of qe before limit t) (take_more parties i p lt)
     ∙ flat_map-append (entries_for qe before limit) (take i parties) (get_or parties i p ∷ [])
-    ∙ ap (λ (t : List Average). entries_of qe before limit (take i parties) ++ t) (append-nil (entries_for qe before limit (get_or parties i p)))
+    ∙ ap (λ (t : List AverageData). entries_of qe before limit (take i parties) ++ t) (append-nil (entries_for qe before limit (get_or parties i p)))
     ∙ ap (λ (c : Contestant). entries_of qe before limit (take i parties) ++ entries_for qe before limit c) (sym is))
 
 -- How many there are
@@ -71,7 +71,7 @@ length-from : (p : Contestant) (d n : ℕ) → length (averages_from p d n) ≡ 
 length-from p d zero = refl
 length-from p d (suc n) = let more = length-from p (d + 1) n in omega arith
 
-pub few_more : (qe phase left : ℕ) (before : List Award) (old items : List Kept) (p : Contestant) → map parts_of items ≡ map parts_of old ++ entries_for qe before (limit_of qe phase before left) p
+pub few_more : (qe phase left : ℕ) (before : List Award) (old items : List Average) (p : Contestant) → map parts_of items ≡ map parts_of old ++ entries_for qe before (limit_of qe phase before left) p
     → length items ≤ length old + left
 few_more qe phase left before old items p is =
     let one = length-map items parts_of in

@@ -1,6 +1,7 @@
 -- A contest has one outcome: the rounds go on, and only in one way.
 use Rattle.std.proofs.Common.{◌≡◌, ◌↔◌, ℕ, zero, suc, ◌+◌, ◌-◌, ◌≤◌, ◌<◌, true, false, ltb, List, [], ◌∷◌, ◌++◌, length, map, Option, None, Some, inl, inr, refl, sym, ap, ◌∙◌, subst, length-append, append-nil, arith}
 use Rattle.std.proofs.lemmas.Bool.{cases_Bool, ltb-true, ltb-false, true≢false}
+use Rattle.quotients.specs.Average.{AverageData}
 use Rattle.seat_remainders.specs.declared.contest.Contestant.{Contestant}
 use Rattle.seat_remainders.specs.declared.contest.Contest.{Contest}
 use Rattle.seat_remainders.specs.declared.outcome.Award.{Award}
@@ -13,7 +14,9 @@ use Rattle.seat_remainders.specs.Rounds.{is_eligible, next_phase, TakesSeat, Eac
 use Rattle.seat_remainders.specs.Outcome.{party_seats, elected_by, AreSeats, IsOutcome, is_without_quotient, is_over}
 use Rattle.seat_remainders.specs.Computed.{award_to, awards_over, seats_with, outcome_with, outcome_of}
 use Rattle.seat_remainders.proofs.Awarded.{moved_on}
+use Rattle.seat_remainders.proofs.ComputedTable.{computed_averages}
 use Rattle.seat_remainders.proofs.Lists.{of_member}
+use Rattle.seat_remainders.proofs.OneTable.{one_list}
 use Rattle.seat_remainders.proofs.Winner.{IsBest, IsFound, winner-found, one_best}
 
 -- One round
@@ -114,14 +117,15 @@ rounds_over qe parties seats =
 
 -- The outcome
 
-pub same_seats : (s t : SeatsData) → s.quotient ≡ t.quotient → s.parties ≡ t.parties → s.awards ≡ t.awards → s.elected ≡ t.elected → s.vacant ≡ t.vacant → s ≡ t
-same_seats s t a b c d e =
-    let make : ℕ → List PartySeats → List Award → List ℕ → ℕ → SeatsData = λ q p w n v. record { quotient = q; parties = p; awards = w; elected = n; vacant = v } in
-    ap (λ q. make q s.parties s.awards s.elected s.vacant) a
-    ∙ ap (λ p. make t.quotient p s.awards s.elected s.vacant) b
-    ∙ ap (λ w. make t.quotient t.parties w s.elected s.vacant) c
-    ∙ ap (λ n. make t.quotient t.parties t.awards n s.vacant) d
-    ∙ ap (λ v. make t.quotient t.parties t.awards t.elected v) e
+pub same_seats : (s t : SeatsData) → s.quotient ≡ t.quotient → s.parties ≡ t.parties → s.awards ≡ t.awards → s.elected ≡ t.elected → s.vacant ≡ t.vacant → s.averages ≡ t.averages → s ≡ t
+same_seats s t a b c d e f =
+    let make : ℕ → List PartySeats → List Award → List ℕ → ℕ → List AverageData → SeatsData = λ q p w n v l. record { quotient = q; parties = p; awards = w; elected = n; vacant = v; averages = l } in
+    ap (λ q. make q s.parties s.awards s.elected s.vacant s.averages) a
+    ∙ ap (λ p. make t.quotient p s.awards s.elected s.vacant s.averages) b
+    ∙ ap (λ w. make t.quotient t.parties w s.elected s.vacant s.averages) c
+    ∙ ap (λ n. make t.quotient t.parties t.awards n s.vacant s.averages) d
+    ∙ ap (λ v. make t.quotient t.parties t.awards t.elected v s.averages) e
+    ∙ ap (λ l. make t.quotient t.parties t.awards t.elected t.vacant l) f
 
 seats_given : (contest : Contest) (qe : ℕ) (s : SeatsData) → s.quotient ≡ qe → AreSeats contest s
     → s ≡ seats_with contest qe (awards_over qe contest.parties (contest.seats - first_phase qe contest.parties))
@@ -136,6 +140,7 @@ seats_given contest qe s is given =
     awards
     (given.elected ∙ ap (λ (q : ℕ). elected_by q s.awards contest.parties) is ∙ ap (λ (w : List Award). elected_by qe w contest.parties) awards)
     (omega (arith, rounds.all, computed.all))
+    (one_list contest _ _ given.averages (computed_averages contest qe (sym is ∙ given.quotient)))
 
 some_outcome : (contest : Contest) (qe : ℕ) → qe ≡ quotient_of contest → IsOutcome contest (outcome_with contest qe)
 some_outcome contest zero is = record { none = sym is; votes_told = refl; seats_told = refl }
@@ -156,6 +161,7 @@ some_outcome contest (suc n) is = elim (cases_Bool (ltb contest.seats (first_pha
         rounds = rounds_over (suc n) contest.parties (contest.seats - first_phase (suc n) contest.parties);
         parties = refl;
         elected = refl;
+        averages = computed_averages contest (suc n) is;
       })
 ]
 

@@ -1,5 +1,6 @@
 -- Worked rows of what comes of a contest, and of the majority rules
 use Rattle.std.proofs.Common.{◌≡◌, ℕ, ◌+◌, ◌*◌, true, false, List, [], ◌∷◌, refl}
+use Rattle.quotients.specs.Average.{AverageData}
 use Rattle.seat_remainders.specs.declared.contest.Entry.{Entry}
 use Rattle.seat_remainders.specs.declared.contest.Contestant.{Contestant}
 use Rattle.seat_remainders.specs.declared.contest.Contest.{Contest}
@@ -24,6 +25,9 @@ contest seats parties = record { seats = seats; parties = parties }
 abbrev award : ℕ → ℕ → Award
 award phase p = record { phase = phase; party = p }
 
+abbrev average : ℕ → ℕ → ℕ → AverageData
+average votes divisor p = record { votes = votes; divisor = divisor; party = p }
+
 abbrev has : ℕ → ℕ → ℕ → ℕ → PartySeats
 has number votes quotient seats = record { number = number; votes = votes; quotient = quotient; seats = seats }
 
@@ -37,6 +41,7 @@ two_awards : outcome_of four_parties ≡ outcome.Seats (record {
   awards = award 2 10 ∷ award 2 11 ∷ [];
   elected = 10001 ∷ 10002 ∷ 10003 ∷ 11001 ∷ 11002 ∷ [];
   vacant = 0;
+  averages = average 500 3 10 ∷ average 300 2 11 ∷ [];
 })
 two_awards = refl
 
@@ -47,6 +52,7 @@ equal_averages : outcome_of (contest 4 (party 10 0 (100 ∷ 100 ∷ 100 ∷ []) 
   awards = award 2 10 ∷ [];
   elected = 10001 ∷ 10002 ∷ 10003 ∷ 11001 ∷ [];
   vacant = 0;
+  averages = average 300 3 10 ∷ average 200 2 11 ∷ [];
 })
 equal_averages = refl
 
@@ -57,6 +63,7 @@ one_seat_each : outcome_of (contest 5 (party 10 0 (100 ∷ 100 ∷ 100 ∷ []) �
   awards = award 2 11 ∷ award 2 12 ∷ award 2 13 ∷ award 2 14 ∷ [];
   elected = 10001 ∷ 11001 ∷ 12001 ∷ 13001 ∷ 14001 ∷ [];
   vacant = 0;
+  averages = average 180 1 11 ∷ average 180 1 12 ∷ average 170 1 13 ∷ average 170 1 14 ∷ average 300 2 10 ∷ average 300 3 10 ∷ average 180 2 11 ∷ average 180 2 12 ∷ average 170 2 13 ∷ average 170 2 14 ∷ [];
 })
 one_seat_each = refl
 
@@ -75,6 +82,7 @@ third_phase : outcome_of (contest 2 (party 10 0 (61 ∷ []) ∷ party 11 0 (39 �
   awards = award 3 11 ∷ [];
   elected = 10001 ∷ 11001 ∷ [];
   vacant = 0;
+  averages = [];
 })
 third_phase = refl
 
@@ -85,6 +93,7 @@ nobody_left : outcome_of (contest 3 (party 10 0 (61 ∷ []) ∷ party 11 0 (39 �
   awards = [];
   elected = 10001 ∷ 11001 ∷ [];
   vacant = 1;
+  averages = [];
 })
 nobody_left = refl
 
@@ -95,6 +104,7 @@ below_the_minimum : outcome_of (contest 4 (party 10 195 (5 ∷ []) ∷ party 11 
   awards = award 3 10 ∷ [];
   elected = 10001 ∷ 11001 ∷ 11002 ∷ [];
   vacant = 1;
+  averages = [];
 })
 below_the_minimum = refl
 
@@ -123,5 +133,6 @@ federation_as_one : outcome_of with_federation ≡ outcome.Seats (record {
   awards = award 2 20 ∷ [];
   elected = 10001 ∷ 30001 ∷ 20001 ∷ [];
   vacant = 0;
+  averages = average 100 2 20 ∷ average 80 2 10 ∷ [];
 })
 federation_as_one = refl

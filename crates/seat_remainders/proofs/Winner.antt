@@ -3,7 +3,7 @@ use Rattle.std.proofs.Common.{◌≡◌, ℕ, true, false, cond, List, [], ◌�
 use Rattle.std.specs.List.{AllByRecursion, Contains}
 use Rattle.std.proofs.lemmas.Bool.{cases_Bool, true≢false}
 use Rattle.std.proofs.lemmas.List.Elements.{Contains-get_or}
-use Rattle.quotients.specs.Average.{Average}
+use Rattle.quotients.specs.Average.{AverageData}
 use Rattle.quotients.proofs.Averages.{not_itself, not_both, not_before_all, some_order}
 use Rattle.seat_remainders.specs.declared.contest.Contestant.{Contestant}
 use Rattle.seat_remainders.specs.declared.outcome.Award.{Award}
@@ -97,6 +97,6 @@ one_best qe before phase parties p q a b =
       | inl t ↦ absurd (true≢false (sym t ∙ pq))
       | inr w ↦ elim w [
         | inl t ↦ absurd (true≢false (sym t ∙ qp))
-        | inr e ↦ ap (λ (a : Average). a.party) e
+        | inr e ↦ ap (λ (a : AverageData). a.party) e
       ]
     ]

@@ -1,5 +1,6 @@
 -- The same law as a computation, for worked rows: the law `outcomes` says that it gives the one outcome that there is.
 use Rattle.std.specs.Prelude.{ℕ, zero, suc, ◌-◌, nat_lt, if◌then◌else◌, List, [], ◌∷◌, ◌++◌, length, map, Option, None, Some}
+use Rattle.quotients.specs.Average.{AverageData, comes_before}
 use Rattle.seat_remainders.specs.declared.contest.Contestant.{Contestant}
 use Rattle.seat_remainders.specs.declared.contest.Contest.{Contest}
 use Rattle.seat_remainders.specs.declared.outcome.Award.{Award}
@@ -8,6 +9,7 @@ use Rattle.seat_remainders.specs.declared.outcome.Outcome.{Outcome}
 use Rattle.seat_remainders.specs.declared.outcome.Outcome.TheVariants as outcome
 use Rattle.seat_remainders.specs.Parties.{valid_votes, quotient_of, first_phase}
 use Rattle.seat_remainders.specs.Rounds.{is_eligible, next_phase, beats}
+use Rattle.seat_remainders.specs.Table.{entries_of, limit_of}
 use Rattle.seat_remainders.specs.Outcome.{party_seats, elected_by}
 
 -- of a party and another, where there is one, that which is not beaten
@@ -34,6 +36,20 @@ abbrev pub awards_over : ℕ → List Contestant → ℕ → List Award
 awards_over qe parties zero = []
 awards_over qe parties (suc rounds) = let before = awards_over qe parties rounds in before ++ next_award qe parties before
 
+-- averages in order, with one more in its place, where it isn't there
+abbrev pub with_average : AverageData → List AverageData → List AverageData
+with_average a [] = a ∷ []
+with_average a (b ∷ averages) = if comes_before a b then a ∷ b ∷ averages else if comes_before b a then b ∷ with_average a averages else b ∷ averages
+
+-- averages in their order
+abbrev pub averages_in_order : List AverageData → List AverageData
+averages_in_order [] = []
+averages_in_order (a ∷ averages) = with_average a (averages_in_order averages)
+
+-- those of a contest with this quotient
+abbrev pub averages_with : Contest → ℕ → List AverageData
+averages_with contest qe = averages_in_order (entries_of qe [] (limit_of qe 2 [] (contest.seats - first_phase qe contest.parties)) contest.parties)
+
 -- the seats after these awards
 abbrev pub seats_with : Contest → ℕ → List Award → SeatsData
 seats_with contest qe awards = record {
@@ -42,6 +58,7 @@ seats_with contest qe awards = record {
   awards = awards;
   elected = elected_by qe awards contest.parties;
   vacant = contest.seats - first_phase qe contest.parties - length awards;
+  averages = averages_with contest qe;
 }
 
 -- what comes of a contest with this quotient

@@ -9,7 +9,7 @@ use Rattle.seat_remainders.specs.declared.outcome.MajorityOutcome.TheVariants.{R
 use Rattle.seat_remainders.specs.Candidates.{in_order, AreInOrder}
 use Rattle.seat_remainders.specs.Contest.{PartiesRise}
 use Rattle.seat_remainders.specs.Parties.{nominal_votes, quotient_of, first_phase}
-use Rattle.quotients.specs.Average.{Average}
+use Rattle.quotients.specs.Average.{AverageData}
 use Rattle.seat_remainders.specs.Table.{AreAverages, IsTable, awards_for, awards_of, limit_of, seats_left}
 use Rattle.seat_remainders.specs.Rounds.{AreRounds}
 use Rattle.seat_remainders.specs.Outcome.{AreSeats, IsOver, IsOutcome, is_without_quotient, is_over}
@@ -47,16 +47,16 @@ OverOnlyBelowHalf = (contest : Contest) (first seats : ℕ) → 1 ≤ contest.se
 
 -- a contest has one list of averages
 abbrev pub HasOneTable : Type 0
-HasOneTable = (contest : Contest) (xs ys : List Average) → AreAverages contest xs → AreAverages contest ys → xs ≡ ys
+HasOneTable = (contest : Contest) (xs ys : List AverageData) → AreAverages contest xs → AreAverages contest ys → xs ≡ ys
 
 -- which is empty where the first phase leaves no seat
 abbrev pub NoAveragesWithoutSeats : Type 0
-NoAveragesWithoutSeats = (contest : Contest) (xs : List Average) → seats_left contest ≡ 0 → AreAverages contest xs → xs ≡ []
+NoAveragesWithoutSeats = (contest : Contest) (xs : List AverageData) → seats_left contest ≡ 0 → AreAverages contest xs → xs ≡ []
 
 -- the rounds are the fronts of two tables: the averages of the contest in order, as many as seats remain, and where they end before the seats do, those of the
 -- table of phase 3 after these awards; a seat stays vacant where both have ended
 abbrev pub FrontsAreRounds : Type 0
-FrontsAreRounds = (contest : Contest) (two three : List Average) → 1 ≤ quotient_of contest → PartiesRise contest.parties → AreAverages contest two
+FrontsAreRounds = (contest : Contest) (two three : List AverageData) → 1 ≤ quotient_of contest → PartiesRise contest.parties → AreAverages contest two
     → let before = awards_for 2 (take (seats_left contest) two) in
     let awards = awards_of (seats_left contest) two three in
     IsTable (quotient_of contest) contest.parties before (limit_of (quotient_of contest) 3 before (seats_left contest - length before)) three

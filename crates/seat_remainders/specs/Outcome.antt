@@ -11,6 +11,7 @@ use Rattle.seat_remainders.specs.declared.outcome.Outcome.TheVariants as outcome
 use Rattle.seat_remainders.specs.Candidates.{in_order}
 use Rattle.seat_remainders.specs.Parties.{votes_of, valid_votes, quotient_of, first_phase}
 use Rattle.seat_remainders.specs.Rounds.{seats_after, AreRounds}
+use Rattle.seat_remainders.specs.Table.{AreAverages}
 
 -- what a party has after the awards
 abbrev pub party_seats : ℕ → List Award → Contestant → PartySeats
@@ -24,7 +25,7 @@ elected_of qe awards p = map (λ c. c.number) (take (seats_after qe awards p) (i
 abbrev pub elected_by : ℕ → List Award → List Contestant → List ℕ
 elected_by qe awards parties = flat_map (elected_of qe awards) parties
 
--- seats are given: the first phase has room, the rounds give the seats that it leaves, and these are told by party and by candidate
+-- seats are given: the first phase has room, the rounds give the seats that it leaves, and these are told by party and by candidate, with the averages behind them
 pub record AreSeats (contest : Contest) (s : SeatsData) : Type 0 where
   pub quotient : s.quotient ≡ quotient_of contest
   pub some : 1 ≤ s.quotient
@@ -32,6 +33,7 @@ pub record AreSeats (contest : Contest) (s : SeatsData) : Type 0 where
   pub rounds : AreRounds s.quotient contest.parties (contest.seats - first_phase s.quotient contest.parties) s.awards s.vacant
   pub parties : s.parties ≡ map (party_seats s.quotient s.awards) contest.parties
   pub elected : s.elected ≡ elected_by s.quotient s.awards contest.parties
+  pub averages : AreAverages contest s.averages
 
 -- there is no quotient: it is 0, with so many valid votes for so many seats
 pub record HasNoQuotient (contest : Contest) (valid seats : ℕ) : Type 0 where

@@ -3,7 +3,7 @@
 use Rattle.std.specs.Prelude.{◌≡◌, ℕ, ◌+◌, ◌<◌, Bool, true, false, nat_le, ◌==◌, ◌&&◌, if◌then◌else◌, List, [], ◌∷◌, ◌++◌, length, drop, count_by}
 use Rattle.std.specs.List.{AllByRecursion, Contains, list_any}
 use Rattle.quotients.specs.Quotients.{has_fifth, has_four_fifths}
-use Rattle.quotients.specs.Average.{Average, comes_before}
+use Rattle.quotients.specs.Average.{AverageData, comes_before}
 use Rattle.seat_remainders.specs.declared.contest.Entry.{Entry}
 use Rattle.seat_remainders.specs.declared.contest.Contestant.{Contestant}
 use Rattle.seat_remainders.specs.declared.outcome.Award.{Award}
@@ -35,7 +35,7 @@ abbrev pub next_phase : ℕ → List Award → List Contestant → ℕ
 next_phase qe awards parties = if list_any (meets_minimums qe awards) parties then 2 else 3
 
 -- art. 109, I: a party's valid votes over its seats so far plus one
-abbrev pub average_of : ℕ → List Award → Contestant → Average
+abbrev pub average_of : ℕ → List Award → Contestant → AverageData
 average_of qe awards p = record { votes = votes_of p; divisor = seats_after qe awards p + 1; party = p.number }
 
 -- the first party beats the second: its average comes before that of the other

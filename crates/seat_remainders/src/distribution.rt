@@ -9,7 +9,7 @@ use crate::awards::award_seats;
 use crate::contest::Contest;
 use crate::elected::{in_order, push_elected};
 use crate::limits::seats_after;
-use crate::outcome::{Awards, Numbers, Outcome, PartySeatList, PartySeats, Seats};
+use crate::outcome::{Averages, Awards, Numbers, Outcome, PartySeatList, PartySeats, Seats};
 use crate::table::table_of;
 use crate::votes::{first_phase, valid_votes, votes_of};
 use quotients::{party_quotient, quotient};
@@ -18,7 +18,7 @@ use urna_base::Memory;
 
 /// What comes of a contest (arts. 106 to 110; docs/RULES.md, "The seats"): its seats; `NoQuotient` exactly where the electoral quotient
 /// is 0; `Over` exactly where it isn't and the first phase comes to more seats than there are. `Memory` comes only where an allocation
-/// failed.
+/// failed. The seats have the averages that `averages` gives, and none where the first phase leaves no seat.
 ///
 /// The caller owes what `IsContest` says: 1 to 200 seats, parties that rise by number, and at most 10^12 valid votes.
 pub fn distribute(alloc: Global, contest: &Contest) -> Result<Outcome, Memory>
@@ -38,17 +38,18 @@ pub fn distribute(alloc: Global, contest: &Contest) -> Result<Outcome, Memory>
     let left = seats - first as u32;
     let averages = table_of(alloc, contest, qe, 2, &[], left)?;
     let awards = award_seats(alloc, contest, qe, &averages, left)?;
-    let seats = seats_of(alloc, contest, qe, left, awards)?;
+    let seats = seats_of(alloc, contest, qe, left, awards, averages)?;
     Ok(Outcome::Seats(seats))
 }
 
-/// The seats after the awards, where so many were to be given.
+/// The seats after the awards, where so many were to be given, with these averages.
 fn seats_of(
     alloc: Global,
     contest: &Contest,
     qe: u64,
     left: u32,
     awards: Awards,
+    averages: Averages,
 ) -> Result<Seats, Memory>
     requires rising { PartiesRise contest.now.parties }
     requires votes { valid_votes contest.now.parties ≤ 10 ^ 12 }
@@ -60,6 +61,7 @@ fn seats_of(
     ensures parties { IfOk result (λ s. s.parties ≡ map (party_seats qe awards) contest.now.parties) }
     ensures awards { IfOk result (λ s. s.awards ≡ awards) }
     ensures elected { IfOk result (λ s. s.elected ≡ elected_by qe awards contest.now.parties) }
+    ensures averages { IfOk result (λ s. s.averages ≡ averages) }
     ensures vacant { IfOk result (λ s. s.vacant ≡ left - length awards) }
 {
     let mut parties = PartySeatList::new(alloc);
@@ -83,5 +85,6 @@ fn seats_of(
         awards,
         elected,
         vacant,
+        averages,
     })
 }

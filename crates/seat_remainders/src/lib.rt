@@ -4,8 +4,8 @@
 //! The layer above makes a `Contest` of an office's votes and asks `distribute` what comes of it, which `specs/Outcome.antt` says with
 //! `specs/Parties.antt` (the first phase), `specs/Rounds.antt` (the seats that remain) and `specs/Candidates.antt` (the order of
 //! candidates); it asks `averages` for the sorted table that decides the seats of phase 2, which `specs/Table.antt` says, and `majority`
-//! by `specs/Majority.antt`. `laws` says that each contest has one outcome and one table, that its seats add up and are filled, and when
-//! nobody is elected or two go to a second round.
+//! by `specs/Majority.antt`. `laws` says that each contest has one outcome and one table, that the fronts of two such tables are the
+//! rounds, that the seats add up and are filled, and when nobody is elected or two go to a second round.
 #![tactic(auto)]
 
 mod awards;

@@ -86,10 +86,10 @@ pub struct Averages {
 
 impl Model for Averages {
     ghost use Rattle.std.specs.Prelude.{◌<◌, ◌^◌, List, length, map};
-    ghost use Rattle.quotients.specs.Average.{Average};
+    ghost use Rattle.quotients.specs.Average.{AverageData};
     ghost use Rattle.quotients.specs.Order.{parts_of};
 
-    ghost Value = { List Average };
+    ghost Value = { List AverageData };
 
     ghost view = { λ l. map parts_of l.items.items };
 
@@ -260,7 +260,8 @@ impl Numbers {
 }
 
 /// The seats of a contest: the electoral quotient, what each party has, rising by number, the awards of the rounds, the numbers of the
-/// elected, party by party and within a party in the order of candidates, and how many seats stay vacant.
+/// elected, party by party and within a party in the order of candidates, how many seats stay vacant, and the averages by which phase 2
+/// gave its seats, in order.
 #[derive(Debug, Drop)]
 pub struct Seats {
     pub quotient: u64,
@@ -268,6 +269,7 @@ pub struct Seats {
     pub awards: Awards,
     pub elected: Numbers,
     pub vacant: u32,
+    pub averages: Averages,
 }
 
 /// What comes of a contest: its seats; or no quotient, for so few valid votes and so many seats; or a first phase that comes to more

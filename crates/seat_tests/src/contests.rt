@@ -179,13 +179,16 @@ fn each_contest_has_its_outcome(rt: HostRuntime) -> Result<(), Fail> {
     Ok(())
 }
 
-/// Whether a contest gives seats and has these averages.
+/// Whether a contest gives seats and has these averages, by `averages` and behind the seats.
 fn has_averages(alloc: Global, row: &str, expected: &str) -> Result<bool, Memory> {
     match contest_of(alloc, row)? {
         Some(contest) if is_contest(&contest) => match distribute(alloc, &contest)? {
-            Outcome::Seats(_) => {
+            Outcome::Seats(seats) => {
                 let table = averages(alloc, &contest)?;
-                Ok(told_averages(alloc, &table)?.as_str() == expected)
+                Ok(
+                    told_averages(alloc, &table)?.as_str() == expected
+                        && told_averages(alloc, &seats.averages)?.as_str() == expected,
+                )
             }
             _ => Ok(false),
         },

@@ -1,7 +1,7 @@
 use Rattle.std.proofs.Common.{◌++◌, List, take, ap, ◌∙◌}
 use Rattle.seat_remainders.specs.declared.outcome.Award.{Award}
 use Rattle.seat_remainders.specs.Table.{awards_for}
-use Rattle.seat_remainders.proofs.Fronts.{both_taken}
+use Rattle.seat_remainders.proofs.BothTables.{both_taken}
 use Rattle.seat_remainders.proofs.awards.award_seats.Goals as goal
 
 pub returns : goal.returns

@@ -1,4 +1,4 @@
-use Rattle.seat_remainders.proofs.Fronts.{fronts_are_rounds}
+use Rattle.seat_remainders.proofs.BothTables.{fronts_are_rounds}
 use Rattle.seat_remainders.proofs.OneTable.{none_left, one_list}
 use Rattle.seat_remainders.proofs.Rising.{are_rising}
 use Rattle.seat_remainders.specs.Parties.{quotient_of}

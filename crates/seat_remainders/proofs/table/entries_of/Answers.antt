@@ -1,5 +1,5 @@
 use Rattle.std.proofs.Common.{◌++◌, List, ap, ◌∙◌, arith}
-use Rattle.quotients.specs.Average.{Average}
+use Rattle.quotients.specs.Average.{AverageData}
 use Rattle.seat_remainders.specs.Table.{entries_for, limit_of}
 use Rattle.seat_remainders.proofs.MadeTable.{entries_more, few_more, place_below}
 use Rattle.seat_remainders.proofs.table.entries_of.Goals as goal
@@ -13,7 +13,7 @@ loop-party-preserved c =
     let place = place_below c.args.contest.now.parties items c.loop-party.party-index p c.requires.rising c.as_slice-party-items.ensures.items c.loop-party-test.true c.party-item.is in
     record {
       told = c.in_ok-push_entries.ensures.pushed
-          ∙ ap (λ (t : List Average). t ++ entries_for c.args.qe c.args.awards.now limit p) c.loop-party.invariant.told
+          ∙ ap (λ (t : List AverageData). t ++ entries_for c.args.qe c.args.awards.now limit p) c.loop-party.invariant.told
           ∙ entries_more c.args.qe c.args.awards.now limit items c.loop-party.party-index p c.loop-party-test.true c.party-item.is;
       few = omega (arith, c.loop-party.invariant.few, c.requires.within);
       places = omega (arith, c.in_ok-push_entries.ensures.number);

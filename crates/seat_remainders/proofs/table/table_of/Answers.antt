@@ -1,10 +1,10 @@
 use Rattle.std.proofs.Common.{List, subst}
 use Rattle.std.specs.List.Sorted.{IsPermutation}
-use Rattle.quotients.specs.Average.{Average}
+use Rattle.quotients.specs.Average.{AverageData}
 use Rattle.seat_remainders.proofs.TableEntries.{sorted_entries}
 use Rattle.seat_remainders.proofs.Rising.{are_rising}
 use Rattle.seat_remainders.proofs.table.table_of.Goals as goal
 
 pub returns : goal.returns
 returns c =
-    sorted_entries c.args.qe c.args.awards.now _ c.args.contest.now.parties _ (are_rising _ c.requires.rising) (subst (λ (l : List Average). IsPermutation l c.in_ok-averages.averages) c.in_ok-entries.ensures.entries c.in_ok-averages.ensures.same) c.in_ok-averages.ensures.sorted
+    sorted_entries c.args.qe c.args.awards.now _ c.args.contest.now.parties _ (are_rising _ c.requires.rising) (subst (λ (l : List AverageData). IsPermutation l c.in_ok-averages.averages) c.in_ok-entries.ensures.entries c.in_ok-averages.ensures.same) c.in_ok-averages.ensures.sorted

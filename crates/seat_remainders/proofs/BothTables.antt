@@ -5,7 +5,7 @@ use Rattle.std.proofs.lemmas.Bool.{cases_Bool, cases_lt, ltb-true, ltb-false}
 use Rattle.std.proofs.lemmas.List.{length-map, length-take, map_more, take_all}
 use Rattle.std.proofs.lemmas.List.Sums.{sum_by-append}
 use Rattle.std.proofs.lemmas.Option.{get_or_from_slice_get, slice_get_within}
-use Rattle.quotients.specs.Average.{Average}
+use Rattle.quotients.specs.Average.{AverageData}
 use Rattle.seat_remainders.specs.declared.contest.Contestant.{Contestant}
 use Rattle.seat_remainders.specs.declared.outcome.Award.{Award}
 use Rattle.seat_remainders.specs.Contest.{PartiesRise}
@@ -64,20 +64,20 @@ follows_append : (qe : ℕ) (parties : List Contestant) (before a b : List Award
 follows_append qe parties before [] b f g = subst (λ (t : List Award). EachFollows qe parties t b) (append-nil before) g
 follows_append qe parties before (w ∷ a) b f g = (f.0, follows_append qe parties (before ++ w ∷ []) a b f.1 (subst (λ (t : List Award). EachFollows qe parties t b) (moved_on before a w) g))
 
-awards-length : (phase n : ℕ) (table : List Average) → length (awards_for phase (take n table)) ≡ min n (length table)
+awards-length : (phase n : ℕ) (table : List AverageData) → length (awards_for phase (take n table)) ≡ min n (length table)
 awards-length phase n table = length-map (take n table) (λ a. record { phase = phase; party = a.party }) ∙ length-take n table
 
 -- Both tables
 
--- a table that has no more averages than seats remain is taken whole
-none_in_two : (qe : ℕ) (parties : List Contestant) (left : ℕ) (two : List Average) → 1 ≤ qe → AreRising parties → IsTable qe parties [] (limit_of qe 2 [] left) two → length two < left
+-- where it has fewer averages than seats remain, all are taken, and then nobody is eligible in phase 2
+none_in_two : (qe : ℕ) (parties : List Contestant) (left : ℕ) (two : List AverageData) → 1 ≤ qe → AreRising parties → IsTable qe parties [] (limit_of qe 2 [] left) two → length two < left
     → AllByRecursion (λ p. is_eligible qe (awards_for 2 (take left two)) 2 p ≡ false) parties
 none_in_two qe parties left two some rising table short =
-    subst (λ (t : List Average). AllByRecursion (λ p. is_eligible qe (awards_for 2 t) 2 p ≡ false) parties) (sym (take_all left two (omega arith)))
+    subst (λ (t : List AverageData). AllByRecursion (λ p. is_eligible qe (awards_for 2 t) 2 p ≡ false) parties) (sym (take_all left two (omega arith)))
     (front_ends qe 2 parties left [] (limit_of qe 2 [] left) two some rising table (limit_fits qe 2 parties [] left) short)
 
 -- where seats remain after the front of the table of phase 2, the rounds that follow are the front of that of phase 3
-third_follows : (qe : ℕ) (parties : List Contestant) (left : ℕ) (two three : List Average) → 1 ≤ qe → AreRising parties → IsTable qe parties [] (limit_of qe 2 [] left) two
+third_follows : (qe : ℕ) (parties : List Contestant) (left : ℕ) (two three : List AverageData) → 1 ≤ qe → AreRising parties → IsTable qe parties [] (limit_of qe 2 [] left) two
     → (rest : ℕ) → rest ≡ left - length (awards_for 2 (take left two)) → IsTable qe parties (awards_for 2 (take left two)) (limit_of qe 3 (awards_for 2 (take left two)) rest) three
     → EachFollows qe parties (awards_for 2 (take left two)) (awards_for 3 (take rest three))
 third_follows qe parties left two three some rising table zero is next = tt
@@ -88,7 +88,7 @@ third_follows qe parties left two three some rising table (suc rest) is next =
     front_follows qe 3 parties (suc rest) before (limit_of qe 3 before (suc rest)) three some rising (three_stays qe parties before none) next (limit_fits qe 3 parties before (suc rest))
 
 -- a seat stays vacant only where nobody is left
-third_ends : (qe : ℕ) (parties : List Contestant) (left : ℕ) (two three : List Average) → 1 ≤ qe → AreRising parties → IsTable qe parties [] (limit_of qe 2 [] left) two
+third_ends : (qe : ℕ) (parties : List Contestant) (left : ℕ) (two three : List AverageData) → 1 ≤ qe → AreRising parties → IsTable qe parties [] (limit_of qe 2 [] left) two
     → (rest : ℕ) → rest ≡ left - length (awards_for 2 (take left two)) → IsTable qe parties (awards_for 2 (take left two)) (limit_of qe 3 (awards_for 2 (take left two)) rest) three
     → length three < rest → NobodyLeft qe parties (awards_for 2 (take left two) ++ awards_for 3 (take rest three))
 third_ends qe parties left two three some rising table rest is next fewer =
@@ -97,13 +97,13 @@ third_ends qe parties left two three some rising table rest is next fewer =
     let none = none_in_two qe parties left two some rising table (omega arith) in
     let whole : take rest three ≡ three = take_all rest three (omega arith) in
     let ends = front_ends qe 3 parties rest before (limit_of qe 3 before rest) three some rising next (limit_fits qe 3 parties before rest) fewer in
-    let nobody = subst (λ (t : List Average). AllByRecursion (λ p. is_eligible qe (before ++ awards_for 3 t) 3 p ≡ false) parties) (sym whole) ends in
+    let nobody = subst (λ (t : List AverageData). AllByRecursion (λ p. is_eligible qe (before ++ awards_for 3 t) 3 p ≡ false) parties) (sym whole) ends in
     let awards = before ++ awards_for 3 (take rest three) in
     let phase = no_phase_two qe parties awards (all_of_members (λ p. is_eligible qe awards 2 p ≡ false) parties (λ p at.
     never_again qe 2 p before (awards_for 3 (take rest three)) (of_member (λ p. is_eligible qe before 2 p ≡ false) parties p none at))) in
     subst (λ (f : ℕ). AllByRecursion (λ p. is_eligible qe awards f p ≡ false) parties) (sym phase) nobody
 
-pub fronts_are_rounds : (qe : ℕ) (parties : List Contestant) (left : ℕ) (two three : List Average) → 1 ≤ qe → AreRising parties → IsTable qe parties [] (limit_of qe 2 [] left) two
+pub fronts_are_rounds : (qe : ℕ) (parties : List Contestant) (left : ℕ) (two three : List AverageData) → 1 ≤ qe → AreRising parties → IsTable qe parties [] (limit_of qe 2 [] left) two
     → IsTable qe parties (awards_for 2 (take left two)) (limit_of qe 3 (awards_for 2 (take left two)) (left - length (awards_for 2 (take left two)))) three
     → AreRounds qe parties left (awards_of left two three) (left - length (awards_of left two three))
 fronts_are_rounds qe parties left two three some rising table next =
@@ -122,25 +122,25 @@ fronts_are_rounds qe parties left two three some rising table next =
 
 -- As the code takes them
 
-pub pushed_award : (old now : List Award) (phase : ℕ) (averages : List Average) (i : ℕ) (a : Average) (party : ℕ) → now ≡ old ++ awards_for phase (take i averages) → slice_get averages i ≡ Some a → party ≡ a.party
+pub pushed_award : (old now : List Award) (phase : ℕ) (averages : List AverageData) (i : ℕ) (a : AverageData) (party : ℕ) → now ≡ old ++ awards_for phase (take i averages) → slice_get averages i ≡ Some a → party ≡ a.party
     → now ++ (record { phase = phase; party = party }) ∷ [] ≡ old ++ awards_for phase (take (i + 1) averages)
 pushed_award old now phase averages i a party so_far at named =
-    let award : Average → Award = λ b. record { phase = phase; party = b.party } in
+    let award : AverageData → Award = λ b. record { phase = phase; party = b.party } in
     let here : get_or averages i a ≡ a = get_or_from_slice_get averages i a a at in
     let one : award a ≡ record { phase = phase; party = party } = ap (λ (n : ℕ). let w : Award = record { phase = phase; party = n } in w) (sym named) in
     ap (λ (l : List Award). l ++ (record { phase = phase; party = party }) ∷ []) so_far
     ∙ append_assoc old (awards_for phase (take i averages)) ((record { phase = phase; party = party }) ∷ [])
     ∙ ap (λ (w : Award). old ++ (awards_for phase (take i averages) ++ w ∷ [])) (sym one)
-    ∙ ap (λ (b : Average). old ++ (awards_for phase (take i averages) ++ award b ∷ [])) (sym here)
+    ∙ ap (λ (b : AverageData). old ++ (awards_for phase (take i averages) ++ award b ∷ [])) (sym here)
     ∙ ap (λ (l : List Award). old ++ l) (sym (map_more award averages i a (slice_get_within averages i a at)))
 
-pub all_taken : (averages : List Average) (i seats : ℕ) → i ≡ min (length averages) seats → take i averages ≡ take seats averages
+pub all_taken : (averages : List AverageData) (i seats : ℕ) → i ≡ min (length averages) seats → take i averages ≡ take seats averages
 all_taken averages i seats is = elim (cases_lt (length averages) seats) [
   | inl lt ↦ take_all i averages (omega arith) ∙ sym (take_all seats averages (omega arith))
   | inr le ↦ let e : i ≡ seats = omega arith in ap (λ (n : ℕ). take n averages) e
 ]
 
-pub both_taken : (qe : ℕ) (parties : List Contestant) (left n : ℕ) (two three : List Average) (before slice awards : List Award) → 1 ≤ qe → PartiesRise parties → IsTable qe parties [] (limit_of qe 2 [] left) two
+pub both_taken : (qe : ℕ) (parties : List Contestant) (left n : ℕ) (two three : List AverageData) (before slice awards : List Award) → 1 ≤ qe → PartiesRise parties → IsTable qe parties [] (limit_of qe 2 [] left) two
     → before ≡ awards_for 2 (take left two) → slice ≡ before → n ≡ length before → IsTable qe parties slice (limit_of qe 3 slice (left - n)) three → awards ≡ before ++ awards_for 3 (take (left - n) three)
     → AreRounds qe parties left awards (left - length awards)
 both_taken qe parties left n two three before slice awards some rise table is same count next told =
