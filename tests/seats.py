@@ -34,17 +34,22 @@ class Party:
         return (-Fraction(self.votes, self.seats + 1), -self.votes, self.number)
 
 
-def outcome(contest):
+def first_phase(contest):
+    """The seats of a contest, its parties with those of the first phase, and the electoral quotient."""
     told, *parties = contest.split(", ")
     seats, parties = int(told.split()[0]), [Party(party) for party in parties]
-    valid = sum(party.votes for party in parties)
     # The nearest whole number, the lower one at a half.
-    quotient = -((seats - 2 * valid) // (2 * seats))
-    if quotient == 0:
-        return f"no quotient {valid} {seats}"
-    for party in parties:
+    quotient = -((seats - 2 * sum(party.votes for party in parties)) // (2 * seats))
+    for party in parties if quotient else []:
         able = sum(-nominal >= Fraction(quotient, 10) for nominal, _, _ in party.candidates)
         party.seats = min(party.votes // quotient, able)
+    return seats, parties, quotient
+
+
+def outcome(contest):
+    seats, parties, quotient = first_phase(contest)
+    if quotient == 0:
+        return f"no quotient {sum(party.votes for party in parties)} {seats}"
     first = sum(party.seats for party in parties)
     if first > seats:
         return f"over {first} {seats}"
@@ -66,14 +71,8 @@ def outcome(contest):
 
 def averages(contest):
     """The averages that the seats of the second phase are taken from, each as votes/divisor>party."""
-    told, *parties = contest.split(", ")
-    seats, parties = int(told.split()[0]), [Party(party) for party in parties]
-    quotient = -((seats - 2 * sum(party.votes for party in parties)) // (2 * seats))
-    table = []
-    for party in parties:
-        able = sum(-nominal >= Fraction(quotient, 10) for nominal, _, _ in party.candidates)
-        party.seats = min(party.votes // quotient, able)
-    left = seats - sum(party.seats for party in parties)
+    seats, parties, quotient = first_phase(contest)
+    table, left = [], seats - sum(party.seats for party in parties)
     for party in parties:
         if party.votes >= Fraction(4 * quotient, 5):
             most = sum(-nominal >= Fraction(quotient, 5) for nominal, _, _ in party.candidates)
