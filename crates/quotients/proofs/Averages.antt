@@ -1,11 +1,11 @@
 -- Averages stand in one strict order.
-use Rattle.std.proofs.Common.{◌≡◌, ℕ, ◌*◌, ◌<◌, ◌≤◌, ◌⊎◌, Bool, true, false, ◌&&◌, ◌||◌, nat_lt, ◌==◌, inl, inr, ap, ◌∙◌, subst, arith}
-use Rattle.std.proofs.lemmas.Bool.{cases_eq, false_from_ne_true}
+use Rattle.std.proofs.Common.{◌≡◌, ℕ, ◌*◌, ◌<◌, ◌≤◌, ◌⊎◌, Bool, true, false, ◌&&◌, ◌||◌, nat_lt, ◌==◌, inl, inr, sym, ap, ◌∙◌, subst, arith}
+use Rattle.std.proofs.lemmas.Bool.{cases_eq, false_from_ne_true, lt-ltb}
 use Rattle.std.proofs.lemmas.Bool.Decides.{nat_tests}
 use Rattle.std.proofs.Math.Nat.{mul-lt-mul_of_pos_left}
 use Rattle.std.specs.Ordering.{nat_cmp, is_lt, ordering_then}
 use Rattle.quotients.specs.declared.average.Average.{Average}
-use Rattle.quotients.specs.Average.{AverageData, comes_before}
+use Rattle.quotients.specs.Average.{AverageData, is_greater, comes_before}
 use Rattle.quotients.specs.Order.{parts_of, average_cmp}
 use Rattle.quotients.specs.Products.{products_le, products_lt_left, products_lt_right}
 
@@ -85,9 +85,17 @@ order_at x y va vb pa pb da db = grind (arith, nat_tests)
 pub is_order_of_law : (a b : Average) → is_lt (average_cmp a b) ≡ comes_before (parts_of a) (parts_of b)
 is_order_of_law a b = order_at (a.votes * b.divisor) (b.votes * a.divisor) a.votes b.votes a.party b.party a.divisor b.divisor
 
+-- The averages of a party fall
+
+pub falls_with : (a b : AverageData) → 1 ≤ a.votes → a.votes ≡ b.votes → a.divisor < b.divisor → is_greater a b ≡ true
+falls_with a b some same lt =
+    let less = mul-lt-mul_of_pos_left lt some in
+    let products : b.votes * a.divisor ≡ a.votes * a.divisor = ap (λ v. v * a.divisor) (sym same) in
+    lt-ltb (b.votes * a.divisor) (a.votes * b.divisor) (omega arith)
+
 -- For the crates above
 
--- the averages of a party with a vote fall as its divisor grows
+-- so its average over a lower divisor comes first
 pub falls : (votes party d e : ℕ) → 1 ≤ votes → d < e → comes_before (record { votes = votes; divisor = d; party = party }) (record { votes = votes; divisor = e; party = party }) ≡ true
 falls votes party d e some lt = to_test (votes * e) (votes * d) votes votes party party d e (inl (mul-lt-mul_of_pos_left lt some))
 

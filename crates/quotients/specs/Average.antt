@@ -1,7 +1,7 @@
 -- Averages (art. 109, I) and their order
 use Rattle.std.specs.Prelude.{ℕ, ◌*◌, Bool, nat_lt, ◌==◌, ◌&&◌, ◌||◌}
 
--- the average of a party: its valid votes over a divisor, which is its seats so far plus one
+-- an average of a party: its valid votes over a divisor; its next average is that over its seats so far plus one
 pub record AverageData : Type 0 where
   pub votes : ℕ
   pub divisor : ℕ

@@ -3,7 +3,7 @@ use Rattle.std.specs.Prelude.{◌≡◌, ℕ, ◌+◌, ◌*◌, ◌≤◌, ◌<�
 use Rattle.quotients.specs.Quotients.{electoral_quotient}
 use Rattle.std.specs.Ordering.{is_lt}
 use Rattle.quotients.specs.declared.average.Average.{Average}
-use Rattle.quotients.specs.Average.{AverageData, comes_before}
+use Rattle.quotients.specs.Average.{AverageData, is_greater, comes_before}
 use Rattle.quotients.specs.Order.{parts_of, average_cmp}
 
 -- a whole number is nearest to votes over seats, and of two that are equally near it is the lower one
@@ -34,3 +34,7 @@ ComesBeforeAllBehind = (a b c : AverageData) → 1 ≤ a.divisor → 1 ≤ b.div
 -- and that is the order of the type `Average`
 abbrev pub TypeIsInOrder : Type 0
 TypeIsInOrder = (a b : Average) → is_lt (average_cmp a b) ≡ comes_before (parts_of a) (parts_of b)
+
+-- a party's average falls as its divisor grows: of two averages of the same votes, at least one, that over the lower divisor is greater
+abbrev pub FallsAsDivisorGrows : Type 0
+FallsAsDivisorGrows = (a b : AverageData) → 1 ≤ a.votes → a.votes ≡ b.votes → a.divisor < b.divisor → is_greater a b ≡ true

@@ -13,6 +13,10 @@ parts_of a = record { votes = a.votes; divisor = a.divisor; party = a.party }
 abbrev pub quotient_cmp : Average → Average → Ordering
 quotient_cmp a b = nat_cmp (b.votes * a.divisor) (a.votes * b.divisor)
 
--- then more votes, the lower party, the lower divisor
+-- of equal quotients more votes, then the lower party, then the lower divisor
+abbrev pub equal_cmp : Average → Average → Ordering
+equal_cmp = then_cmp (flip_args (on (λ a. a.votes) nat_cmp)) (then_cmp (on (λ a. a.party) nat_cmp) (on (λ a. a.divisor) nat_cmp))
+
+-- both
 abbrev pub average_cmp : Average → Average → Ordering
-average_cmp = then_cmp quotient_cmp (then_cmp (flip_args (on (λ a. a.votes) nat_cmp)) (then_cmp (on (λ a. a.party) nat_cmp) (on (λ a. a.divisor) nat_cmp)))
+average_cmp = then_cmp quotient_cmp equal_cmp

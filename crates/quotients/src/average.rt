@@ -1,5 +1,5 @@
 //! An average: the valid votes of a party over a divisor.
-ghost use Rattle.std.specs.Prelude.{◌≡◌, ◌≤◌};
+ghost use Rattle.std.specs.Prelude.{◌≡◌, ◌*◌, ◌≤◌};
 
 /// The average of a party (art. 109, I): its valid votes over a divisor, which is at least 1. Two averages are equal where all three parts
 /// are. Their order is that in which they take seats.
@@ -46,5 +46,12 @@ impl Average {
         ensures { result ≡ self.now.party }
     {
         self.party
+    }
+
+    /// Its votes times the divisor of another average. Of two averages the one with the greater such product is the greater.
+    pub(crate) fn product(&self, other: &Average) -> u128
+        ensures { result ≡ self.now.votes * other.now.divisor }
+    {
+        u128::from(self.votes) * u128::from(other.divisor)
     }
 }

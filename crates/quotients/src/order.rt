@@ -1,9 +1,10 @@
 //! The order of averages.
 ghost use Rattle.std.proofs.Common.{rules};
+ghost use Rattle.std.specs.Prelude.{◌≡◌};
 ghost use Rattle.std.specs.Cmp.{partial_order_from_own_ties, partial_order_from_total};
 ghost use Rattle.std.specs.Cmp.Rules.{comparing};
 ghost use Rattle.std.specs.Ordering.{as_partial_cmp};
-ghost use Rattle.quotients.specs.Order.{average_cmp};
+ghost use Rattle.quotients.specs.Order.{average_cmp, equal_cmp};
 ghost use Rattle.quotients.specs.OrderLaws.{average_total};
 
 use crate::average::Average;
@@ -21,14 +22,21 @@ impl Ord for Average {
     ghost matches_eq = { Prim.search (comparing, rules) };
 
     fn cmp(&self, other: &Average) -> Ordering {
-        let own = u128::from(self.votes()) * u128::from(other.divisor());
-        let others = u128::from(other.votes()) * u128::from(self.divisor());
-        others
-            .cmp(&own)
-            .then(other.votes().cmp(&self.votes()))
-            .then(self.party().cmp(&other.party()))
-            .then(self.divisor().cmp(&other.divisor()))
+        match other.product(self).cmp(&self.product(other)) {
+            Ordering::Equal => cmp_equal(self, other),
+            unequal => unequal,
+        }
     }
+}
+
+/// The order of two averages whose quotients are equal.
+fn cmp_equal(a: &Average, b: &Average) -> Ordering
+    ensures { result ≡ equal_cmp a.now b.now }
+{
+    let more_votes = b.votes().cmp(&a.votes());
+    let lower_party = a.party().cmp(&b.party());
+    let lower_divisor = a.divisor().cmp(&b.divisor());
+    more_votes.then(lower_party).then(lower_divisor)
 }
 
 impl PartialOrd for Average {

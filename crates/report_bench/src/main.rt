@@ -1,10 +1,13 @@
-//! Reads, writes or hashes the field text or the file of a report some times, or offers many reports, for `make bench`.
+//! Reads, writes or hashes the field text or the file of a report some times, offers many reports, or gives the seats of a contest, for
+//! `make bench`.
 //!
-//! The words are WORK FILE TIMES, `confere` FILE TABLES TIMES, or `totaliza` TEXTS TABLES. `le` reads the text of the file TIMES times,
-//! `escreve` reads it once and writes its report TIMES times, and `hash` takes the SHA-512 of its bytes TIMES times. `junta` joins the
-//! parts of the file TIMES times, `parte` joins them once and makes them TIMES times, and `confere` checks the file by the tables TIMES
-//! times. It prints a sum over what was made each time. `totaliza` makes the files of the reports whose texts stand in the lines of TEXTS,
-//! hashes them, offers them in order and gives the seats of the first office, and tells each step as it is done.
+//! The words are WORK FILE TIMES, `confere` FILE TABLES TIMES, `totaliza` TEXTS TABLES, or `cadeiras` CONTEST TIMES. `le` reads the text
+//! of the file TIMES times, `escreve` reads it once and writes its report TIMES times, and `hash` takes the SHA-512 of its bytes TIMES
+//! times. `junta` joins the parts of the file TIMES times, `parte` joins them once and makes them TIMES times, and `confere` checks the
+//! file by the tables TIMES times. It prints a sum over what was made each time. `totaliza` makes the files of the reports whose texts
+//! stand in the lines of TEXTS, hashes them, offers them in order and gives the seats of the first office, and tells each step as it is
+//! done. `cadeiras` gives the 200 seats of the contest whose parties stand in the lines of CONTEST TIMES times, plays its rounds as often,
+//! and sorts as many numbers as its table has averages, and as many pairs of them, as often; it tells each of these works too.
 //!
 //! Its status is 0 where each time or step went well, 1 where one did not, and 3 where the words are others.
 #![tactic(auto)]
@@ -15,12 +18,14 @@ ghost use Rattle.hash_chain.specs.Fault.{AreFields};
 ghost use Rattle.poll_report.specs.Report.{IsReport};
 
 mod reports;
+mod seats;
 
 use election_tables::Tables;
 use hash_chain::{join_parts, make_parts};
 use poll_report::Report;
 use qr_text::{read_fields, write_fields};
 use reports::tell_reports;
+use seats::tell_contest;
 use section_intake::{Verdict, check};
 use sha2::{Digest, Sha512};
 use std::alloc::Global;
@@ -179,6 +184,15 @@ fn check_status(rt: &HostRuntime, name: &str, tables: &str, times: &str) -> io::
     }
 }
 
+/// The seats of the contest in the file of this name are given.
+fn seats_status(rt: &HostRuntime, name: &str, times: &str) -> io::Result<u8> {
+    let Some(times) = decimal(times.as_bytes()) else {
+        return Ok(3);
+    };
+    let well = tell_contest(rt, name, times)?;
+    Ok(if well { 0 } else { 1 })
+}
+
 /// The work of this name is done with the file.
 fn work_status(rt: &HostRuntime, work: &str, name: &str, times: &str) -> io::Result<u8> {
     let (Some(work), Some(times)) = (work_of(work), decimal(times.as_bytes())) else {
@@ -202,6 +216,7 @@ fn status(rt: &HostRuntime) -> io::Result<u8> {
             let well = tell_reports(rt, name.as_str(), third.as_str())?;
             Ok(if well { 0 } else { 1 })
         }
+        None if work.as_str() == "cadeiras" => seats_status(rt, name.as_str(), third.as_str()),
         None => work_status(rt, work.as_str(), name.as_str(), third.as_str()),
     }
 }

@@ -74,7 +74,7 @@ fn are_accepted(tables: &Tables, intake: &mut Intake, files: &[Vec<u8>]) -> bool
 }
 
 /// Prints a step that is done, and the time of the processor so far: its seconds, and the nanoseconds beyond them.
-fn tell(rt: &HostRuntime, step: &str) -> io::Result<()> {
+pub(crate) fn tell(rt: &HostRuntime, step: &str) -> io::Result<()> {
     let time = rt.thread_cpu_time()?;
     println!(rt; "{} {} {}", step, time.as_secs(), time.subsec_nanos())
 }

@@ -13,7 +13,7 @@ use Rattle.seat_remainders.specs.Rounds.{seats_after, meets_minimums, is_eligibl
 use Rattle.seat_remainders.specs.Table.{most_seats, limit_of, IsTable, awards_for, awards_of}
 use Rattle.seat_remainders.proofs.Awarded.{moved_on}
 use Rattle.seat_remainders.proofs.Eligible.{eligible_below}
-use Rattle.seat_remainders.proofs.Front.{LeavesRoom, StaysInPhase, front_follows, front_ends}
+use Rattle.seat_remainders.proofs.Front.{LeavesRoom, StaysInPhase, front_follows, front_ends, TakesNext, next_takes}
 use Rattle.seat_remainders.proofs.Lists.{of_member, all_of_members, any_of_member, none_by_recursion}
 use Rattle.seat_remainders.proofs.Rising.{AreRising, are_rising, one_if}
 
@@ -69,8 +69,13 @@ awards-length phase n table = length-map (take n table) (λ a. record { phase = 
 
 -- Both tables
 
+pub next_of_table : (qe phase left : ℕ) (parties : List Contestant) (before : List Award) (front : List AverageData) (a : AverageData) (behind : List AverageData) → 1 ≤ qe → PartiesRise parties
+    → IsTable qe parties before (limit_of qe phase before left) (front ++ a ∷ behind) → length front < left → TakesNext qe phase parties a (before ++ awards_for phase front)
+next_of_table qe phase left parties before front a behind some rise table short =
+    next_takes qe phase parties left before (limit_of qe phase before left) front a behind some (are_rising parties rise) table (limit_fits qe phase parties before left) short
+
 -- where it has fewer averages than seats remain, all are taken, and then nobody is eligible in phase 2
-none_in_two : (qe : ℕ) (parties : List Contestant) (left : ℕ) (two : List AverageData) → 1 ≤ qe → AreRising parties → IsTable qe parties [] (limit_of qe 2 [] left) two → length two < left
+pub none_in_two : (qe : ℕ) (parties : List Contestant) (left : ℕ) (two : List AverageData) → 1 ≤ qe → AreRising parties → IsTable qe parties [] (limit_of qe 2 [] left) two → length two < left
     → AllByRecursion (λ p. is_eligible qe (awards_for 2 (take left two)) 2 p ≡ false) parties
 none_in_two qe parties left two some rising table short =
     subst (λ (t : List AverageData). AllByRecursion (λ p. is_eligible qe (awards_for 2 t) 2 p ≡ false) parties) (sym (take_all left two (omega arith)))
@@ -103,13 +108,16 @@ third_ends qe parties left two three some rising table rest is next fewer =
     never_again qe 2 p before (awards_for 3 (take rest three)) (of_member (λ p. is_eligible qe before 2 p ≡ false) parties p none at))) in
     subst (λ (f : ℕ). AllByRecursion (λ p. is_eligible qe awards f p ≡ false) parties) (sym phase) nobody
 
+pub phase_two_follows : (qe : ℕ) (parties : List Contestant) (left : ℕ) (two : List AverageData) → 1 ≤ qe → AreRising parties → IsTable qe parties [] (limit_of qe 2 [] left) two → EachFollows qe parties [] (awards_for 2 (take left two))
+phase_two_follows qe parties left two some rising table = front_follows qe 2 parties left [] (limit_of qe 2 [] left) two some rising (two_stays qe parties []) table (limit_fits qe 2 parties [] left)
+
 pub fronts_are_rounds : (qe : ℕ) (parties : List Contestant) (left : ℕ) (two three : List AverageData) → 1 ≤ qe → AreRising parties → IsTable qe parties [] (limit_of qe 2 [] left) two
     → IsTable qe parties (awards_for 2 (take left two)) (limit_of qe 3 (awards_for 2 (take left two)) (left - length (awards_for 2 (take left two)))) three
     → AreRounds qe parties left (awards_of left two three) (left - length (awards_of left two three))
 fronts_are_rounds qe parties left two three some rising table next =
     let before = awards_for 2 (take left two) in
     let rest = left - length before in
-    let one = front_follows qe 2 parties left [] (limit_of qe 2 [] left) two some rising (two_stays qe parties []) table (limit_fits qe 2 parties [] left) in
+    let one = phase_two_follows qe parties left two some rising table in
     let more = third_follows qe parties left two three some rising table rest refl next in
     let len_two = awards-length 2 left two in
     let len_three = awards-length 3 rest three in
@@ -139,6 +147,18 @@ all_taken averages i seats is = elim (cases_lt (length averages) seats) [
   | inl lt ↦ take_all i averages (omega arith) ∙ sym (take_all seats averages (omega arith))
   | inr le ↦ let e : i ≡ seats = omega arith in ap (λ (n : ℕ). take n averages) e
 ]
+
+-- where the table of phase 2 has all seats that remain, its front is all rounds
+pub first_enough : (qe : ℕ) (parties : List Contestant) (left : ℕ) (two : List AverageData) (awards : List Award) → 1 ≤ qe → PartiesRise parties → IsTable qe parties [] (limit_of qe 2 [] left) two
+    → awards ≡ awards_for 2 (take left two) → left - length awards ≡ 0 → AreRounds qe parties left awards (left - length awards)
+first_enough qe parties left two awards some rise table is none =
+    let len = awards-length 2 left two in
+    let told = ap length is in
+    record {
+      each = subst (λ (l : List Award). EachFollows qe parties [] l) (sym is) (phase_two_follows qe parties left two some (are_rising parties rise) table);
+      all = omega arith;
+      vacant_only = λ h. absurd (omega arith);
+    }
 
 pub both_taken : (qe : ℕ) (parties : List Contestant) (left n : ℕ) (two three : List AverageData) (before slice awards : List Award) → 1 ≤ qe → PartiesRise parties → IsTable qe parties [] (limit_of qe 2 [] left) two
     → before ≡ awards_for 2 (take left two) → slice ≡ before → n ≡ length before → IsTable qe parties slice (limit_of qe 3 slice (left - n)) three → awards ≡ before ++ awards_for 3 (take (left - n) three)

@@ -108,7 +108,7 @@ have_divisors : (xs : List AverageData) → ((a : AverageData) → Contains xs a
 have_divisors [] h = tt
 have_divisors (a ∷ xs) h = (h a (contains_first a a xs refl), have_divisors xs (λ b at. h b (contains_there a b xs at)))
 
-computed_is : (qe : ℕ) (before : List Award) (limit : Contestant → ℕ) (parties : List Contestant) → IsTable qe parties before limit (averages_in_order (entries_of qe before limit parties))
+pub computed_is : (qe : ℕ) (before : List Award) (limit : Contestant → ℕ) (parties : List Contestant) → IsTable qe parties before limit (averages_in_order (entries_of qe before limit parties))
 computed_is qe before limit parties =
     let entries = entries_of qe before limit parties in
     record {

@@ -219,3 +219,25 @@ front_ends qe phase parties (suc left) before limit [] some rising is room short
 front_ends qe phase parties (suc left) before limit (e ∷ rest) some rising is room short =
     subst (λ (t : List Award). AllByRecursion (λ p. is_eligible qe t phase p ≡ false) parties) (append_assoc before _ (awards_for phase rest))
     (front_ends qe phase parties left (and_then phase before e) limit rest some rising (table_left qe phase parties before left limit e rest some rising is room) (room_left qe phase parties before left limit e room) (omega arith))
+
+-- Each entry in its turn
+
+-- an entry is the next average of a party, and takes the next seat for it
+abbrev pub TakesNext : ℕ → ℕ → List Contestant → AverageData → List Award → Type 0
+TakesNext qe phase parties a before = next_phase qe before parties ≡ phase → (p : Contestant) × (a ≡ average_of qe before p) × TakesSeat qe parties before (record { phase = phase; party = a.party }) p
+
+pub next_takes : (qe phase : ℕ) (parties : List Contestant) (left : ℕ) (before : List Award) (limit : Contestant → ℕ) (front : List AverageData) (a : AverageData) (behind : List AverageData) → 1 ≤ qe → AreRising parties
+    → IsTable qe parties before limit (front ++ a ∷ behind) → LeavesRoom qe phase parties before left limit → length front < left → TakesNext qe phase parties a (before ++ awards_for phase front)
+next_takes qe phase parties zero before limit front a behind some rising table room short = absurd (omega arith)
+next_takes qe phase parties (suc left) before limit [] a behind some rising table room short =
+    subst (λ (t : List Award). TakesNext qe phase parties a t) (sym (append-nil before)) (λ is.
+    let entry = table.only a (contains_first a a behind refl) in
+    let next = front_is_next qe phase parties before left limit a behind some table room entry in (
+      entry.party,
+      entry.is ∙ ap (λ (d : ℕ). average_over entry.party d) next,
+      front_takes qe phase parties before left limit a behind some is table room entry,
+    ))
+next_takes qe phase parties (suc left) before limit (e ∷ front) a behind some rising table room short =
+    subst (λ (t : List Award). TakesNext qe phase parties a t) (append_assoc before _ (awards_for phase front))
+    (next_takes qe phase parties left (and_then phase before e) limit front a behind some rising (table_left qe phase parties before left limit e (front ++ a ∷ behind) some rising table room)
+    (room_left qe phase parties before left limit e room) (omega arith))

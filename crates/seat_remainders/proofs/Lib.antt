@@ -15,6 +15,8 @@ pub mod Front
 pub mod BothTables
 pub mod Winner
 pub mod OneOutcome
+pub mod AwardsInTable
+pub mod Standings
 pub mod Results
 pub mod Majorities
 mod Rows

@@ -1,7 +1,7 @@
 -- The entries of the table as the code makes them
-use Rattle.std.proofs.Common.{◌≡◌, ℕ, zero, suc, ◌+◌, ◌-◌, ◌≤◌, ◌<◌, ◌⊎◌, min, List, [], ◌∷◌, ◌++◌, length, map, take, get_or, inl, inr, refl, sym, ap, ◌∙◌, append-nil, append_assoc, length-append, arith}
+use Rattle.std.proofs.Common.{◌≡◌, ℕ, zero, suc, ◌+◌, ◌-◌, ◌≤◌, ◌<◌, ◌⊎◌, min, List, [], ◌∷◌, ◌++◌, length, map, take, get_or, inl, inr, sym, ap, ◌∙◌, append-nil, append_assoc, arith}
 use Rattle.std.specs.List.{AllByRecursion}
-use Rattle.std.proofs.lemmas.List.{map-append, length-map, take_more}
+use Rattle.std.proofs.lemmas.List.{map-append, take_more}
 use Rattle.std.proofs.lemmas.List.Concat.{flat_map-append}
 use Rattle.quotients.specs.Average.{AverageData}
 use Rattle.quotients.specs.Order.{parts_of}
@@ -64,22 +64,6 @@ entries_more qe before limit parties i p lt is =
     ∙ flat_map-append (entries_for qe before limit) (take i parties) (get_or parties i p ∷ [])
     ∙ ap (λ (t : List AverageData). entries_of qe before limit (take i parties) ++ t) (append-nil (entries_for qe before limit (get_or parties i p)))
     ∙ ap (λ (c : Contestant). entries_of qe before limit (take i parties) ++ entries_for qe before limit c) (sym is))
-
--- How many there are
-
-length-from : (p : Contestant) (d n : ℕ) → length (averages_from p d n) ≡ n
-length-from p d zero = refl
-length-from p d (suc n) = let more = length-from p (d + 1) n in omega arith
-
-pub few_more : (qe phase left : ℕ) (before : List Award) (old items : List Average) (p : Contestant) → map parts_of items ≡ map parts_of old ++ entries_for qe before (limit_of qe phase before left) p
-    → length items ≤ length old + left
-few_more qe phase left before old items p is =
-    let one = length-map items parts_of in
-    let two = length-map old parts_of in
-    let both = length-append (map parts_of old) (entries_for qe before (limit_of qe phase before left) p) in
-    let told = ap length is in
-    let few = length-from p (seats_after qe before p + 1) (limit_of qe phase before left p - seats_after qe before p) in
-    omega arith
 
 -- parties that rise have numbers of at least their places
 

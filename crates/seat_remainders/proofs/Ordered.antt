@@ -4,8 +4,9 @@ use Rattle.std.specs.List.{AllByRecursion, list_any}
 use Rattle.std.specs.List.Sorted.{IsPermutation}
 use Rattle.std.proofs.lemmas.Bool.{cases_Bool}
 use Rattle.std.proofs.lemmas.Bool.Decides.{nat_tests}
+use Rattle.std.proofs.lemmas.List.Elements.{All-from_recursion, recursion_from_All}
 use Rattle.std.proofs.lemmas.List.Sums.{sum_by-cons}
-use Rattle.std.proofs.lemmas.List.Sorted.{IsPermutation-refl, IsPermutation-trans, IsPermutation-cons, IsPermutation-middle, length_permutation, sum_by-IsPermutation}
+use Rattle.std.proofs.lemmas.List.Sorted.{All-permutation, IsPermutation-refl, IsPermutation-trans, IsPermutation-cons, IsPermutation-middle, length_permutation, sum_by-IsPermutation}
 use Rattle.seat_remainders.specs.declared.contest.Entry.{Entry}
 use Rattle.seat_remainders.specs.Candidates.{stands_first, with_candidate, in_order, AreInOrder}
 
@@ -24,6 +25,9 @@ pub in_order-permutation : (xs : List Entry) → IsPermutation xs (in_order xs)
 in_order-permutation [] = IsPermutation-refl []
 in_order-permutation (c ∷ xs) =
     IsPermutation-trans (c ∷ xs) (c ∷ in_order xs) (with_candidate c (in_order xs)) (IsPermutation-cons c xs (in_order xs) (in_order-permutation xs)) (with-permutation c (in_order xs))
+
+pub all_moved : (P : Entry → Type 0) (xs ys : List Entry) → IsPermutation xs ys → AllByRecursion P xs → AllByRecursion P ys
+all_moved P xs ys moved all = recursion_from_All P ys (All-permutation P xs ys moved (All-from_recursion P xs all))
 
 pub in_order-sum : (f : Entry → ℕ) (xs : List Entry) → sum_by f (in_order xs) ≡ sum_by f xs
 in_order-sum f xs = sum_by-IsPermutation f xs (in_order xs) (in_order-permutation xs)

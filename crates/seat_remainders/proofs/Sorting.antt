@@ -1,16 +1,18 @@
 -- A sorted vector has the order of candidates.
-use Rattle.std.proofs.Common.{◌≡◌, ℕ, suc, ◌+◌, ◌≤◌, ◌<◌, Bool, true, false, cond, ◌&&◌, ◌==◌, List, [], ◌∷◌, length, get_or, count_by, inl, inr, sym, refl, ap, ◌∙◌, subst, arith}
+use Rattle.std.proofs.Common.{◌≡◌, ℕ, suc, ◌+◌, ◌≤◌, ◌<◌, Bool, true, false, cond, ◌&&◌, ◌==◌, List, [], ◌∷◌, ◌++◌, length, take, get_or, count_by, inl, inr, sym, refl, ap, ◌∙◌, subst, arith}
 use Rattle.std.specs.List.{AllByRecursion}
-use Rattle.std.specs.List.Sorted.{IsPermutation, IsSorted}
+use Rattle.std.specs.List.Sorted.{IsPermutation, IsSorted, IsSplitAround}
 use Rattle.std.specs.Ordering.{nat_cmp, on, flip_args, then_cmp, is_lt}
 use Rattle.std.specs.declared.cmp.Ordering.{Ordering}
 use Rattle.std.proofs.lemmas.Bool.{cases_Bool}
 use Rattle.std.proofs.lemmas.Bool.Decides.{nat_tests}
-use Rattle.std.proofs.lemmas.List.Sums.{sum_by-cons}
-use Rattle.std.proofs.lemmas.List.Sorted.{sum_by-IsPermutation}
+use Rattle.std.proofs.lemmas.List.Elements.{recursion_from_All}
+use Rattle.std.proofs.lemmas.List.Sums.{sum_by-cons, sum_by-append}
+use Rattle.std.proofs.lemmas.List.Sorted.{length_permutation, sum_by-IsPermutation}
+use Rattle.std.proofs.Math.Seq.{take-append_seam}
 use Rattle.seat_remainders.specs.declared.contest.Entry.{Entry}
 use Rattle.seat_remainders.specs.Candidates.{stands_first, in_order, AreInOrder}
-use Rattle.seat_remainders.proofs.Ordered.{first_self, all_behind, are_in_order, in_order-sum}
+use Rattle.seat_remainders.proofs.Ordered.{first_self, all_behind, all_moved, are_in_order, in_order-permutation, in_order-sum}
 
 same_entry : (a b : Entry) → a.number ≡ b.number → a.birth ≡ b.birth → a.votes ≡ b.votes → a ≡ b
 same_entry a b e f g =
@@ -86,11 +88,56 @@ from_sorted (x ∷ y ∷ xs) h =
     let first = h 0 x (omega arith) in
     ((first, all_behind x y xs first rest.0), rest)
 
-pub sorted_is : (xs ys : List Entry) → IsPermutation xs ys → IsSorted order_of ys → ys ≡ in_order xs
-sorted_is xs ys moved sorted =
-    same_order ys (in_order xs) (from_sorted ys (λ k d lt.
+-- sorted candidates stand in order
+in_order_of_sorted : (xs : List Entry) → IsSorted order_of xs → AreInOrder xs
+in_order_of_sorted xs sorted =
+    from_sorted xs (λ k d lt.
     let next : k + 1 ≡ suc k = omega arith in
-    subst (λ (n : ℕ). stands_first (get_or ys k d) (get_or ys n d) ≡ true) next (not_after (get_or ys k d) (get_or ys (k + 1) d) (sorted k d (omega arith) (omega arith))))) (are_in_order xs) (λ c.
-    let a = sum_by-IsPermutation (λ e. cond (is_same c e) 1 0) xs ys moved in
-    let b = in_order-sum (λ e. cond (is_same c e) 1 0) xs in
-    omega arith)
+    subst (λ (n : ℕ). stands_first (get_or xs k d) (get_or xs n d) ≡ true) next (not_after (get_or xs k d) (get_or xs (k + 1) d) (sorted k d (omega arith) (omega arith))))
+
+count_moved : (c : Entry) (xs ys : List Entry) → IsPermutation xs ys → count_of c ys ≡ count_of c xs
+count_moved c xs ys moved = sum_by-IsPermutation (λ e. cond (is_same c e) 1 0) xs ys moved
+
+count_ordered : (c : Entry) (xs : List Entry) → count_of c (in_order xs) ≡ count_of c xs
+count_ordered c xs = in_order-sum (λ e. cond (is_same c e) 1 0) xs
+
+pub sorted_is : (xs ys : List Entry) → IsPermutation xs ys → IsSorted order_of ys → ys ≡ in_order xs
+sorted_is xs ys moved sorted = same_order ys (in_order xs) (in_order_of_sorted ys sorted) (are_in_order xs) (λ c. count_moved c xs ys moved ∙ sym (count_ordered c xs))
+
+-- The first alone, sorted
+
+all_append : (P : Entry → Type 0) (xs ys : List Entry) → AllByRecursion P xs → AllByRecursion P ys → AllByRecursion P (xs ++ ys)
+all_append P [] ys all more = more
+all_append P (x ∷ xs) ys all more = (all.0, all_append P xs ys all.1 more)
+
+-- candidates in order behind others in order, each of whom stands before each of them
+order-append : (xs ys : List Entry) → AreInOrder xs → AreInOrder ys → AllByRecursion (λ a. AllByRecursion (λ b. stands_first a b ≡ true) ys) xs → AreInOrder (xs ++ ys)
+order-append [] ys p q all = q
+order-append (x ∷ xs) ys p q all = (all_append (λ b. stands_first x b ≡ true) xs ys p.0 all.0, order-append xs ys p.1 q all.1)
+
+-- who stands before one stands before all that this one stands before
+each_before : (x : Entry) (xs ys : List Entry) → AllByRecursion (λ a. stands_first a x ≡ true) xs → AllByRecursion (λ b. stands_first x b ≡ true) ys → AllByRecursion (λ a. AllByRecursion (λ b. stands_first a b ≡ true) ys) xs
+each_before x [] ys p q = tt
+each_before x (a ∷ xs) ys p q = (all_behind a x ys p.0 q, each_before x xs ys p.1 q)
+
+-- where nobody of the front stands behind one, and nobody of the rest before it, the front, sorted, is the first of all
+pub front_is : (xs front back sorted : List Entry) (x : Entry) → IsPermutation xs (front ++ x ∷ back) → IsSplitAround order_of front x back → IsPermutation front sorted → IsSorted order_of sorted
+    → sorted ≡ take (length front) (in_order xs)
+front_is xs front back sorted x moved (before, after) same up =
+    let behind = in_order (x ∷ back) in
+    let to_x = recursion_from_All (λ a. stands_first a x ≡ true) front (λ k d lt. not_after (get_or front k d) x (before k d lt)) in
+    let from_x = recursion_from_All (λ b. stands_first x b ≡ true) back (λ k d lt. not_after x (get_or back k d) (after k d lt)) in
+    let ordered : AreInOrder (sorted ++ behind) =
+    order-append sorted behind (in_order_of_sorted sorted up) (are_in_order (x ∷ back)) (each_before x sorted behind (all_moved (λ a. stands_first a x ≡ true) front sorted same to_x)
+    (all_moved (λ b. stands_first x b ≡ true) (x ∷ back) behind (in_order-permutation (x ∷ back)) (first_self x, from_x))) in
+    let whole : sorted ++ behind ≡ in_order xs = same_order (sorted ++ behind) (in_order xs) ordered (are_in_order xs) (λ c.
+    let test : Entry → ℕ = λ e. cond (is_same c e) 1 0 in
+    let one = sum_by-append test sorted behind in
+    let two = sum_by-append test front (x ∷ back) in
+    let three = count_moved c front sorted same in
+    let four = count_ordered c (x ∷ back) in
+    let five = count_moved c xs (front ++ x ∷ back) moved in
+    let six = count_ordered c xs in
+    omega arith) in
+    let len = length_permutation front sorted same in
+    sym (take-append_seam sorted behind) ∙ ap (λ (n : ℕ). take n (sorted ++ behind)) len ∙ ap (λ (l : List Entry). take (length front) l) whole

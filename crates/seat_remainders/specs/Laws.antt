@@ -1,8 +1,11 @@
 -- What is so of all contests, and of all candidates
-use Rattle.std.specs.Prelude.{◌≡◌, ◌↔◌, ℕ, Bool, true, ◌+◌, ◌-◌, ◌/◌, ◌≤◌, ◌<◌, List, [], length, take, sum_by}
+use Rattle.std.specs.Prelude.{◌≡◌, ◌↔◌, ℕ, Bool, true, false, ◌+◌, ◌-◌, ◌/◌, ◌≤◌, ◌<◌, List, [], ◌∷◌, ◌++◌, length, take, sum_by}
+use Rattle.std.specs.List.{AllByRecursion}
 use Rattle.std.specs.List.Sorted.{IsPermutation}
 use Rattle.seat_remainders.specs.declared.contest.Entry.{Entry}
+use Rattle.seat_remainders.specs.declared.contest.Contestant.{Contestant}
 use Rattle.seat_remainders.specs.declared.contest.Contest.{Contest}
+use Rattle.seat_remainders.specs.declared.outcome.Award.{Award}
 use Rattle.seat_remainders.specs.declared.outcome.Outcome.{Outcome}
 use Rattle.seat_remainders.specs.declared.outcome.Seats.{Seats as SeatsData}
 use Rattle.seat_remainders.specs.declared.outcome.MajorityOutcome.TheVariants.{Runoff, Nobody}
@@ -11,7 +14,7 @@ use Rattle.seat_remainders.specs.Contest.{PartiesRise}
 use Rattle.seat_remainders.specs.Parties.{nominal_votes, quotient_of, first_phase}
 use Rattle.quotients.specs.Average.{AverageData}
 use Rattle.seat_remainders.specs.Table.{AreAverages, IsTable, awards_for, awards_of, limit_of, seats_left}
-use Rattle.seat_remainders.specs.Rounds.{AreRounds}
+use Rattle.seat_remainders.specs.Rounds.{meets_minimums, next_phase, average_of, TakesSeat, EachFollows, AreRounds}
 use Rattle.seat_remainders.specs.Outcome.{AreSeats, IsOver, IsOutcome, is_without_quotient, is_over}
 use Rattle.seat_remainders.specs.Computed.{outcome_of}
 use Rattle.seat_remainders.specs.Majority.{majority_outcome, NobodyHasMajority}
@@ -53,6 +56,22 @@ HasOneTable = (contest : Contest) (xs ys : List AverageData) → AreAverages con
 abbrev pub NoAveragesWithoutSeats : Type 0
 NoAveragesWithoutSeats = (contest : Contest) (xs : List AverageData) → seats_left contest ≡ 0 → AreAverages contest xs → xs ≡ []
 
+-- the next average of a table is the next average of the party that takes the next seat: once those in front of it have taken theirs, its party is eligible, and
+-- no other eligible one beats it
+abbrev pub NextTakesSeat : Type 0
+NextTakesSeat = (qe phase left : ℕ) (parties : List Contestant) (before : List Award) (front : List AverageData) (a : AverageData) (behind : List AverageData) → 1 ≤ qe → PartiesRise parties
+    → IsTable qe parties before (limit_of qe phase before left) (front ++ a ∷ behind) → length front < left
+    → let so_far = before ++ awards_for phase front in
+    next_phase qe so_far parties ≡ phase → (p : Contestant) × (a ≡ average_of qe so_far p) × TakesSeat qe parties so_far (record { phase = phase; party = a.party }) p
+
+-- the rounds of phase 2 are the averages of the contest from the front, as many as seats remain; where these are fewer than the seats, no party meets the minimums
+-- any more
+abbrev pub FrontIsPhaseTwo : Type 0
+FrontIsPhaseTwo = (contest : Contest) (averages : List AverageData) → 1 ≤ quotient_of contest → PartiesRise contest.parties → AreAverages contest averages
+    → let awards = awards_for 2 (take (seats_left contest) averages) in
+    EachFollows (quotient_of contest) contest.parties [] awards
+    × (length averages < seats_left contest → AllByRecursion (λ p. meets_minimums (quotient_of contest) awards p ≡ false) contest.parties)
+
 -- the rounds are the fronts of two tables: the averages of the contest in order, as many as seats remain, and where they end before the seats do, those of the
 -- table of phase 3 after these awards; a seat stays vacant where both have ended
 abbrev pub FrontsAreRounds : Type 0
@@ -61,6 +80,11 @@ FrontsAreRounds = (contest : Contest) (two three : List AverageData) → 1 ≤ q
     let awards = awards_of (seats_left contest) two three in
     IsTable (quotient_of contest) contest.parties before (limit_of (quotient_of contest) 3 before (seats_left contest - length before)) three
     → AreRounds (quotient_of contest) contest.parties (seats_left contest) awards (seats_left contest - length awards)
+
+-- behind seats stand the averages that gave them: the awards are those of the averages from the front, as many as seats remain, and then such of phase 3 alone
+abbrev pub AwardsAreAverages : Type 0
+AwardsAreAverages = (contest : Contest) (s : SeatsData) → PartiesRise contest.parties → AreSeats contest s
+    → (later : List Award) × (s.awards ≡ awards_for 2 (take (seats_left contest) s.averages) ++ later) × AllByRecursion (λ award. award.phase ≡ 3) later
 
 -- candidates in their order stand in order
 abbrev pub StandInOrder : Type 0

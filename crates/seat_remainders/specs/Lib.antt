@@ -3,6 +3,7 @@ pub mod Parties
 pub mod Contest
 pub mod Rounds
 pub mod Table
+pub mod Standing
 pub mod Sorted
 pub mod Outcome
 pub mod Computed

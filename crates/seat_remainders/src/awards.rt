@@ -1,12 +1,13 @@
 //! The seats that the first phase leaves (art. 109), from the fronts of two sorted tables.
-ghost use Rattle.std.specs.Prelude.{◌≡◌, ◌+◌, ◌-◌, ◌≤◌, ◌<◌, ◌^◌, ◌++◌, [], length, take, IfOk, OnOk};
+ghost use Rattle.std.specs.Prelude.{◌≡◌, ℕ, ◌+◌, ◌-◌, ◌≤◌, ◌<◌, ◌^◌, ◌++◌, List, [], length, take, sum_by, IfOk, OnOk};
+ghost use Rattle.seat_remainders.specs.declared.contest.Contestant.{Contestant};
 ghost use Rattle.seat_remainders.specs.Contest.{PartiesRise};
-ghost use Rattle.seat_remainders.specs.Parties.{valid_votes, first_phase};
 ghost use Rattle.seat_remainders.specs.Rounds.{AreRounds};
-ghost use Rattle.seat_remainders.specs.Table.{IsTable, awards_for, limit_of};
+ghost use Rattle.seat_remainders.specs.Standing.{IsTableOf, standings_of};
+ghost use Rattle.seat_remainders.specs.Table.{awards_for};
 
-use crate::contest::Contest;
 use crate::outcome::{Averages, Award, Awards};
+use crate::standing::Standing;
 use crate::table::table_of;
 use std::alloc::Global;
 use urna_base::Memory;
@@ -15,23 +16,23 @@ use urna_base::Memory;
 /// one.
 pub(crate) fn award_seats(
     alloc: Global,
-    contest: &Contest,
-    qe: u64,
+    standings: &[Standing],
     averages: &Averages,
     left: u32,
 ) -> Result<Awards, Memory>
-    requires rising { PartiesRise contest.now.parties }
-    requires votes { valid_votes contest.now.parties ≤ 10 ^ 12 }
-    requires some { 1 ≤ qe }
-    requires quotient { qe ≤ 10 ^ 12 }
-    requires within { first_phase qe contest.now.parties + left ≤ 200 }
-    requires table { IsTable qe contest.now.parties [] (limit_of qe 2 [] left) averages.now }
-    ensures { IfOk result (λ awards. AreRounds qe contest.now.parties left awards (left - length awards)) }
+    requires few { length standings.now ≤ 256 }
+    requires within { sum_by (λ s. s.first) standings.now + left ≤ 200 }
+    requires table { IsTableOf standings.now 2 [] left averages.now }
+    ensures { IfOk result (λ awards. (qe : ℕ) (parties : List Contestant) → 1 ≤ qe → PartiesRise parties → standings.now ≡ standings_of qe parties
+        → AreRounds qe parties left awards (left - length awards)) }
 {
     let mut awards = Awards::new(alloc);
     push_awards(&mut awards, 2, averages, left)?;
     let vacant = left - awards.len();
-    let third = table_of(alloc, contest, qe, 3, awards.as_slice(), vacant)?;
+    if vacant == 0 {
+        return Ok(awards);
+    }
+    let third = table_of(alloc, standings, 3, awards.as_slice(), vacant)?;
     push_awards(&mut awards, 3, &third, vacant)?;
     Ok(awards)
 }

@@ -30,11 +30,13 @@ impl Ord for Entry {
     ghost matches_eq = { Prim.search (comparing, rules) };
 
     fn cmp(&self, other: &Entry) -> Ordering {
-        other
-            .votes
-            .cmp(&self.votes)
-            .then(self.birth.cmp(&other.birth))
-            .then(self.number.cmp(&other.number))
+        match other.votes.cmp(&self.votes) {
+            Ordering::Equal => {
+                let older = self.birth.cmp(&other.birth);
+                older.then(self.number.cmp(&other.number))
+            }
+            unequal => unequal,
+        }
     }
 }
 

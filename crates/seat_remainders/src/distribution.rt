@@ -1,17 +1,18 @@
 //! The seats of a contest.
-ghost use Rattle.std.specs.Prelude.{◌≡◌, ◌+◌, ◌-◌, ◌≤◌, ◌^◌, length, map, IfOk};
+ghost use Rattle.std.specs.Prelude.{◌≡◌, ◌+◌, ◌-◌, ◌≤◌, length, map, IfOk};
 ghost use Rattle.seat_remainders.specs.Contest.{PartiesRise, IsContest};
 ghost use Rattle.seat_remainders.specs.Outcome.{IsOutcome, party_seats, elected_by};
-ghost use Rattle.seat_remainders.specs.Parties.{valid_votes, first_phase};
+ghost use Rattle.seat_remainders.specs.Parties.{first_phase};
 ghost use Rattle.seat_remainders.specs.Rounds.{AreRounds};
+ghost use Rattle.seat_remainders.specs.Standing.{standings_of};
 
 use crate::awards::award_seats;
 use crate::contest::Contest;
-use crate::elected::{in_order, push_elected};
-use crate::limits::seats_after;
+use crate::elected::push_elected;
 use crate::outcome::{Averages, Awards, Numbers, Outcome, PartySeatList, PartySeats, Seats};
+use crate::standing::{Standing, first_phase, seats_after, standings_of};
 use crate::table::table_of;
-use crate::votes::{first_phase, valid_votes, votes_of};
+use crate::votes::valid_votes;
 use quotients::{party_quotient, quotient};
 use std::alloc::Global;
 use urna_base::Memory;
@@ -31,14 +32,15 @@ pub fn distribute(alloc: Global, contest: &Contest) -> Result<Outcome, Memory>
     if qe == 0 {
         return Ok(Outcome::NoQuotient { valid, seats });
     }
-    let first = first_phase(contest, qe);
+    let standings = standings_of(alloc, contest, qe)?;
+    let first = first_phase(&standings);
     if first > u64::from(seats) {
         return Ok(Outcome::Over { first, seats });
     }
     let left = seats - first as u32;
-    let averages = table_of(alloc, contest, qe, 2, &[], left)?;
-    let awards = award_seats(alloc, contest, qe, &averages, left)?;
-    let seats = seats_of(alloc, contest, qe, left, awards, averages)?;
+    let averages = table_of(alloc, &standings, 2, &[], left)?;
+    let awards = award_seats(alloc, &standings, &averages, left)?;
+    let seats = seats_of(alloc, contest, qe, &standings, left, awards, averages)?;
     Ok(Outcome::Seats(seats))
 }
 
@@ -47,14 +49,14 @@ fn seats_of(
     alloc: Global,
     contest: &Contest,
     qe: u64,
+    standings: &[Standing],
     left: u32,
     awards: Awards,
     averages: Averages,
 ) -> Result<Seats, Memory>
     requires rising { PartiesRise contest.now.parties }
-    requires votes { valid_votes contest.now.parties ≤ 10 ^ 12 }
     requires some { 1 ≤ qe }
-    requires quotient { qe ≤ 10 ^ 12 }
+    requires counted { standings.now ≡ standings_of qe contest.now.parties }
     requires within { first_phase qe contest.now.parties + left ≤ 200 }
     requires rounds { AreRounds qe contest.now.parties left awards (left - length awards) }
     ensures quotient { IfOk result (λ s. s.quotient ≡ qe) }
@@ -66,17 +68,16 @@ fn seats_of(
 {
     let mut parties = PartySeatList::new(alloc);
     let mut elected = Numbers::new(alloc);
-    for party in contest.parties.as_slice() {
-        let votes = votes_of(party);
-        let seats = seats_after(party, qe, awards.as_slice());
+    for (i, party) in contest.parties.as_slice().iter().enumerate() {
+        let standing = &standings[i];
+        let seats = seats_after(standing, awards.as_slice());
         parties.push(PartySeats {
-            number: party.number,
-            votes,
-            quotient: party_quotient(votes, qe),
+            number: standing.party,
+            votes: standing.votes,
+            quotient: party_quotient(standing.votes, qe),
             seats,
         })?;
-        let ordered = in_order(alloc, party)?;
-        push_elected(&mut elected, &ordered, seats)?;
+        push_elected(alloc, &mut elected, party.candidates.as_slice(), seats)?;
     }
     let vacant = left - awards.len();
     Ok(Seats {

@@ -2,32 +2,43 @@
 ghost use Rattle.std.specs.Prelude.{◌≡◌, ◌+◌, ◌≤◌, ◌<◌, ◌^◌, ◌++◌, length, map, take, IfOk, OnOk};
 ghost use Rattle.seat_remainders.specs.Candidates.{in_order};
 
-use crate::contest::{Contestant, Entry};
+use crate::contest::Entry;
 use crate::outcome::Numbers;
 use std::alloc::Global;
 use urna_base::Memory;
 
-/// The candidates of a party in their order.
-pub(crate) fn in_order(alloc: Global, party: &Contestant) -> Result<Vec<Entry>, Memory>
-    ensures { IfOk result (λ v. v.items ≡ in_order party.now.candidates) }
-{
-    let mut ordered = Vec::from_slice(alloc, party.candidates.as_slice())?;
-    ordered.sort()?;
-    Ok(ordered)
-}
-
 /// The elected of a party, behind those of others: the first of its candidates, as many as it has seats.
 pub(crate) fn push_elected(
+    alloc: Global,
     elected: &mut Numbers,
-    ordered: &[Entry],
+    candidates: &[Entry],
     seats: u32,
 ) -> Result<(), Memory>
-    requires seats { seats ≤ length ordered.now }
+    requires seats { seats ≤ length candidates.now }
     requires room { length elected.old + seats < 2 ^ 32 }
-    ensures { OnOk result (elected.new ≡ elected.old ++ map (λ c. c.number) (take seats ordered.now)) }
+    ensures { OnOk result (elected.new ≡ elected.old ++ map (λ c. c.number) (take seats (in_order candidates.now))) }
 {
-    for entry in &ordered[..seats as usize] {
+    if seats == 0 {
+        return Ok(());
+    }
+    let mut candidates = Vec::from_slice(alloc, candidates)?;
+    for entry in first_of(&mut candidates, seats as usize) {
         elected.push(entry.number)?;
     }
     Ok(())
+}
+
+/// So many candidates, the first of these in their order. Only they are sorted.
+fn first_of(candidates: &mut [Entry], count: usize) -> &[Entry]
+    requires { count ≤ length candidates.old }
+    ensures { result.now ≡ take count (in_order candidates.old) }
+{
+    if count < candidates.len() {
+        let (first, _, _) = candidates.select_nth_unstable(count);
+        first.sort_unstable();
+        first
+    } else {
+        candidates.sort_unstable();
+        candidates
+    }
 }

@@ -1,5 +1,5 @@
 //! What is so of all contests, and of all candidates. Each function here does nothing: its contract is the law.
-ghost use Rattle.seat_remainders.specs.Laws.{AreTheSame, EachSeatIsFilled, FrontsAreRounds, HasOneOutcome, HasOneTable, HasOutcome, NoAveragesWithoutSeats, NoQuotientAtZero, NobodyWithoutVotes, OverBeyondAllSeats, OverOnlyBelowHalf, RunoffWithoutMajority, SeatsAddUp, StandInOrder};
+ghost use Rattle.seat_remainders.specs.Laws.{AreTheSame, AwardsAreAverages, EachSeatIsFilled, FrontIsPhaseTwo, FrontsAreRounds, HasOneOutcome, HasOneTable, HasOutcome, NextTakesSeat, NoAveragesWithoutSeats, NoQuotientAtZero, NobodyWithoutVotes, OverBeyondAllSeats, OverOnlyBelowHalf, RunoffWithoutMajority, SeatsAddUp, StandInOrder};
 
 /// A contest has exactly one outcome, which can be computed, and the numbers of the contest say of which kind it is.
 pub fn outcomes()
@@ -17,12 +17,16 @@ pub fn seats()
     ensures over { OverOnlyBelowHalf }
 {}
 
-/// A contest has one list of averages, and none where the first phase leaves no seat. The seats that remain go to the averages at the
-/// front.
+/// A contest has one list of averages, and none where the first phase leaves no seat. The next average of a table is that of the party
+/// which takes the next seat, so the rounds of phase 2 are the front of this list, all rounds are the fronts of two tables, and behind
+/// given seats stand the averages that gave them.
 pub fn tables()
     ensures one { HasOneTable }
     ensures none { NoAveragesWithoutSeats }
+    ensures next { NextTakesSeat }
+    ensures phase_two { FrontIsPhaseTwo }
     ensures fronts { FrontsAreRounds }
+    ensures awards { AwardsAreAverages }
 {}
 
 /// The candidates in their order are the same candidates, each before all that are behind it.

@@ -5,7 +5,8 @@
 //! `specs/Parties.antt` (the first phase), `specs/Rounds.antt` (the seats that remain) and `specs/Candidates.antt` (the order of
 //! candidates); it asks `averages` for the sorted table that decides the seats of phase 2, which `specs/Table.antt` says, and `majority`
 //! by `specs/Majority.antt`. `laws` says that each contest has one outcome and one table, that the fronts of two such tables are the
-//! rounds, that the seats add up and are filled, and when nobody is elected or two go to a second round.
+//! rounds and the awards of given seats the averages that stand with them, that the seats add up and are filled, and when nobody is
+//! elected or two go to a second round.
 #![tactic(auto)]
 
 mod awards;
@@ -13,9 +14,9 @@ mod contest;
 mod distribution;
 mod elected;
 pub mod laws;
-mod limits;
 mod majority_rule;
 mod outcome;
+mod standing;
 mod table;
 mod votes;
 

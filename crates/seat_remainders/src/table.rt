@@ -1,14 +1,16 @@
 //! The sorted tables of averages that the seats of phases 2 and 3 are taken from (art. 109).
-ghost use Rattle.std.specs.Prelude.{◌≡◌, ◌+◌, ◌≤◌, ◌<◌, ◌^◌, ◌++◌, length, map, IfOk, OnOk};
+ghost use Rattle.std.specs.Prelude.{◌≡◌, ℕ, ◌+◌, ◌≤◌, ◌<◌, ◌^◌, ◌++◌, List, length, map, sum_by, IfOk, OnOk};
 ghost use Rattle.quotients.specs.Order.{parts_of};
-ghost use Rattle.seat_remainders.specs.Contest.{PartiesRise, IsContest};
-ghost use Rattle.seat_remainders.specs.Parties.{valid_votes, votes_of, quotient_of, first_seats, first_phase};
-ghost use Rattle.seat_remainders.specs.Table.{AreAverages, IsTable, entries_for, entries_of, limit_of};
+ghost use Rattle.seat_remainders.specs.declared.contest.Contestant.{Contestant};
+ghost use Rattle.seat_remainders.specs.Contest.{IsContest};
+ghost use Rattle.seat_remainders.specs.Parties.{quotient_of, first_phase};
+ghost use Rattle.seat_remainders.specs.Standing.{IsTableOf, standing_of, standings_of};
+ghost use Rattle.seat_remainders.specs.Table.{AreAverages, entries_for, entries_of, limit_of};
 
-use crate::contest::{Contest, Contestant};
-use crate::limits::{most_seats, seats_after};
+use crate::contest::Contest;
 use crate::outcome::{Averages, Award};
-use crate::votes::{first_phase, valid_votes, votes_of};
+use crate::standing::{Standing, first_phase, most_seats, seats_after, standings_of};
+use crate::votes::valid_votes;
 use quotients::{Average, quotient};
 use std::alloc::Global;
 use urna_base::Memory;
@@ -26,51 +28,45 @@ pub fn averages(alloc: Global, contest: &Contest) -> Result<Averages, Memory>
     ensures { IfOk result (λ averages. AreAverages contest.now averages) }
 {
     let qe = quotient(valid_votes(contest), contest.seats);
-    let left = contest.seats - first_phase(contest, qe) as u32;
-    table_of(alloc, contest, qe, 2, &[], left)
+    let standings = standings_of(alloc, contest, qe)?;
+    let left = contest.seats - first_phase(&standings) as u32;
+    table_of(alloc, &standings, 2, &[], left)
 }
 
 /// The sorted table of a phase, where so many seats remain after these awards.
 pub(crate) fn table_of(
     alloc: Global,
-    contest: &Contest,
-    qe: u64,
+    standings: &[Standing],
     phase: u8,
     awards: &[Award],
     left: u32,
 ) -> Result<Averages, Memory>
-    requires rising { PartiesRise contest.now.parties }
-    requires votes { valid_votes contest.now.parties ≤ 10 ^ 12 }
-    requires some { 1 ≤ qe }
-    requires quotient { qe ≤ 10 ^ 12 }
-    requires within { first_phase qe contest.now.parties + length awards.now + left ≤ 200 }
-    ensures { IfOk result (λ averages. IsTable qe contest.now.parties awards.now (limit_of qe phase awards.now left) averages) }
+    requires few { length standings.now ≤ 256 }
+    requires within { sum_by (λ s. s.first) standings.now + length awards.now + left ≤ 200 }
+    ensures { IfOk result (λ averages. IsTableOf standings.now phase awards.now left averages) }
 {
-    let entries = entries_of(alloc, contest, qe, phase, awards, left)?;
+    let entries = entries_of(alloc, standings, phase, awards, left)?;
     let averages = Averages::sorted(entries)?;
     Ok(averages)
 }
 
-/// The averages of the table, party by party. At most 256 parties rise by number, and each has at most 200 averages.
+/// The averages of the table, party by party.
 fn entries_of(
     alloc: Global,
-    contest: &Contest,
-    qe: u64,
+    standings: &[Standing],
     phase: u8,
     awards: &[Award],
     left: u32,
 ) -> Result<Vec<Average>, Memory>
-    requires rising { PartiesRise contest.now.parties }
-    requires votes { valid_votes contest.now.parties ≤ 10 ^ 12 }
-    requires some { 1 ≤ qe }
-    requires quotient { qe ≤ 10 ^ 12 }
-    requires within { first_phase qe contest.now.parties + length awards.now + left ≤ 200 }
-    ensures entries { IfOk result (λ v. map parts_of v.items ≡ entries_of qe awards.now (limit_of qe phase awards.now left) contest.now.parties) }
+    requires few { length standings.now ≤ 256 }
+    requires within { sum_by (λ s. s.first) standings.now + length awards.now + left ≤ 200 }
+    ensures entries { IfOk result (λ v. (qe : ℕ) (parties : List Contestant) → standings.now ≡ standings_of qe parties
+        → map parts_of v.items ≡ entries_of qe awards.now (limit_of qe phase awards.now left) parties) }
     ensures few { IfOk result (λ v. length v.items < 2 ^ 32) }
 {
     let mut entries = Vec::new(alloc);
-    for party in contest.parties.as_slice() {
-        push_entries(&mut entries, party, qe, phase, awards, left)?;
+    for standing in standings {
+        push_entries(&mut entries, standing, phase, awards, left)?;
     }
     Ok(entries)
 }
@@ -78,25 +74,20 @@ fn entries_of(
 /// The averages of one party, behind those of others.
 fn push_entries(
     entries: &mut Vec<Average>,
-    party: &Contestant,
-    qe: u64,
+    standing: &Standing,
     phase: u8,
     awards: &[Award],
     left: u32,
 ) -> Result<(), Memory>
-    requires votes { votes_of party.now ≤ 10 ^ 12 }
-    requires some { 1 ≤ qe }
-    requires quotient { qe ≤ 10 ^ 12 }
-    requires within { first_seats qe party.now + length awards.now + left ≤ 200 }
-    ensures pushed { OnOk result (map parts_of entries.new.items ≡ map parts_of entries.old.items ++ entries_for qe awards.now (limit_of qe phase awards.now left) party.now) }
-    ensures number { OnOk result (party.now.number < 2 ^ 8) }
+    requires { standing.now.first + length awards.now + left ≤ 200 }
+    ensures pushed { OnOk result ((qe : ℕ) (p : Contestant) → standing.now ≡ standing_of qe p
+        → map parts_of entries.new.items ≡ map parts_of entries.old.items ++ entries_for qe awards.now (limit_of qe phase awards.now left) p) }
+    ensures few { OnOk result (length entries.new.items ≤ length entries.old.items + left) }
 {
-    let number = party.number;
-    let votes = votes_of(party);
-    let first = seats_after(party, qe, awards);
-    let limit = most_seats(party, qe, phase).min(first + left);
+    let first = seats_after(standing, awards);
+    let limit = most_seats(standing, phase).min(first + left);
     for seats in first..limit {
-        entries.push(Average::new(votes, seats + 1, number))?;
+        entries.push(Average::new(standing.votes, seats + 1, standing.party))?;
     }
     Ok(())
 }

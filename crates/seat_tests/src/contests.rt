@@ -1,6 +1,7 @@
 //! What comes of a contest.
 use crate::owed::is_contest;
 use crate::rows::{AVERAGES, CONTESTS};
+use quotients::Average;
 use seat_remainders::{
     Averages, Award, Awards, Contest, Contestant, Contestants, Entries, Entry, Numbers, Outcome,
     PartySeatList, PartySeats, averages, distribute,
@@ -196,10 +197,34 @@ fn has_averages(alloc: Global, row: &str, expected: &str) -> Result<bool, Memory
     }
 }
 
+/// The first contest that has other averages.
+fn wrong_averages(alloc: Global) -> Result<Option<&'static str>, Memory> {
+    for (row, expected) in AVERAGES {
+        if !has_averages(alloc, row, expected)? {
+            return Ok(Some(*row));
+        }
+    }
+    Ok(None)
+}
+
 #[test]
 fn each_contest_has_its_averages(rt: HostRuntime) -> Result<(), Fail> {
-    for (row, expected) in AVERAGES {
-        assert!(rt; has_averages(rt.alloc(), row, expected)?);
-    }
+    assert_eq!(rt; AVERAGES.len(), 10);
+    assert_eq!(rt; wrong_averages(rt.alloc())?, None);
+    Ok(())
+}
+
+/// Two averages in the order of seats: five hundred votes over three are more than three hundred over two.
+#[test]
+fn averages_are_kept_as_they_are_pushed(rt: HostRuntime) -> Result<(), Fail> {
+    let (greater, lower) = (Average::new(500, 3, 10), Average::new(300, 2, 11));
+    let mut averages = Averages::new(rt.alloc());
+    assert_eq!(rt; averages.push(greater), Ok(()));
+    assert_eq!(rt; averages.push(lower), Ok(()));
+    assert_eq!(rt; averages.len(), 2);
+    assert_eq!(rt; *averages.get(0), greater);
+    assert_eq!(rt; *averages.get(1), lower);
+    assert!(rt; greater != lower);
+    assert!(rt; greater < lower);
     Ok(())
 }

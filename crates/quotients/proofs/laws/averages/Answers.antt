@@ -1,4 +1,4 @@
-use Rattle.quotients.proofs.Averages.{before_all_behind, is_order_of_law, not_itself, some_order}
+use Rattle.quotients.proofs.Averages.{before_all_behind, falls_with, is_order_of_law, not_itself, some_order}
 use Rattle.quotients.proofs.laws.averages.Goals as goal
 
 pub returns-clause-strict : goal.returns-clause-strict
@@ -12,3 +12,6 @@ returns-clause-transitive _ = before_all_behind
 
 pub returns-clause-kept : goal.returns-clause-kept
 returns-clause-kept _ = is_order_of_law
+
+pub returns-clause-falls : goal.returns-clause-falls
+returns-clause-falls _ = falls_with

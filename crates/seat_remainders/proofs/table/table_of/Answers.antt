@@ -7,4 +7,5 @@ use Rattle.seat_remainders.proofs.table.table_of.Goals as goal
 
 pub returns : goal.returns
 returns c =
-    sorted_entries c.args.qe c.args.awards.now _ c.args.contest.now.parties _ (are_rising _ c.requires.rising) (subst (λ (l : List AverageData). IsPermutation l c.in_ok-averages.averages) c.in_ok-entries.ensures.entries c.in_ok-averages.ensures.same) c.in_ok-averages.ensures.sorted
+    λ qe parties rise is.
+    sorted_entries qe c.args.awards.now _ parties _ (are_rising _ rise) (subst (λ (l : List AverageData). IsPermutation l c.in_ok-averages.averages) (c.in_ok-entries.ensures.entries qe parties is) c.in_ok-averages.ensures.same) c.in_ok-averages.ensures.sorted
