@@ -1,16 +1,18 @@
-.PHONY: list try demo test check-house bench crash-trial urna
+.PHONY: list try demo test check-house bench crash-trial hostile urna
 
 TRIALS = 25
+MINUTES = 10
 URNA = $(CURDIR)/crates/urna_app/out/urna_app
 
 # The minutes are those of four processors. A proof that was made before and where nothing has changed takes seconds.
 list:
-	@echo "make try          the example day, compiled without a proof: under a minute"
-	@echo "make demo         urna proved and built, and the example day on real files in out/demo: 20 minutes from nothing, then seconds"
-	@echo "make test         the gate, each proof from nothing, each edit that must be refused, each test and program: 50 minutes"
+	@echo "make try          the example day, compiled without a proof: a minute"
+	@echo "make demo         urna proved and built, a rehearsal of 400 voters, and the example day on real files in out/demo: 20 minutes from nothing, then seconds"
+	@echo "make test         the gate, each proof from nothing, each edit that must be refused, each test and program: an hour"
 	@echo "make check-house  names, sessions and lines of the documents and the sources: seconds"
-	@echo "make bench        how long sessions, commits, the reading of tables, the text of a report, its file, a check of it, the totals of many reports and the seats take, as ratios to plainer programs, and what changed since the last time: a few minutes behind a demo"
+	@echo "make bench        how long sessions, commits, the reading of tables, the text of a report, its file, a check of it, the totals of many reports, the seats and a rehearsal take, as ratios to plainer programs, and what changed since the last time: a few minutes behind a demo"
 	@echo "make crash-trial  the program on real files, and as many killed sessions as TRIALS says, drawn by SEED: a few minutes behind a demo"
+	@echo "make hostile      the program with refused memory, failing calls, odd surroundings, power cuts and changed inputs, drawn by SEED, for as long as MINUTES says: ten minutes behind a demo"
 
 try:
 	@examples/try
@@ -29,6 +31,9 @@ bench: urna
 
 crash-trial: urna
 	tests/crash-trial "$(URNA)" $(TRIALS) $(SEED)
+
+hostile: urna
+	tests/hostile "$(URNA)" $(MINUTES) $(SEED)
 
 # The program, proved and built where something has changed.
 urna:

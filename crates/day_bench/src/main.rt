@@ -2,20 +2,22 @@
 //!
 //! The words are WORK TABLES ROLL KEYS TIMES, with section 1 of zone 1. `press` loads the flashes and runs the keys, TIMES
 //! times, and prints the bytes that each time puts on the flashes and its syncs. Each other work runs the keys once and then,
-//! TIMES times, writes the body of the state that is held (`encode`), reads it (`decode`) or copies it (`copy`).
+//! TIMES times, writes the body of the state that is held (`encode`), reads it (`decode`) or copies it (`copy`). `ensaio N`
+//! rehearses a poll of N voters, and tells each step as it is done.
 //!
 //! Its status is 0 where each time went well, 1 where one did not, and 3 where the words are others.
 #![tactic(auto)]
 
-ghost use Rattle.std.specs.Prelude.{◌≡◌, ◌≤◌, Some, codes, IfSome, length};
+ghost use Rattle.std.specs.Prelude.{◌≡◌, ◌≤◌, Some, codes, IfOk, IfSome, length};
 ghost use Rattle.election_tables.specs.Limits.{most_voters};
 ghost use Rattle.image_codec.specs.Encoding.{IsStateOf};
 ghost use Rattle.state_store.specs.Load.{IsSectionOf};
 
 mod bank;
+mod steps;
 
 use bank::Bank;
-use election_tables::{Roll, Section, Tables};
+use election_tables::{MOST_VOTERS, Roll, Section, Tables};
 use gate_slot::{FRONT_SIZE, HEADER_SIZE};
 use image_codec::{BODY_SIZE, State, decode, encode_into};
 use key_script::Script;
@@ -24,6 +26,7 @@ use station::Station;
 use std::alloc::Global;
 use std::process::ExitCode;
 use std::{env, fs, io};
+use steps::tell_rehearsal;
 use urna_base::decimal;
 use urna_outside::{Dev, Machine};
 
@@ -146,6 +149,22 @@ fn copy_all(body: &mut [u8; BODY_SIZE], times: u64) -> u64 {
     u64::from(into[times as usize % BODY_SIZE])
 }
 
+/// The body in the first slot of the internal flash.
+fn first_body(bank: &mut Bank) -> Option<[u8; BODY_SIZE]> {
+    let mut body = [0; BODY_SIZE];
+    bank.read(Dev::Internal, FIRST_BODY, &mut body).ok()?;
+    Some(body)
+}
+
+/// The state that the flashes hold.
+fn held_state(alloc: Global, tables: &Tables, voters: u32, bank: &mut Bank) -> Option<State>
+    requires { voters ≤ most_voters }
+    ensures { IfSome result (λ state. IsStateOf tables.now voters state) }
+{
+    let body = first_body(bank)?;
+    decode(alloc, tables, voters, &body).ok()?
+}
+
 /// Writes, reads or copies the body that the flashes hold.
 fn use_body(
     alloc: Global,
@@ -157,8 +176,7 @@ fn use_body(
 ) -> Option<u64>
     requires { voters ≤ most_voters }
 {
-    let mut body = [0; BODY_SIZE];
-    bank.read(Dev::Internal, FIRST_BODY, &mut body).ok()?;
+    let mut body = first_body(bank)?;
     let state = decode(alloc, tables, voters, &body).ok()??;
     match work {
         Work::Encode => encode_all(&state, tables, &mut body, times),
@@ -254,7 +272,28 @@ fn outcome_of(alloc: Global, task: &Task) -> Option<Outcome> {
     })
 }
 
+/// The voters of a rehearsal, where the words ask for one.
+fn rehearsal_of(rt: &HostRuntime) -> io::Result<Option<u32>>
+    ensures { IfOk result (λ n. IfSome n (λ n. (1 ≤ n) × (n ≤ most_voters))) }
+{
+    let mut words = env::args(rt)?.skip(1);
+    let (Some(work), Some(voters), None) = (words.next(), words.next(), words.next()) else {
+        return Ok(None);
+    };
+    if work.as_str() != "ensaio" {
+        return Ok(None);
+    }
+    match decimal(voters.as_bytes()) {
+        Some(n) if 1 <= n && n <= MOST_VOTERS => Ok(Some(n as u32)),
+        _ => Ok(None),
+    }
+}
+
 fn status(rt: &HostRuntime) -> io::Result<u8> {
+    if let Some(n) = rehearsal_of(rt)? {
+        let well = tell_rehearsal(rt, n)?;
+        return Ok(if well { 0 } else { 1 });
+    }
     let Some(task) = task_of(rt)? else {
         return Ok(3);
     };

@@ -1,5 +1,5 @@
 -- Fronts of operations in a row.
-use Rattle.std.proofs.Common.{◌≡◌, ℕ, inl, Result, Ok, Err, List, [], ◌∷◌, ◌++◌, length, OnErr, refl, sym, ap, subst, ◌∙◌, append_assoc}
+use Rattle.std.proofs.Common.{ℕ, inl, Result, Ok, Err, List, [], ◌∷◌, ◌++◌, length, OnErr, refl, sym, ap, ◌∙◌, append_assoc}
 use Rattle.urna_outside.specs.Flash.{Op, Put, Sync, Show}
 use Rattle.urna_outside.specs.Told.{Told, Does, Runs, IsTornPut}
 use Rattle.urna_outside.specs.declared.device.Dev.{Dev}
@@ -52,10 +52,6 @@ pub fronts_later : (xs ys : List Op) (a b c : Told) → Does xs a b → Runs (Is
 fronts_later xs ys a b c does run =
     (xs ++ run.0, does-append xs run.0 a b c does run.1, front_later xs ys run.0 run.2)
 
--- a front after calls that did nothing
-pub fronts_behind_none : (ops : List Op) (a b c : Told) → Does [] a b → Runs (IsFrontOf ops) b c → Runs (IsFrontOf ops) a c
-fronts_behind_none ops a b c does run = (run.0, does-append [] run.0 a b c does run.1, run.2)
-
 -- a write that failed, with what was to follow it
 pub fronts_torn : (d : Dev) (at : ℕ) (bytes : List ℕ) (ops : List Op) (a b : Told) → Runs (IsTornPut d at (length bytes)) a b → Runs (IsFrontOf (Put d at bytes ∷ ops)) a b
 fronts_torn d at bytes ops a b run = (
@@ -64,16 +60,11 @@ fronts_torn d at bytes ops a b run = (
   record { before = []; next = Put d at bytes; behind = ops; torn = run.0; split = refl; torn_is = run.2; in_row = refl },
 )
 
--- a write that was done, and whose sync failed
-pub fronts_unsynced : {T E : Type 0} (r : Result T E) (d : Dev) (at : ℕ) (bytes : List ℕ) (a b c : Told) → Does (Put d at bytes ∷ []) a b → OnErr r (Does [] b c) → OnErr r (Runs (IsFrontOf (Put d at bytes ∷ Sync d ∷ [])) a c)
-fronts_unsynced (Ok x) d at bytes a b c first second = tt
-fronts_unsynced (Err e) d at bytes a b c first second =
-    fronts_later (Put d at bytes ∷ []) (Sync d ∷ []) a b c first (fronts_none (Sync d) [] b c second)
-
--- a write and its sync at a place that has another name
-pub fronts_renamed : (d : Dev) (at to : ℕ) (bytes : List ℕ) (a b : Told) → at ≡ to → Runs (IsFrontOf (Put d at bytes ∷ Sync d ∷ [])) a b → Runs (IsFrontOf (Put d to bytes ∷ Sync d ∷ [])) a b
-fronts_renamed d at to bytes a b same run =
-    subst (λ (n : ℕ). Runs (IsFrontOf (Put d n bytes ∷ Sync d ∷ [])) a b) same run
+-- operations that were done, and whose sync failed
+pub fronts_unsynced : {T E : Type 0} (r : Result T E) (d : Dev) (xs : List Op) (a b c : Told) → Does xs a b → OnErr r (Does [] b c) → OnErr r (Runs (IsFrontOf (xs ++ Sync d ∷ [])) a c)
+fronts_unsynced (Ok x) d xs a b c first second = tt
+fronts_unsynced (Err e) d xs a b c first second =
+    fronts_later xs (Sync d ∷ []) a b c first (fronts_none (Sync d) [] b c second)
 
 -- whatever was to come first, nothing is a front
 pub none_yet : (xs : List Op) (op : Op) (ops : List Op) → IsFrontOf (xs ++ op ∷ ops) []

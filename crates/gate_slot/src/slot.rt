@@ -1,16 +1,17 @@
 //! The states of a slot, as tokens.
-ghost use Rattle.std.specs.Prelude.{◌≡◌, ◌≢◌, ◌==◌, ℕ, ◌+◌, ◌*◌, ◌<◌, ◌≤◌, List, [], length, IfOk, IfErr, IfSome, IfNone, OnSome, OnOk, OnErr};
+ghost use Rattle.std.specs.Prelude.{◌≡◌, ◌≢◌, ◌==◌, ℕ, ◌+◌, ◌*◌, ◌%◌, ◌<◌, ◌≤◌, List, [], length, IfOk, IfErr, IfSome, IfNone, OnSome, OnOk, OnErr};
 ghost use Rattle.std.specs.Bool.{OnTrue};
 ghost use Rattle.urna_outside.specs.Flash.{IsClean};
 ghost use Rattle.urna_outside.specs.Faults.{FailsAt};
 ghost use Rattle.urna_outside.specs.Told.{Does, Runs, size_of, port_of};
 ghost use Rattle.gate_slot.specs.Device.{OnFlash, KeepsRest};
 ghost use Rattle.gate_slot.specs.Front.{IsFrontOf};
+ghost use Rattle.gate_slot.specs.Page.{IsOfChanged, IsPatch, changed_pages, page_size, patch_ops};
 ghost use Rattle.gate_slot.specs.Slot.{room, IsGate, IsBody, IsGateShut, IsGateOpen, HasBody, IsFilled, IsOneWrite, open_gate, gate_in, body_in, shut_ops, fill_ops, publish_ops};
 ghost use Rattle.gate_slot.specs.Token.{slot_of_live, IsTornAt, torn_port};
 ghost use Rattle.gate_slot.specs.declared.slot.Step.TheVariants.{Shutting, Filling, Publishing};
 
-use crate::write::write_through;
+use crate::write::{patch_through, write_through};
 use urna_outside::{Dev, Machine};
 
 /// The value of an open gate. Every other value counts as shut.
@@ -197,6 +198,7 @@ impl<const SIZE: usize> Slot<SIZE> {
 }
 
 impl<const SIZE: usize> Shut<SIZE> {
+    ghost use Rattle.gate_slot.specs.Slot.{body_offset};
     ghost use Rattle.gate_slot.specs.Token.{slot_of_shut, slot_of_filled};
 
     /// Writes the slot's body, of SIZE bytes.
@@ -239,6 +241,60 @@ impl<const SIZE: usize> Shut<SIZE> {
             Ok(()) => Ok(Filled { slot }),
             Err(_) => Err(slot.torn(Step::Filling)),
         }
+    }
+
+    /// Writes the pages of the slot's body that change, rising, over the old body; both have SIZE bytes, which is a
+    /// multiple of PAGE_SIZE.
+    ///
+    /// The caller owes that the gate is still shut in every image of this machine's device and that the slot's body
+    /// reads as `old`, where it tells it. `Torn` comes only where the device's count rose, and the body may then hold
+    /// anything in those pages.
+    pub fn patch<M: Machine>(
+        self,
+        m: &mut M,
+        old: &[u8],
+        new: &[u8],
+    ) -> Result<Filled<SIZE>, Torn<SIZE>>
+        requires index { (slot_of_shut self).index < 2 }
+        requires room { room SIZE ≤ size_of (slot_of_shut self).dev (M.told m.old).sizes }
+        requires pages { SIZE % page_size ≡ 0 }
+        requires old { length old.now ≡ SIZE }
+        requires new { length new.now ≡ SIZE }
+        requires shut { OnFlash (slot_of_shut self).dev (IsGateShut SIZE (slot_of_shut self).index) (M.told m.old) }
+        requires body { OnFlash (slot_of_shut self).dev
+            (λ flash. body_in SIZE (slot_of_shut self).index flash.content ≡ old.now) (M.told m.old) }
+
+        ensures slot { IfOk result (λ filled. slot_of_filled filled ≡ slot_of_shut self.entry) }
+        ensures torn { IfErr result (IsTornAt (slot_of_shut self.entry) Filling) }
+
+        ensures body { OnOk result (OnFlash (slot_of_shut self.entry).dev
+            (HasBody SIZE (slot_of_shut self.entry).index new.now) (M.told m.new)) }
+        ensures clean { OnOk result (OnFlash (slot_of_shut self.entry).dev IsClean (M.told m.new)) }
+        // Ok or Torn, the gate is still shut.
+        ensures shut { OnFlash (slot_of_shut self.entry).dev
+            (IsGateShut SIZE (slot_of_shut self.entry).index) (M.told m.new) }
+
+        ensures ran { Runs (IsPatch (slot_of_shut self.entry).dev (IsBody SIZE (slot_of_shut self.entry).index)
+            (page_size * length (changed_pages old.now new.now))) (M.told m.old) (M.told m.new) }
+        ensures exact { OnOk result (Does
+            (patch_ops SIZE (slot_of_shut self.entry).dev (slot_of_shut self.entry).index old.now new.now)
+            (M.told m.old) (M.told m.new)) }
+        ensures cut { OnErr result (Runs
+            (IsFrontOf (patch_ops SIZE (slot_of_shut self.entry).dev (slot_of_shut self.entry).index old.now new.now))
+            (M.told m.old) (M.told m.new)) }
+
+        // Ok or Torn, every byte but those of the pages that change is as before.
+        ensures rest { KeepsRest (slot_of_shut self.entry).dev
+            (IsOfChanged (body_offset SIZE (slot_of_shut self.entry).index) old.now new.now)
+            (M.told m.old) (M.told m.new) }
+        ensures fails { FailsAt torn_port result (M.told m.old) (M.told m.new) }
+    {
+        let slot = self.slot;
+        let at = slot.body(m.size(slot.dev));
+        let Ok(()) = patch_through(m, slot.dev, at, old, new) else {
+            return Err(slot.torn(Step::Filling));
+        };
+        Ok(Filled { slot })
     }
 }
 

@@ -11,11 +11,11 @@ use Rattle.vote_kinds.specs.Ballot.{BallotLine, is_choice, line_of, lines_by_pan
 use Rattle.vote_record.specs.Bag.{bag_at, count_of, with_vote}
 use Rattle.vote_record.specs.RdvData.{IsVote}
 use Rattle.vote_record.proofs.Bags.{bag_at-with_vote_same, bag_at-with_vote_other, count_cons, count_of-with_choice, length-with_vote, same_true}
+use Rattle.vote_kinds.proofs.Lookups.{line_found}
 use Rattle.image_codec.specs.State.{State, with_votes}
 use Rattle.image_codec.specs.Valid.{HasChoices}
 use Rattle.image_codec.specs.Encoding.{IsStateOf}
 use Rattle.image_codec.specs.Laws.{votes_for}
-use Rattle.image_codec.proofs.ReadParts.{line_found}
 use Rattle.image_codec.proofs.Valid.{bag_for_each}
 
 -- one vote more

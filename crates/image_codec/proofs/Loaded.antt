@@ -1,6 +1,7 @@
 -- A ready state that takes on what was read is the state of the encoding
-use Rattle.std.proofs.Common.{◌≡◌, ℕ, ◌*◌, ◌<◌, ◌≤◌, Bool, true, false, cond, List, [], ◌∷◌, length, drop, replicate, slice_index, unwrap_or, Option, Some, IsSome, is_some, option_map, refl, sym, ap, subst, ◌∙◌, arith}
+use Rattle.std.proofs.Common.{◌≡◌, ℕ, ◌*◌, ◌<◌, ◌≤◌, Bool, true, false, cond, List, [], ◌∷◌, length, replicate, slice_index, unwrap_or, Option, Some, IsSome, is_some, option_map, refl, sym, ap, subst, ◌∙◌, arith}
 use Rattle.std.proofs.lemmas.List.Sums.{sum_by-cons}
+use Rattle.urna_base.proofs.Cases.{and_then_some, guard_some, map_some}
 use Rattle.election_tables.specs.Limits.{most_voters}
 use Rattle.election_tables.specs.TablesData.{TablesData, IsTables, places_of, places_at}
 use Rattle.vote_kinds.specs.declared.choice.Choice.{Choice}
@@ -12,14 +13,14 @@ use Rattle.turnout.specs.declared.phase.Phase.TheVariants as phase
 use Rattle.image_codec.specs.State.{State}
 use Rattle.image_codec.specs.Valid.{IsStarted, AllHaveVoted}
 use Rattle.image_codec.specs.Encoding.{IsEncoding}
-use Rattle.image_codec.specs.Decoded.{marks_in, turnout_of, bags_in, phase_in, is_body, decoded}
+use Rattle.image_codec.specs.DecodedHead.{marks_in, turnout_of, phase_in}
+use Rattle.image_codec.specs.Decoded.{bags_of, is_body, decoded}
 use Rattle.image_codec.specs.Head.{head_of}
-use Rattle.image_codec.specs.declared.reading.Head.{Head}
+use Rattle.image_codec.specs.declared.codec.head.Head.{Head}
 use Rattle.image_codec.proofs.Decoding.{decoded_takes}
 use Rattle.image_codec.proofs.Full.{no_votes, fewer_votes}
 use Rattle.image_codec.proofs.Valid.{IsKept, state_of, bag_for_each}
-use Rattle.image_codec.proofs.ReadVotes.{bind_some, map_some, test_some}
-use Rattle.image_codec.proofs.WholeBody.{state_with, bags_of, rest_of, head_known}
+use Rattle.image_codec.proofs.WholeBody.{bags_by_count, body_bags, head_known, rest_of, state_with}
 
 -- Before the poll
 
@@ -51,24 +52,24 @@ room_for_all t r voters came of places few panel lt =
 
 -- What was read
 
-parts_of : (t : TablesData) (voters : ℕ) (bytes : List ℕ) (s : State) → decoded t voters bytes ≡ Some s → (s.came ≡ marks_in voters (turnout_of bytes)) × (bags_of t voters bytes ≡ Some s.bags)
-unfolding decoded
-parts_of t voters bytes s e =
-    let whole = test_some (is_body bytes) (rest_of t voters bytes (phase_in voters (length t.panels) bytes)) s e in
-    let a = bind_some (λ p. option_map (state_with t voters bytes p) (bags_of t voters bytes)) (phase_in voters (length t.panels) bytes) s whole.1 in
-    let b = map_some (state_with t voters bytes a.0) (bags_of t voters bytes) s a.2 in
-    (ap (λ (x : State). x.came) (sym b.2), b.1 ∙ ap (λ (x : State). Some x.bags) b.2)
-
--- the head, the bytes behind it, and the state that they are of
-record IsRead (t : TablesData) (voters : ℕ) (bytes : List ℕ) (h : Head) (rest : List ℕ) : Type 0 where
+-- the head, and the state that it is of
+record IsRead (t : TablesData) (voters : ℕ) (bytes : List ℕ) (h : Head) : Type 0 where
   state : State
   found : decoded t voters bytes ≡ Some state
   phase_is : state.phase ≡ h.phase
   came_is : state.came ≡ marks_in voters (turnout_of bytes)
-  bags_are : bags_in (lines_by_panel t) h.came rest ≡ Some state.bags
+  bags_are : bags_of (lines_by_panel t) h.came bytes ≡ Some state.bags
 
-is_read : (t : TablesData) (voters : ℕ) (bytes : List ℕ) (h : Head) (rest : List ℕ) → Some h ≡ option_map head_of (decoded t voters bytes) → rest ≡ drop 98 bytes → IsRead t voters bytes h rest
-is_read t voters bytes h rest head behind =
+parts_of : (t : TablesData) (voters : ℕ) (bytes : List ℕ) (s : State) → decoded t voters bytes ≡ Some s → (s.came ≡ marks_in voters (turnout_of bytes)) × (body_bags t voters bytes ≡ Some s.bags)
+unfolding decoded
+parts_of t voters bytes s e =
+    let whole = guard_some (is_body bytes) (rest_of t voters bytes (phase_in voters (length t.panels) bytes)) s e in
+    let a = and_then_some (phase_in voters (length t.panels) bytes) (λ p. option_map (state_with t voters bytes p) (body_bags t voters bytes)) s whole.1 in
+    let b = map_some (state_with t voters bytes a.0) (body_bags t voters bytes) s a.2 in
+    (ap (λ (x : State). x.came) (sym b.2), b.1 ∙ ap (λ (x : State). Some x.bags) b.2)
+
+is_read : (t : TablesData) (voters : ℕ) (bytes : List ℕ) (h : Head) → Some h ≡ option_map head_of (decoded t voters bytes) → IsRead t voters bytes h
+is_read t voters bytes h head =
     let known = head_known (decoded t voters bytes) h head in
     let parts = parts_of t voters bytes known.0 known.1 in
     let count : h.came ≡ number_came (marks_in voters (turnout_of bytes)) = ap (λ (g : Head). g.came) (sym known.2) ∙ ap number_came parts.0 in
@@ -77,19 +78,17 @@ is_read t voters bytes h rest head behind =
       found = known.1;
       phase_is = ap (λ (g : Head). g.phase) known.2;
       came_is = parts.0;
-      bags_are = ap (λ (n : ℕ). bags_in (lines_by_panel t) n rest) count
-          ∙ ap (bags_in (lines_by_panel t) (number_came (marks_in voters (turnout_of bytes)))) behind ∙ parts.1;
+      bags_are = bags_by_count t voters h.came bytes count ∙ parts.1;
     }
 
-pub bags_read : (t : TablesData) (voters : ℕ) (bytes : List ℕ) (h : Head) (rest : List ℕ) → Some h ≡ option_map head_of (decoded t voters bytes) → rest ≡ drop 98 bytes
-    → IsSome (bags_in (lines_by_panel t) h.came rest)
-bags_read t voters bytes h rest head behind = ap (λ (o : Option (List (List Choice))). is_some o) (is_read t voters bytes h rest head behind).bags_are
+pub bags_read : (t : TablesData) (voters : ℕ) (bytes : List ℕ) (h : Head) → Some h ≡ option_map head_of (decoded t voters bytes) → IsSome (bags_of (lines_by_panel t) h.came bytes)
+bags_read t voters bytes h head = ap (λ (o : Option (List (List Choice))). is_some o) (is_read t voters bytes h head).bags_are
 
-pub read_encoding : (t : TablesData) (voters : ℕ) (bytes : List ℕ) (h : Head) (rest : List ℕ) (came : List Bool) (r after : RdvData) → IsTables t → voters ≤ most_voters
-    → Some h ≡ option_map head_of (decoded t voters bytes) → rest ≡ drop 98 bytes → came ≡ marks_in voters (turnout_of bytes) → r.places ≡ places_of t
-    → after ≡ record r { bags = unwrap_or (bags_in (lines_by_panel t) h.came rest) [] } → IsEncoding t voters (state_of h.phase came after) bytes
-read_encoding t voters bytes h rest came r after is few head behind marks places votes =
-    let read = is_read t voters bytes h rest head behind in
+pub read_encoding : (t : TablesData) (voters : ℕ) (bytes : List ℕ) (h : Head) (came : List Bool) (r after : RdvData) → IsTables t → voters ≤ most_voters
+    → Some h ≡ option_map head_of (decoded t voters bytes) → came ≡ marks_in voters (turnout_of bytes) → r.places ≡ places_of t
+    → after ≡ record r { bags = unwrap_or (bags_of (lines_by_panel t) h.came bytes) [] } → IsEncoding t voters (state_of h.phase came after) bytes
+read_encoding t voters bytes h came r after is few head marks places votes =
+    let read = is_read t voters bytes h head in
     let encoding = decoded_takes t voters bytes read.state is few read.found in
     let same_bags : after.bags ≡ read.state.bags = ap (λ (x : RdvData). x.bags) votes ∙ ap (λ (o : Option (List (List Choice))). unwrap_or o []) read.bags_are in
     let same_places : after.places ≡ read.state.places = ap (λ (x : RdvData). x.places) votes ∙ places ∙ sym encoding.state.places in

@@ -35,4 +35,4 @@ known_by_votes t voters s u of_s of_u phase came counts =
     let bags : s.bags ≡ u.bags =
     same_bags s.bags u.bags (panels ∙ sym (panels_of t voters u of_u)) of_s.valid.in_order of_u.valid.in_order (λ panel c lt. counts panel c (omega (arith, lt, panels))) in
     let same = same_state s u phase (same_came s.came u.came (of_s.roll ∙ sym of_u.roll) came) (of_s.places ∙ sym of_u.places) bags in
-    (same, ap encode same)
+    (same, ap (encode t) same)

@@ -1,5 +1,5 @@
 -- What stands before the bags is read as it was written
-use Rattle.std.proofs.Common.{◌≡◌, ℕ, ◌+◌, ◌/◌, ◌^◌, ◌<◌, ◌≤◌, Bool, true, false, cond, ◌&&◌, ◌==◌, nat_le, List, [], ◌∷◌, ◌++◌, length, get_or, take, drop, Option, Some, None, ◌⊎◌, inl, inr, refl, sym, ap, subst, ◌∙◌, append_assoc, arith}
+use Rattle.std.proofs.Common.{◌≡◌, ℕ, ◌+◌, ◌^◌, ◌<◌, ◌≤◌, Bool, true, false, cond, ◌&&◌, ◌==◌, nat_le, List, [], ◌∷◌, ◌++◌, length, get_or, take, drop, Option, Some, None, ◌⊎◌, inl, inr, refl, sym, ap, subst, ◌∙◌, append_assoc, arith}
 use Rattle.std.specs.Option.{option_and_then}
 use Rattle.std.specs.Int.{w32, w64, to_be_bytes}
 use Rattle.std.specs.List.{slice_index}
@@ -7,23 +7,27 @@ use Rattle.std.proofs.lemmas.Bool.{eqb-true, eq-eqb, leb-true, le-leb, and_from,
 use Rattle.std.proofs.lemmas.List.{drop_more, drop-drop, drop_at, take_at, get_or_at, take-append-drop, length-append}
 use Rattle.std.proofs.lemmas.Nat.{from_be_bytes-to_be_bytes_4, from_be_bytes-to_be_bytes_8}
 use Rattle.std.proofs.lemmas.Option.{cond_some}
-use Rattle.urna_base.specs.Moment.{is_moment, is_date, is_between}
+use Rattle.urna_base.specs.Moment.{is_moment}
+use Rattle.urna_base.proofs.MomentLaws.{is_moment-below}
+use Rattle.urna_base.proofs.Cases.{and_then_some, guard_some}
 use Rattle.election_tables.specs.Limits.{most_voters}
 use Rattle.turnout.specs.Turnout.{number_came}
 use Rattle.turnout.specs.declared.phase.Phase.{Phase}
 use Rattle.turnout.specs.declared.phase.Phase.TheVariants as phase
 use Rattle.turnout.proofs.Marks.{number_came-le-length}
+use Rattle.image_codec.specs.State.{State}
 use Rattle.image_codec.specs.Valid.{HasMoments, IsStarted}
-use Rattle.image_codec.specs.Encoding.{phase_byte, opening_in, closing_in, turnout_bytes}
-use Rattle.image_codec.specs.Decoded.{number4_at, number8_at, phase_with, is_started, marks_in, has_no_more, turnout_of, has_counts, phase_in}
+use Rattle.image_codec.specs.Encoding.{phase_byte, opening_in, closing_in, turnout_bytes, head_bytes}
+use Rattle.image_codec.specs.Numbers.{number4_at, number8_at}
+use Rattle.image_codec.specs.DecodedHead.{phase_with, is_started, marks_in, has_no_more, turnout_of, has_counts, phase_in}
 use Rattle.image_codec.proofs.Bits.{marks_back, no_more_back}
-use Rattle.image_codec.proofs.ReadVotes.{bind_some, test_some, number4_back, number8_back}
+use Rattle.image_codec.proofs.ReadVotes.{number4_back, number8_back}
 use Rattle.image_codec.proofs.WholeBody.{AreBytes}
 use Rattle.image_codec.proofs.Written.{length-turnout_bytes}
 
 -- The phase
 
-chosen : {A : Type 0} (b : Bool) (o rest : Option A) (y : A) → cond b o rest ≡ Some y → ((b ≡ true) × (o ≡ Some y)) ⊎ (rest ≡ Some y)
+pub chosen : {A : Type 0} (b : Bool) (o rest : Option A) (y : A) → cond b o rest ≡ Some y → ((b ≡ true) × (o ≡ Some y)) ⊎ (rest ≡ Some y)
 chosen true o rest y e = inl (refl, e)
 chosen false o rest y e = inr e
 
@@ -74,14 +78,7 @@ phase_back (phase.Sealed opened closed) moments =
     (and_from (is_moment opened && is_moment closed) (nat_le opened closed) (and_from (is_moment opened) (is_moment closed) moments.0 moments.1) (le-leb opened closed moments.2))
 
 moment_small : (n : ℕ) → is_moment n ≡ true → n < 2 ^ 64
-unfolding is_moment is_date
-moment_small n h =
-    let day : ℕ = n / 1000000 in
-    let whole : is_date day ≡ true = (and_parts _ _ (and_parts _ _ (and_parts _ _ h).0).0).0 in
-    let year : is_between 1000 9999 (day / 10000) ≡ true = (and_parts _ _ (and_parts _ _ whole).0).0 in
-    let high : nat_le (day / 10000) 9999 ≡ true = (and_parts _ _ year).1 in
-    let most : day / 10000 ≤ 9999 = leb-true (day / 10000) 9999 high in
-    omega arith
+moment_small n h = omega (arith, is_moment-below n h)
 
 pub opening_small : (p : Phase) → HasMoments p → opening_in p < 2 ^ 64
 opening_small phase.Ready moments = omega arith
@@ -105,7 +102,7 @@ is_started_back (phase.Sealed opened closed) n h = refl
 
 -- The bytes, from left to right
 
--- the fields of fixed length, and the bytes after them
+-- the fields of the head, and the bytes after them
 abbrev pub fields_of : ℕ → ℕ → List ℕ → List ℕ → List ℕ → List ℕ → ℕ → List ℕ → List ℕ
 fields_of version code opened closed count marks panels rest = version ∷ code ∷ (opened ++ (closed ++ (count ++ (marks ++ panels ∷ rest))))
 
@@ -124,10 +121,20 @@ cut_all bytes long =
     (cut bytes 22 75 ∙ ap (λ (r : List ℕ). take 75 (drop 22 bytes) ++ r)
     (drop_more bytes 97 0 (omega arith)))))))
 
--- What is read before the bags
+-- the fields of a state's head
+regroup : (o k n m : List ℕ) (p : ℕ) (r : List ℕ) → (o ++ k ++ n ++ m ++ p ∷ []) ++ r ≡ o ++ (k ++ (n ++ (m ++ p ∷ r)))
+regroup o k n m p r = simp append_assoc
+
+pub head_text : (version : ℕ) (s : State) (rest : List ℕ) → head_bytes version s ++ rest
+    ≡ fields_of version (phase_byte s.phase) (to_be_bytes w64 (opening_in s.phase)) (to_be_bytes w64 (closing_in s.phase)) (to_be_bytes w32 (number_came s.came)) (turnout_bytes s.came) (length s.bags) rest
+head_text version s rest = ap (λ (r : List ℕ). version ∷ phase_byte s.phase ∷ r)
+    (regroup (to_be_bytes w64 (opening_in s.phase)) (to_be_bytes w64 (closing_in s.phase)) (to_be_bytes w32 (number_came s.came)) (turnout_bytes s.came) (length s.bags) rest)
+
+-- What is read in the head
 
 pub record TakesHead (voters panels : ℕ) (bytes : List ℕ) (p : Phase) : Type 0 where
-  pub text : bytes ≡ fields_of 1 (phase_byte p) (to_be_bytes w64 (opening_in p)) (to_be_bytes w64 (closing_in p)) (to_be_bytes w32 (number_came (marks_in voters (turnout_of bytes)))) (turnout_of bytes) panels (drop 98 bytes)
+  pub text : bytes
+      ≡ fields_of (slice_index bytes 0) (phase_byte p) (to_be_bytes w64 (opening_in p)) (to_be_bytes w64 (closing_in p)) (to_be_bytes w32 (number_came (marks_in voters (turnout_of bytes)))) (turnout_of bytes) panels (drop 98 bytes)
   pub none_past : has_no_more voters (turnout_of bytes) ≡ true
   pub moments : HasMoments p
   pub started : IsStarted p (number_came (marks_in voters (turnout_of bytes)))
@@ -137,82 +144,97 @@ unfolding phase_in has_counts
 head_takes voters panels bytes p are long e =
     let n : ℕ = number_came (marks_in voters (turnout_of bytes)) in
     let f : Phase → Option Phase = λ q. cond (is_started q n) (Some q) None in
-    let t = test_some (has_counts voters n panels bytes) (option_and_then f (phase_with (slice_index bytes 1) (number8_at bytes 2) (number8_at bytes 10))) p e in
-    let a = bind_some f (phase_with (slice_index bytes 1) (number8_at bytes 2) (number8_at bytes 10)) p t.1 in
+    let t = guard_some (has_counts voters n panels bytes) (option_and_then f (phase_with (slice_index bytes 1) (number8_at bytes 2) (number8_at bytes 10))) p e in
+    let a = and_then_some (phase_with (slice_index bytes 1) (number8_at bytes 2) (number8_at bytes 10)) f p t.1 in
     let s = cond_some (is_started a.0 n) a.0 p a.2 in
     let read : phase_with (slice_index bytes 1) (number8_at bytes 2) (number8_at bytes 10) ≡ Some p = a.1 ∙ ap (λ (q : Phase). Some q) s.1 in
     let of = phase_takes (slice_index bytes 1) (number8_at bytes 2) (number8_at bytes 10) p read in
-    let four = and_parts (slice_index bytes 0 == 1 && number4_at bytes 18 == n && has_no_more voters (turnout_of bytes)) (slice_index bytes 97 == panels) t.0 in
-    let three = and_parts (slice_index bytes 0 == 1 && number4_at bytes 18 == n) (has_no_more voters (turnout_of bytes)) four.0 in
-    let two = and_parts (slice_index bytes 0 == 1) (number4_at bytes 18 == n) three.0 in
+    let three = and_parts (number4_at bytes 18 == n && has_no_more voters (turnout_of bytes)) (slice_index bytes 97 == panels) t.0 in
+    let two = and_parts (number4_at bytes 18 == n) (has_no_more voters (turnout_of bytes)) three.0 in
     let opened = number8_back bytes 2 (opening_in p) are (omega arith) (sym of.opening) in
     let closed = number8_back bytes 10 (closing_in p) are (omega arith) (sym of.closing) in
-    let count = number4_back bytes 18 n are (omega arith) (sym (eqb-true (number4_at bytes 18) n two.1)) in
+    let count = number4_back bytes 18 n are (omega arith) (sym (eqb-true (number4_at bytes 18) n two.0)) in
+    let version : ℕ = get_or bytes 0 0 in
     let rest : List ℕ = drop 98 bytes in
     let marks : List ℕ = turnout_of bytes in
     record {
       text = cut_all bytes long
-          ∙ ap (λ (v : ℕ). fields_of v (get_or bytes 1 0) (take 8 (drop 2 bytes)) (take 8 (drop 10 bytes)) (take 4 (drop 18 bytes)) marks (get_or bytes 97 0) rest) (eqb-true (slice_index bytes 0) 1 two.0)
-          ∙ ap (λ (v : ℕ). fields_of 1 v (take 8 (drop 2 bytes)) (take 8 (drop 10 bytes)) (take 4 (drop 18 bytes)) marks (get_or bytes 97 0) rest) of.byte
-          ∙ ap (λ (v : List ℕ). fields_of 1 (phase_byte p) v (take 8 (drop 10 bytes)) (take 4 (drop 18 bytes)) marks (get_or bytes 97 0) rest) (sym opened)
-          ∙ ap (λ (v : List ℕ). fields_of 1 (phase_byte p) (to_be_bytes w64 (opening_in p)) v (take 4 (drop 18 bytes)) marks (get_or bytes 97 0) rest) (sym closed)
-          ∙ ap (λ (v : List ℕ). fields_of 1 (phase_byte p) (to_be_bytes w64 (opening_in p)) (to_be_bytes w64 (closing_in p)) v marks (get_or bytes 97 0) rest) (sym count)
-          ∙ ap (λ (v : ℕ). fields_of 1 (phase_byte p) (to_be_bytes w64 (opening_in p)) (to_be_bytes w64 (closing_in p)) (to_be_bytes w32 n) marks v rest) (eqb-true (slice_index bytes 97) panels four.1);
-      none_past = three.1;
+          ∙ ap (λ (v : ℕ). fields_of version v (take 8 (drop 2 bytes)) (take 8 (drop 10 bytes)) (take 4 (drop 18 bytes)) marks (get_or bytes 97 0) rest) of.byte
+          ∙ ap (λ (v : List ℕ). fields_of version (phase_byte p) v (take 8 (drop 10 bytes)) (take 4 (drop 18 bytes)) marks (get_or bytes 97 0) rest) (sym opened)
+          ∙ ap (λ (v : List ℕ). fields_of version (phase_byte p) (to_be_bytes w64 (opening_in p)) v (take 4 (drop 18 bytes)) marks (get_or bytes 97 0) rest) (sym closed)
+          ∙ ap (λ (v : List ℕ). fields_of version (phase_byte p) (to_be_bytes w64 (opening_in p)) (to_be_bytes w64 (closing_in p)) v marks (get_or bytes 97 0) rest) (sym count)
+          ∙ ap (λ (v : ℕ). fields_of version (phase_byte p) (to_be_bytes w64 (opening_in p)) (to_be_bytes w64 (closing_in p)) (to_be_bytes w32 n) marks v rest) (eqb-true (slice_index bytes 97) panels three.1);
+      none_past = two.1;
       moments = of.moments;
       started = started_is p n (ap (λ (q : Phase). is_started q n) (sym s.1) ∙ s.0);
     }
 
--- What was written is read again
+-- What was written is read again, whatever the version and whatever is behind the head
 
-module _ (voters panels : ℕ) (p : Phase) (came : List Bool) (rest : List ℕ) (roll : length came ≡ voters) (few : voters ≤ most_voters) (moments : HasMoments p) (started : IsStarted p (number_came came)) where
-  pub head_of_state : List ℕ
-  head_of_state = fields_of 1 (phase_byte p) (to_be_bytes w64 (opening_in p)) (to_be_bytes w64 (closing_in p)) (to_be_bytes w32 (number_came came)) (turnout_bytes came) panels rest
+-- a head, and what is behind it
+whole : ℕ → State → List ℕ → List ℕ
+whole version s rest = fields_of version (phase_byte s.phase) (to_be_bytes w64 (opening_in s.phase)) (to_be_bytes w64 (closing_in s.phase)) (to_be_bytes w32 (number_came s.came)) (turnout_bytes s.came) (length s.bags) rest
 
-  pub turnout_found : turnout_of head_of_state ≡ turnout_bytes came
-  unfolding head_of_state
-  turnout_found = take_at (turnout_bytes came) (panels ∷ rest) 75 (length-turnout_bytes came)
+-- what is read of it
+pub record HasHead (of_version voters : ℕ) (s : State) (rest bytes : List ℕ) : Type 0 where
+  pub version : slice_index bytes 0 ≡ of_version
+  pub phase : phase_in voters (length s.bags) bytes ≡ Some s.phase
+  pub came : marks_in voters (turnout_of bytes) ≡ s.came
+  pub behind : drop 98 bytes ≡ rest
 
-  pub rest_found : drop 98 head_of_state ≡ rest
-  unfolding head_of_state
-  rest_found =
-      let long : length (turnout_bytes came ++ panels ∷ []) ≡ 76 = omega (arith, length-append (turnout_bytes came) (panels ∷ []), length-turnout_bytes came) in
-      ap (λ (r : List ℕ). drop 76 r) (sym (append_assoc (turnout_bytes came) (panels ∷ []) rest)) ∙ drop_at (turnout_bytes came ++ panels ∷ []) rest 76 long
+turnout_is : (version : ℕ) (s : State) (rest : List ℕ) → turnout_of (whole version s rest) ≡ turnout_bytes s.came
+unfolding whole
+turnout_is version s rest = take_at (turnout_bytes s.came) (length s.bags ∷ rest) 75 (length-turnout_bytes s.came)
 
-  pub marks_found : marks_in voters (turnout_of head_of_state) ≡ came
-  marks_found = ap (marks_in voters) turnout_found ∙ ap (λ (n : ℕ). marks_in n (turnout_bytes came)) (sym roll) ∙ marks_back came (omega arith)
+rest_is : (version : ℕ) (s : State) (rest : List ℕ) → drop 98 (whole version s rest) ≡ rest
+unfolding whole
+rest_is version s rest =
+    let long : length (turnout_bytes s.came ++ length s.bags ∷ []) ≡ 76 = omega (arith, length-append (turnout_bytes s.came) (length s.bags ∷ []), length-turnout_bytes s.came) in
+    ap (λ (r : List ℕ). drop 76 r) (sym (append_assoc (turnout_bytes s.came) (length s.bags ∷ []) rest)) ∙ drop_at (turnout_bytes s.came ++ length s.bags ∷ []) rest 76 long
 
-  counts_found : has_counts voters (number_came came) panels head_of_state ≡ true
-  unfolding head_of_state has_counts
-  counts_found =
-      let most = number_came-le-length came in
-      let count : (number4_at head_of_state 18 == number_came came) ≡ true = eq-eqb (number4_at head_of_state 18) (number_came came) (from_be_bytes-to_be_bytes_4 (number_came came) (omega arith)) in
-      let past : has_no_more voters (turnout_of head_of_state) ≡ true =
-      ap (has_no_more voters) turnout_found ∙ ap (λ (n : ℕ). has_no_more n (turnout_bytes came)) (sym roll) ∙ no_more_back came (omega arith) in
-      let many : (slice_index head_of_state 97 == panels) ≡ true =
-      eq-eqb (slice_index head_of_state 97) panels (get_or_at (turnout_bytes came) panels rest 0 75 (length-turnout_bytes came)) in
-      and_from (slice_index head_of_state 0 == 1 && number4_at head_of_state 18 == number_came came && has_no_more voters (turnout_of head_of_state)) (slice_index head_of_state 97 == panels)
-      (and_from (slice_index head_of_state 0 == 1 && number4_at head_of_state 18 == number_came came) (has_no_more voters (turnout_of head_of_state))
-      (and_from (slice_index head_of_state 0 == 1) (number4_at head_of_state 18 == number_came came) refl count) past) many
+module _ (version voters : ℕ) (s : State) (rest : List ℕ) (roll : length s.came ≡ voters) (few : voters ≤ most_voters) (moments : HasMoments s.phase) (started : IsStarted s.phase (number_came s.came)) where
+  abbrev bytes : List ℕ
+  bytes = whole version s rest
 
-  phase_found : phase_with (slice_index head_of_state 1) (number8_at head_of_state 2) (number8_at head_of_state 10) ≡ Some p
-  unfolding head_of_state
-  phase_found =
-      ap (λ (n : ℕ). phase_with (phase_byte p) n (number8_at head_of_state 10)) (from_be_bytes-to_be_bytes_8 (opening_in p) (opening_small p moments))
-      ∙ ap (λ (n : ℕ). phase_with (phase_byte p) (opening_in p) n) (from_be_bytes-to_be_bytes_8 (closing_in p) (closing_small p moments))
-      ∙ phase_back p moments
+  marks_are : marks_in voters (turnout_of bytes) ≡ s.came
+  marks_are = ap (marks_in voters) (turnout_is version s rest) ∙ ap (λ (n : ℕ). marks_in n (turnout_bytes s.came)) (sym roll) ∙ marks_back s.came (omega arith)
 
-  pub head_found : phase_in voters panels head_of_state ≡ Some p
+  counts_pass : has_counts voters (number_came s.came) (length s.bags) bytes ≡ true
+  unfolding whole has_counts
+  counts_pass =
+      let most = number_came-le-length s.came in
+      let count : (number4_at bytes 18 == number_came s.came) ≡ true = eq-eqb (number4_at bytes 18) (number_came s.came) (from_be_bytes-to_be_bytes_4 (number_came s.came) (omega arith)) in
+      let past : has_no_more voters (turnout_of bytes) ≡ true =
+      ap (has_no_more voters) (turnout_is version s rest) ∙ ap (λ (n : ℕ). has_no_more n (turnout_bytes s.came)) (sym roll) ∙ no_more_back s.came (omega arith) in
+      let many : (slice_index bytes 97 == length s.bags) ≡ true =
+      eq-eqb (slice_index bytes 97) (length s.bags) (get_or_at (turnout_bytes s.came) (length s.bags) rest 0 75 (length-turnout_bytes s.came)) in
+      and_from (number4_at bytes 18 == number_came s.came && has_no_more voters (turnout_of bytes)) (slice_index bytes 97 == length s.bags)
+      (and_from (number4_at bytes 18 == number_came s.came) (has_no_more voters (turnout_of bytes)) count past) many
+
+  phase_is : phase_with (slice_index bytes 1) (number8_at bytes 2) (number8_at bytes 10) ≡ Some s.phase
+  unfolding whole
+  phase_is =
+      ap (λ (n : ℕ). phase_with (phase_byte s.phase) n (number8_at bytes 10)) (from_be_bytes-to_be_bytes_8 (opening_in s.phase) (opening_small s.phase moments))
+      ∙ ap (λ (n : ℕ). phase_with (phase_byte s.phase) (opening_in s.phase) n) (from_be_bytes-to_be_bytes_8 (closing_in s.phase) (closing_small s.phase moments))
+      ∙ phase_back s.phase moments
+
+  head_is : phase_in voters (length s.bags) bytes ≡ Some s.phase
   unfolding phase_in
-  head_found =
-      let n : ℕ = number_came came in
-      let read : Option Phase = phase_with (slice_index head_of_state 1) (number8_at head_of_state 2) (number8_at head_of_state 10) in
-      ap (λ (k : ℕ). cond (has_counts voters k panels head_of_state) (option_and_then (λ q. cond (is_started q k) (Some q) None) read) None) (ap number_came marks_found)
-      ∙ ap (λ (b : Bool). cond b (option_and_then (λ q. cond (is_started q n) (Some q) None) read) None) counts_found
-      ∙ ap (option_and_then (λ q. cond (is_started q n) (Some q) None)) phase_found
-      ∙ ap (λ (b : Bool). cond b (Some p) None) (is_started_back p n started)
+  head_is =
+      let n : ℕ = number_came s.came in
+      let read : Option Phase = phase_with (slice_index bytes 1) (number8_at bytes 2) (number8_at bytes 10) in
+      ap (λ (k : ℕ). cond (has_counts voters k (length s.bags) bytes) (option_and_then (λ q. cond (is_started q k) (Some q) None) read) None) (ap number_came marks_are)
+      ∙ ap (λ (b : Bool). cond b (option_and_then (λ q. cond (is_started q n) (Some q) None) read) None) counts_pass
+      ∙ ap (option_and_then (λ q. cond (is_started q n) (Some q) None)) phase_is
+      ∙ ap (λ (b : Bool). cond b (Some s.phase) None) (is_started_back s.phase n started)
 
-  pub head_is_fields : head_of_state
-      ≡ fields_of 1 (phase_byte p) (to_be_bytes w64 (opening_in p)) (to_be_bytes w64 (closing_in p)) (to_be_bytes w32 (number_came came)) (turnout_bytes came) panels rest
-  unfolding head_of_state
-  head_is_fields = refl
+  parts_back : HasHead version voters s rest bytes
+  unfolding whole
+  parts_back = record { version = refl; phase = head_is; came = marks_are; behind = rest_is version s rest }
+
+  whole_is : head_bytes version s ++ rest ≡ bytes
+  unfolding whole
+  whole_is = head_text version s rest
+
+  pub head_back : HasHead version voters s rest (head_bytes version s ++ rest)
+  head_back = subst (HasHead version voters s rest) (sym whole_is) parts_back

@@ -1,21 +1,23 @@
 -- Reading goes on from left to right: one place, one vote or one bag at a time
-use Rattle.std.proofs.Common.{◌≡◌, ◌≢◌, ℕ, zero, suc, ◌+◌, ◌-◌, ◌*◌, ◌<◌, ◌≤◌, Bool, true, false, not, cond, ◌&&◌, ◌==◌, List, [], ◌∷◌, ◌++◌, length, map, drop, slice_index, unwrap_or, Option, Some, None, is_some, refl, sym, ap, ◌∙◌, arith, option_map, slice_get}
+use Rattle.std.proofs.Common.{◌≡◌, ◌≢◌, ℕ, suc, ◌+◌, ◌-◌, ◌*◌, ◌<◌, ◌≤◌, Bool, true, false, not, cond, ◌&&◌, List, [], ◌∷◌, ◌++◌, length, drop, Option, Some, None, is_some, option_map, refl, ap, ◌∙◌, arith}
 use Rattle.std.specs.Option.{option_and_then}
 use Rattle.std.specs.List.{list_all, range_with_len}
 use Rattle.std.proofs.lemmas.Bool.{eq-eqb, ne_eqb}
-use Rattle.std.proofs.lemmas.List.{drop_all, drop_more}
+use Rattle.std.proofs.lemmas.List.{drop_all}
 use Rattle.std.proofs.lemmas.List.Sums.{sum_by-cons, sum_by-append}
 use Rattle.std.proofs.lemmas.List.FromFn.{map-range_with_len_more, length-map-range_with_len}
-use Rattle.std.proofs.lemmas.Option.{slice_get-get_or, unwrap_or-slice_get, get_or_from_slice_get}
-use Rattle.election_tables.specs.TablesData.{TablesData, places_at, places_in}
+use Rattle.election_tables.specs.TablesData.{TablesData, places_at}
 use Rattle.vote_kinds.specs.declared.choice.Choice.{Choice}
 use Rattle.vote_kinds.specs.declared.choice.Choice.TheVariants as choice
-use Rattle.election_tables.specs.declared.tables.panels.Panel.{Panel}
-use Rattle.vote_kinds.specs.Ballot.{BallotLine, lines_by_panel, line_of, line_for, no_panel}
-use Rattle.vote_kinds.proofs.Lookups.{by_panel_get, by_panel_length}
+use Rattle.vote_kinds.specs.Ballot.{BallotLine, line_of, lines_by_panel}
+use Rattle.vote_kinds.proofs.Lookups.{by_panel_length}
 use Rattle.turnout.specs.Turnout.{number_came}
 use Rattle.turnout.proofs.Marks.{number_came-le-length}
-use Rattle.image_codec.specs.Decoded.{number4_at, is_marked, marks_in, has_no_more, vote_in, votes_in, bag_in, bags_in}
+use Rattle.image_codec.specs.Numbers.{are_zero, number4_at}
+use Rattle.image_codec.specs.DecodedHead.{is_marked, marks_in, has_no_more}
+use Rattle.image_codec.specs.DecodedVotes.{vote_in, votes_in, bag_in, bags_in}
+use Rattle.image_codec.proofs.Lines.{line_places, lines_from_panel}
+use Rattle.image_codec.proofs.Somes.{some_both, some_map, some_where}
 
 -- Marks
 
@@ -54,7 +56,7 @@ no_more_ends n field le =
     let left : 600 - n ≡ 0 = omega arith in
     ap (λ (k : ℕ). list_all (λ place. not (is_marked field place)) (range_with_len n k)) left
 
--- Votes
+-- One bag
 
 pub bag_starts : (line : BallotLine) (n : ℕ) (bytes : List ℕ) → number4_at bytes 0 ≡ n → bag_in line n bytes ≡ votes_in line (choice.Nominal 0) n (drop 4 bytes)
 unfolding bag_in
@@ -63,10 +65,6 @@ bag_starts line n bytes e = ap (λ (b : Bool). cond b (votes_in line (choice.Nom
 pub bag_missing : (line : BallotLine) (n : ℕ) (bytes : List ℕ) → number4_at bytes 0 ≢ n → is_some (bag_in line n bytes) ≡ false
 unfolding bag_in
 bag_missing line n bytes e = ap (λ (b : Bool). is_some (cond b (votes_in line (choice.Nominal 0) n (drop 4 bytes)) None)) (ne_eqb (number4_at bytes 0) n e)
-
-some_map : {A B : Type 0} (f : A → B) (o : Option A) → is_some (option_map f o) ≡ is_some o
-some_map f None = refl
-some_map f (Some x) = refl
 
 -- of so many votes, those from a place on
 
@@ -92,61 +90,26 @@ votes_missing line before n i bytes lt e =
     ap (λ (k : ℕ). is_some (votes_in line before k bytes)) left
     ∙ ap (λ (o : Option Choice). is_some (option_and_then (λ d. option_map (λ bag. d ∷ bag) (votes_in line d (n - (i + 1)) (drop 5 bytes))) o)) e
 
--- Bags
+-- The bags of the panels from one on, of which the first is that one
 
-more_at : (line : BallotLine) (lines : List BallotLine) (n : ℕ) (bytes : List ℕ) (o : Option (List Choice)) → is_some o ≡ true
-    → is_some (option_and_then (λ bag. option_map (λ bags. bag ∷ bags) (bags_in lines n (drop (4 + 5 * (n * line.places)) bytes))) o) ≡ is_some (bags_in lines n (drop (4 + 5 * (n * line.places)) bytes))
-more_at line lines n bytes None has = absurd (cc)
-more_at line lines n bytes (Some bag) has = some_map (λ bags. bag ∷ bags) (bags_in lines n (drop (4 + 5 * (n * line.places)) bytes))
-
-missing_at : (line : BallotLine) (lines : List BallotLine) (n : ℕ) (bytes : List ℕ) (o : Option (List Choice)) → is_some o ≡ false
-    → is_some (option_and_then (λ bag. option_map (λ bags. bag ∷ bags) (bags_in lines n (drop (4 + 5 * (n * line.places)) bytes))) o) ≡ false
-missing_at line lines n bytes None has = refl
-missing_at line lines n bytes (Some bag) has = absurd (cc)
-
-some_test : (b : Bool) → is_some {T = List (List Choice)} (cond b (Some []) None) ≡ b
-some_test true = refl
-some_test false = refl
-
-places_found : (panels : List Panel) (panel : ℕ) → panel < length panels → places_in (unwrap_or (slice_get panels panel) no_panel) ≡ slice_index (map places_in panels) panel
-places_found [] panel lt = absurd (omega arith)
-places_found (p ∷ panels) zero lt = refl
-places_found (p ∷ panels) (suc panel) lt = places_found panels panel (omega arith)
-
--- the line of a panel has as many votes of a voter as the tables say
-pub line_places : (t : TablesData) (panel : ℕ) → panel < length t.panels → (line_of t panel).places ≡ places_at t panel
-line_places t panel lt = places_found t.panels panel lt
-
--- the line of a panel of the tables
-pub line_found : (t : TablesData) (panel : ℕ) → panel < length t.panels → slice_get (lines_by_panel t) panel ≡ Some (line_of t panel)
-line_found t panel lt =
-    by_panel_get t panel ∙ ap (option_map (line_for t panel)) (slice_get-get_or t.panels panel no_panel lt)
-    ∙ ap (λ (p : Panel). Some (line_for t panel p)) (sym (unwrap_or-slice_get t.panels panel no_panel))
-
-pub bags_more : (line : BallotLine) (lines : List BallotLine) (n : ℕ) (bytes : List ℕ) → is_some (bag_in line (n * line.places) bytes) ≡ true
-    → is_some (bags_in (line ∷ lines) n bytes) ≡ is_some (bags_in lines n (drop (4 + 5 * (n * line.places)) bytes))
+bags_more : (line : BallotLine) (lines : List BallotLine) (n : ℕ) (bytes : List ℕ) → is_some (bags_in (line ∷ lines) n bytes)
+    ≡ (is_some (bag_in line (n * line.places) bytes) && is_some (bags_in lines n (drop (4 + 5 * (n * line.places)) bytes)))
 unfolding bags_in
-bags_more line lines n bytes has = more_at line lines n bytes (bag_in line (n * line.places) bytes) has
+bags_more line lines n bytes = some_both (λ bag bags. bag ∷ bags) (bag_in line (n * line.places) bytes) (bags_in lines n (drop (4 + 5 * (n * line.places)) bytes))
 
-pub bags_missing : (line : BallotLine) (lines : List BallotLine) (n : ℕ) (bytes : List ℕ) → is_some (bag_in line (n * line.places) bytes) ≡ false → is_some (bags_in (line ∷ lines) n bytes) ≡ false
+pub bags_here : (t : TablesData) (panel n : ℕ) (bytes : List ℕ) → panel < length t.panels → is_some (bags_in (drop panel (lines_by_panel t)) n bytes)
+    ≡ (is_some (bag_in (line_of t panel) (n * places_at t panel) bytes) && is_some (bags_in (drop (panel + 1) (lines_by_panel t)) n (drop (4 + 5 * (n * places_at t panel)) bytes)))
+bags_here t panel n bytes lt =
+    let after : List BallotLine = drop (panel + 1) (lines_by_panel t) in
+    ap (λ (ls : List BallotLine). is_some (bags_in ls n bytes)) (lines_from_panel t panel lt)
+    ∙ bags_more (line_of t panel) after n bytes
+    ∙ ap (λ (k : ℕ). is_some (bag_in (line_of t panel) (n * k) bytes) && is_some (bags_in after n (drop (4 + 5 * (n * k)) bytes))) (line_places t panel lt)
+
+bags_none : (n : ℕ) (bytes : List ℕ) → is_some (bags_in [] n bytes) ≡ are_zero bytes
 unfolding bags_in
-bags_missing line lines n bytes has = missing_at line lines n bytes (bag_in line (n * line.places) bytes) has
+bags_none n bytes = some_where {A = List (List Choice)} (are_zero bytes) []
 
--- the lines from a panel on, of which the first is that of the panel
-pub lines_from_panel : (t : TablesData) (panel : ℕ) → panel < length t.panels → drop panel (lines_by_panel t) ≡ line_of t panel ∷ drop (panel + 1) (lines_by_panel t)
-lines_from_panel t panel lt =
-    let many = by_panel_length t in
-    drop_more (lines_by_panel t) panel (line_of t panel) (omega arith)
-    ∙ ap (λ (l : BallotLine). l ∷ drop (panel + 1) (lines_by_panel t)) (get_or_from_slice_get (lines_by_panel t) panel (line_of t panel) (line_of t panel) (line_found t panel lt))
-
-pub bags_end : (t : TablesData) (panel n : ℕ) (bytes : List ℕ) → length t.panels ≤ panel → is_some (bags_in (drop panel (lines_by_panel t)) n bytes) ≡ list_all (λ b. b == 0) bytes
-unfolding bags_in
+pub bags_end : (t : TablesData) (panel n : ℕ) (bytes : List ℕ) → length t.panels ≤ panel → is_some (bags_in (drop panel (lines_by_panel t)) n bytes) ≡ are_zero bytes
 bags_end t panel n bytes le =
     let many = by_panel_length t in
-    ap (λ (ls : List BallotLine). is_some (bags_in ls n bytes)) (drop_all panel (lines_by_panel t) (omega arith)) ∙ some_test (list_all (λ b. b == 0) bytes)
-
--- there is room for the parts that are left
-pub room_left : (i k n r : ℕ) → i < 8 → n ≤ i * k + r → 8 * k ≤ n → k ≤ r
-room_left i k n r lt is all =
-    let most : i * k ≤ 7 * k = grind arith in
-    omega arith
+    ap (λ (ls : List BallotLine). is_some (bags_in ls n bytes)) (drop_all panel (lines_by_panel t) (omega arith)) ∙ bags_none n bytes

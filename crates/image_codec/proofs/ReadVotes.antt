@@ -7,6 +7,7 @@ use Rattle.std.proofs.lemmas.Bool.{cases_lt, eqb-true, lt-ltb, and_from, and_par
 use Rattle.std.proofs.lemmas.List.{drop_more, drop-drop, take-append-drop, length-take, length-drop, get_or-drop, get_or-take, get_or_past}
 use Rattle.std.proofs.lemmas.Nat.{be_bytes_4, be_bytes_8, from_be_bytes-to_be_bytes_4}
 use Rattle.std.proofs.lemmas.Option.{cond_some, same_Some}
+use Rattle.urna_base.proofs.Cases.{and_then_some, map_some}
 use Rattle.vote_kinds.specs.declared.choice.Choice.{Choice}
 use Rattle.vote_kinds.specs.declared.choice.Choice.TheVariants as choice
 use Rattle.vote_kinds.specs.Ballot.{BallotLine, is_choice}
@@ -14,7 +15,8 @@ use Rattle.vote_kinds.specs.Choice.{choice_le, choice_with, kind_of, number_of}
 use Rattle.vote_record.specs.Bag.{IsInOrder}
 use Rattle.vote_record.proofs.Bags.{all_trans}
 use Rattle.image_codec.specs.Encoding.{vote_bytes}
-use Rattle.image_codec.specs.Decoded.{number4_at, number8_at, vote_in, votes_in}
+use Rattle.image_codec.specs.Numbers.{number4_at, number8_at}
+use Rattle.image_codec.specs.DecodedVotes.{vote_in, votes_in}
 use Rattle.image_codec.proofs.WholeBody.{AreBytes}
 
 pub bytes_drop : (n : ℕ) (bytes : List ℕ) → AreBytes bytes → AreBytes (drop n bytes)
@@ -26,18 +28,6 @@ bytes_take n bytes are i =
       | inl lt ↦ rw (get_or-take n bytes i 0 lt) (are i)
       | inr le ↦ rw (get_or_past (take n bytes) i 0 (omega (arith, length-take n bytes))) (omega arith)
     ]
-
-pub bind_some : {A B : Type 0} (f : A → Option B) (o : Option A) (y : B) → option_and_then f o ≡ Some y → (x : A) × (o ≡ Some x) × (f x ≡ Some y)
-bind_some f None y e = absurd (cc)
-bind_some f (Some x) y e = (x, refl, e)
-
-pub map_some : {A B : Type 0} (f : A → B) (o : Option A) (y : B) → option_map f o ≡ Some y → (x : A) × (o ≡ Some x) × (f x ≡ y)
-map_some f None y e = absurd (cc)
-map_some f (Some x) y e = (x, refl, same_Some (f x) y e)
-
-pub test_some : {A : Type 0} (b : Bool) (o : Option A) (y : A) → cond b o None ≡ Some y → (b ≡ true) × (o ≡ Some y)
-test_some true o y e = (refl, e)
-test_some false o y e = absurd (cc)
 
 -- Numbers
 
@@ -72,7 +62,7 @@ pub vote_takes : (line : BallotLine) (before c : Choice) (bytes : List ℕ) → 
     → (bytes ≡ vote_bytes c ++ drop 5 bytes) × (choice_le before c ≡ true) × (is_choice line c ≡ true)
 unfolding vote_in
 vote_takes line before c bytes are long e =
-    let a = bind_some (λ d. cond (choice_le before d && is_choice line d) (Some d) None) (choice_with (slice_index bytes 0) (number4_at bytes 1)) c e in
+    let a = and_then_some (choice_with (slice_index bytes 0) (number4_at bytes 1)) (λ d. cond (choice_le before d && is_choice line d) (Some d) None) c e in
     let t = cond_some (choice_le before a.0 && is_choice line a.0) a.0 c a.2 in
     let made : choice_with (slice_index bytes 0) (number4_at bytes 1) ≡ Some c = a.1 ∙ ap (λ (d : Choice). Some d) t.1 in
     let parts = found_parts (slice_index bytes 0) (number4_at bytes 1) c made in
@@ -127,7 +117,7 @@ unfolding votes_in
 votes_take line before zero bytes bag are long e =
     subst (λ (b : List Choice). TakesVotes line before 0 bytes b) (same_Some [] bag e) (record { text = refl; many = refl; choices = tt; after = tt; in_order = tt })
 votes_take line before (suc n) bytes bag are long e =
-    let a = bind_some (λ c. option_map (λ b. c ∷ b) (votes_in line c n (drop 5 bytes))) (vote_in line before bytes) bag e in
+    let a = and_then_some (vote_in line before bytes) (λ c. option_map (λ b. c ∷ b) (votes_in line c n (drop 5 bytes))) bag e in
     let c : Choice = a.0 in
     let b = map_some (λ b. c ∷ b) (votes_in line c n (drop 5 bytes)) bag a.2 in
     let first = vote_takes line before c bytes are (omega arith) a.1 in

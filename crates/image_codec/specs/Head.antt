@@ -1,6 +1,6 @@
--- What stands before the bags of a state
+-- What stands in the head of a body, but its version
 use Rattle.turnout.specs.Turnout.{number_came}
-use Rattle.image_codec.specs.declared.reading.Head.{Head}
+use Rattle.image_codec.specs.declared.codec.head.Head.{Head}
 use Rattle.image_codec.specs.State.{State}
 
 abbrev pub head_of : State → Head

@@ -1,13 +1,17 @@
--- Where the fields of a body stand (docs/FORMATS.md, "The body")
-use Rattle.std.specs.Prelude.{ℕ}
+-- Where the fields of a body stand (docs/FORMATS.md, "The body"). Both versions have the same head.
+use Rattle.std.specs.Prelude.{ℕ, ◌*◌}
 
 -- how many bytes a body has
 abbrev pub body_size : ℕ
 body_size = 65536
 
--- the version of the image, which is the first byte
+-- the version of the image that is written, which is the first byte
 abbrev pub version : ℕ
-version = 1
+version = 2
+
+-- the version that is read besides
+abbrev pub first_version : ℕ
+first_version = 1
 
 -- the byte of the phase
 abbrev pub phase_offset : ℕ
@@ -33,10 +37,30 @@ turnout_offset = 22
 abbrev pub turnout_size : ℕ
 turnout_size = 75
 
+-- how many places they have marks for
+abbrev pub turnout_places : ℕ
+turnout_places = 8 * turnout_size
+
 -- the byte of the number of panels
 abbrev pub panels_offset : ℕ
 panels_offset = 97
 
--- how many bytes stand before the bags
+-- how many bytes the head has, in which all these fields stand
 abbrev pub head_size : ℕ
 head_size = 98
+
+-- how many bytes stand in a bag of the first version before its votes
+abbrev pub bag_head_size : ℕ
+bag_head_size = 4
+
+-- how many bytes a vote takes there
+abbrev pub vote_size : ℕ
+vote_size = 5
+
+-- where the counters begin
+abbrev pub counters_offset : ℕ
+counters_offset = 512
+
+-- how many bytes a counter takes
+abbrev pub counter_size : ℕ
+counter_size = 4

@@ -3,6 +3,10 @@ pub mod State
 pub mod Valid
 pub mod Laws
 pub mod Encoding
+pub mod Numbers
+pub mod DecodedHead
+pub mod DecodedVotes
+pub mod DecodedCounters
 pub mod Decoded
 pub mod Head
 pub mod CodecLaws

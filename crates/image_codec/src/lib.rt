@@ -5,19 +5,14 @@
 //! memory. A contract sees the record `State` of `specs/State.antt`, whose steps these calls are; `specs/Valid.antt` says
 //! what is so of every state, and `laws` that ballots may come in any order.
 //!
-//! `encode_into` writes a state, `rank_of`, `State::load` and `decode` read one. `specs/Encoding.antt` says how a state is
-//! written, and `specs/Layout.antt` where each field stands; the reading calls accept exactly that, and `laws` that no two
-//! states have one encoding.
+//! `encode_into` writes a state, `rank_of`, `State::load` and `decode` read one. There are two versions of a body, and
+//! `specs/Encoding.antt` says how a state is written in each, and `specs/Layout.antt` where each field stands. The second one is
+//! written, and the reading calls accept exactly either; `laws` say that no two states have a common encoding.
 #![tactic(auto)]
 
-mod filling;
+mod codec;
 pub mod laws;
-mod layout;
-mod reading;
 mod state;
-mod writing;
 
-pub use layout::{BODY_SIZE, PHASE_OFFSET};
-pub use reading::rank_of;
+pub use codec::{BODY_SIZE, PHASE_OFFSET, encode_into, rank_of};
 pub use state::{State, decode};
-pub use writing::encode_into;

@@ -7,9 +7,7 @@ ghost use Rattle.image_codec.specs.Encoding.{IsEncoding, IsNoEncoding};
 ghost use Rattle.image_codec.specs.State.{opened_at, with_ballot, with_votes, sealed_at, rank_in, rank_of, MayVote, IsBallot};
 ghost use Rattle.image_codec.specs.Valid.{ready_state, IsValid, HasRoomForVoter, MayClose};
 
-use crate::filling::{fill_turnout, fill_votes};
-use crate::layout::{HEAD_SIZE, PANELS_OFFSET, TURNOUT_OFFSET};
-use crate::reading::checked;
+use crate::codec::{checked, fill_turnout, fill_votes};
 use election_tables::Tables;
 use std::alloc::Global;
 use std::marker::Model;
@@ -111,9 +109,9 @@ impl State {
         add_choices(&mut self.votes, tables, choices);
     }
 
-    /// Takes on the state whose encoding some bytes are, of a poll of these tables and as many voters as this state has
-    /// places; answers false and changes nothing exactly where no state has that encoding. Bytes of any length may be
-    /// given. It takes no memory.
+    /// Takes on the state whose encoding some bytes are, of either version, of a poll of these tables and as many voters as
+    /// this state has places; answers false and changes nothing exactly where no state has that encoding. Bytes of any
+    /// length may be given. It takes no memory.
     ///
     /// The caller owes that this state is ready, and that the tables have its panels, with as many votes of a voter in each.
     pub fn load(&mut self, tables: &Tables, bytes: &[u8]) -> bool
@@ -125,13 +123,8 @@ impl State {
     {
         match checked(tables, self.turnout.voters(), bytes) {
             Some(head) => {
-                fill_turnout(&mut self.turnout, &bytes[TURNOUT_OFFSET..PANELS_OFFSET]);
-                fill_votes(
-                    &mut self.votes,
-                    tables,
-                    head.came,
-                    bytes.split_at(HEAD_SIZE).1,
-                );
+                fill_turnout(&mut self.turnout, bytes);
+                fill_votes(&mut self.votes, tables, head.came, bytes);
                 self.phase = head.phase;
                 true
             }
@@ -152,9 +145,9 @@ impl State {
     }
 }
 
-/// The state whose encoding some bytes are, of a poll of these tables and so many voters, of whom there are at most 600;
-/// `Ok(None)` exactly where no state has that encoding. Bytes of any length may be given. `Memory` comes only where an
-/// allocation failed.
+/// The state whose encoding some bytes are, of either version, of a poll of these tables and so many voters, of whom there are
+/// at most 600; `Ok(None)` exactly where no state has that encoding. Bytes of any length may be given. `Memory` comes only
+/// where an allocation failed.
 pub fn decode(
     alloc: Global,
     tables: &Tables,

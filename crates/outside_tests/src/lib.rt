@@ -15,6 +15,8 @@ mod files;
 #[cfg(test)]
 mod memory;
 #[cfg(test)]
+mod pages;
+#[cfg(test)]
 mod slot;
 #[cfg(test)]
 mod twins;

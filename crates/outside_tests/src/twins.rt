@@ -15,7 +15,7 @@ use urna_outside::{Dev, Machine, Recorder, Tear};
 
 const NEW: [u8; 4] = [2; 4];
 
-const CLOSED: u8 = 0x5A;
+pub(crate) const CLOSED: u8 = 0x5A;
 
 const TEARS: [Tear; 4] = [
     Tear::AsPut,
@@ -28,7 +28,7 @@ const TEARS: [Tear; 4] = [
 type Held = (u8, [u8; 4]);
 
 /// Takes both slots of a device over and renews them. Where that is torn, the count of the device rose.
-fn renewed<M: Machine, const SIZE: usize>(
+pub(crate) fn renewed<M: Machine, const SIZE: usize>(
     m: &mut M,
     dev: Dev,
     old: &[u8],

@@ -70,7 +70,7 @@ fn a_poll_of_two_voters_of_whom_one_came(rt: HostRuntime) -> Result<(), Fail> {
     Ok(())
 }
 
-/// A sealed poll: version and phase, 20261004080000, 20261004170000, how many came, the first and the third of three voters.
+/// A sealed poll in version 1: version and phase, 20261004080000, 20261004170000, how many came, the first and the third of three voters.
 const SEALED: [u8; 23] = [
     1, 2, 0, 0, 18, 109, 97, 243, 115, 128, 0, 0, 18, 109, 97, 244, 211, 16, 0, 0, 0, 2, 160,
 ];
@@ -78,7 +78,7 @@ const SEALED: [u8; 23] = [
 /// One panel: a vote for candidate 45 and a blank one.
 const VOTES: [u8; 15] = [1, 0, 0, 0, 2, 1, 0, 0, 0, 45, 3, 0, 0, 0, 0];
 
-/// A body of zeros but for its front and the bytes from the number of panels on.
+/// A body of version 1: zeros but for its front and the bytes from the number of panels on.
 pub(super) fn body_of(alloc: Global, front: &[u8], bags: &[u8]) -> Result<Vec<u8>, Memory>
     requires front { length front.now ≤ 97 }
     requires bags { length bags.now ≤ 1000 }
@@ -90,6 +90,23 @@ pub(super) fn body_of(alloc: Global, front: &[u8], bags: &[u8]) -> Result<Vec<u8
     Ok(body)
 }
 
+/// The counters of the same votes: candidates 13 and 45, blank, null.
+const COUNTERS: [u8; 16] = [0, 0, 0, 0, 0, 0, 0, 1, 0, 0, 0, 1, 0, 0, 0, 0];
+
+/// A body of version 2 with such a front, one panel and these counters.
+fn counted(alloc: Global, front: &[u8], counters: &[u8]) -> Result<Vec<u8>, Memory>
+    requires front { length front.now ≤ 97 }
+    requires counters { length counters.now ≤ 1000 }
+    ensures { IfOk result (λ body. vec_len body ≡ 65536) }
+{
+    let mut body = vec![in alloc; 0; 65_536]?;
+    body[..front.len()].copy_from_slice(front);
+    body[0] = 2;
+    body[97] = 1;
+    body[512..512 + counters.len()].copy_from_slice(counters);
+    Ok(body)
+}
+
 /// An open poll whose one voter came, and chose candidate 13.
 const POLLING: [u8; 23] = [
     1, 1, 0, 0, 18, 109, 97, 243, 115, 128, 0, 0, 0, 0, 0, 0, 0, 0, 0, 0, 0, 1, 128,
@@ -97,21 +114,14 @@ const POLLING: [u8; 23] = [
 
 const VOTE: [u8; 10] = [1, 0, 0, 0, 1, 1, 0, 0, 0, 13];
 
+const COUNTER: [u8; 4] = [0, 0, 0, 1];
+
 /// What the state of a body tells; nothing where it is no encoding.
-fn read(
-    alloc: Global,
-    tables: &Tables,
-    voters: u32,
-    front: &[u8],
-    bags: &[u8],
-) -> Result<Option<Told>, Memory>
-    requires voters { voters ≤ most_voters }
-    requires front { length front.now ≤ 97 }
-    requires bags { length bags.now ≤ 1000 }
+fn read(alloc: Global, tables: &Tables, voters: u32, body: &[u8]) -> Result<Option<Told>, Memory>
+    requires { voters ≤ most_voters }
 {
-    let body = body_of(alloc, front, bags)?;
     let _panels = tables.panels();
-    match decode(alloc, tables, voters, &body)? {
+    match decode(alloc, tables, voters, body)? {
         Some(state) => Ok(Some(told(&state))),
         None => Ok(None),
     }
@@ -125,44 +135,47 @@ fn polls_are_read(rt: HostRuntime) -> Result<(), Fail> {
         closed: CLOSED,
     };
     let polling = Phase::Polling { opened: OPENED };
-    assert_eq!(rt;
-        (
-            read(rt.alloc(), &tables, 3, &SEALED, &VOTES)?,
-            read(rt.alloc(), &tables, 1, &POLLING, &VOTE)?
-        ),
-        (
-            Some((4, sealed, [true, false, true], [0, 1, 1])),
-            Some((2, polling, [true, false, false], [1, 0, 0]))
-        )
-    );
+    let first = body_of(rt.alloc(), &SEALED, &VOTES)?;
+    let second = counted(rt.alloc(), &SEALED, &COUNTERS)?;
+    let told = Some((4, sealed, [true, false, true], [0, 1, 1]));
+    assert_eq!(rt; read(rt.alloc(), &tables, 3, &first)?, told);
+    assert_eq!(rt; read(rt.alloc(), &tables, 3, &second)?, told);
+    let first = body_of(rt.alloc(), &POLLING, &VOTE)?;
+    let second = counted(rt.alloc(), &POLLING, &COUNTER)?;
+    let told = Some((2, polling, [true, false, false], [1, 0, 0]));
+    assert_eq!(rt; read(rt.alloc(), &tables, 1, &first)?, told);
+    assert_eq!(rt; read(rt.alloc(), &tables, 1, &second)?, told);
     Ok(())
 }
 
-/// Whether the sealed poll is written as it was read, over whatever stands there.
-fn is_written_again(alloc: Global, tables: &Tables) -> Result<bool, Memory> {
-    let body = body_of(alloc, &SEALED, &VOTES)?;
-    let Some(state) = decode(alloc, tables, 3, &body)? else {
+/// Whether the sealed poll of a body is written in version 2, over whatever stands there.
+fn is_written(alloc: Global, tables: &Tables, body: &[u8]) -> Result<bool, Memory> {
+    let Some(state) = decode(alloc, tables, 3, body)? else {
         return Ok(false);
     };
-    let mut written = body_of(alloc, &[255; 97], &[255; 1000])?;
+    let mut written = vec![in alloc; 255; 65_536]?;
     encode_into(&state, tables, &mut written);
-    Ok(written.as_slice() == body.as_slice())
+    Ok(written.as_slice() == counted(alloc, &SEALED, &COUNTERS)?.as_slice())
 }
 
 #[test]
-fn a_sealed_poll_is_written_again(rt: HostRuntime) -> Result<(), Fail> {
+fn a_sealed_poll_of_either_version_is_written_in_version_2(rt: HostRuntime) -> Result<(), Fail> {
     let tables = Tables::read(rt.alloc(), TABLES)?;
-    assert!(rt; is_written_again(rt.alloc(), &tables)?);
+    let first = body_of(rt.alloc(), &SEALED, &VOTES)?;
+    assert!(rt; is_written(rt.alloc(), &tables, &first)?);
+    let second = counted(rt.alloc(), &SEALED, &COUNTERS)?;
+    assert!(rt; is_written(rt.alloc(), &tables, &second)?);
     Ok(())
 }
 
 #[test]
-fn only_a_whole_body_of_this_version_is_a_state(rt: HostRuntime) -> Result<(), Fail> {
+fn only_a_whole_body_of_its_version_is_a_state(rt: HostRuntime) -> Result<(), Fail> {
     let tables = Tables::read(rt.alloc(), TABLES)?;
     let mut body = body_of(rt.alloc(), &POLLING, &VOTE)?;
     body.push(0)?;
     for (version, length, is_state) in [
         (1, 65_536, true),
+        (2, 65_536, false),
         (9, 65_536, false),
         (1, 65_535, false),
         (1, 65_537, false),
@@ -184,7 +197,7 @@ fn only_a_whole_body_of_this_version_is_a_state(rt: HostRuntime) -> Result<(), F
 fn a_body_with_a_wrong_field_is_no_encoding(rt: HostRuntime) -> Result<(), Fail> {
     let tables = Tables::read(rt.alloc(), TABLES)?;
     let wrong: [(usize, &[u8], &str); 15] = [
-        (0, &[2], "version 2"),
+        (0, &[2], "version 2 over the votes of version 1"),
         (0, &[9], "version 9"),
         (1, &[3], "phase 3"),
         (
@@ -214,22 +227,50 @@ fn a_body_with_a_wrong_field_is_no_encoding(rt: HostRuntime) -> Result<(), Fail>
     ];
     for (at, bytes, what) in wrong {
         assert!(rt; at <= 65_536 && bytes.len() <= 65_536 - at);
-        let refused = is_refused(rt.alloc(), &tables, at, bytes)?;
-        assert!(rt; refused, "{what}");
+        let mut body = body_of(rt.alloc(), &SEALED, &VOTES)?;
+        assert!(rt; is_refused(&tables, &mut body, at, bytes), "{what}");
     }
     Ok(())
 }
 
-/// Whether the sealed poll is no encoding with these bytes in a place.
-fn is_refused(alloc: Global, tables: &Tables, at: usize, bytes: &[u8]) -> Result<bool, Memory>
-    requires { at + length bytes.now ≤ 65536 }
-{
-    let mut body = body_of(alloc, &SEALED, &VOTES)?;
-    body[at..at + bytes.len()].copy_from_slice(bytes);
-    Ok(rank_of(tables, 3, &body).is_none())
+#[test]
+fn a_body_of_version_2_with_a_wrong_field_is_no_encoding(rt: HostRuntime) -> Result<(), Fail> {
+    let tables = Tables::read(rt.alloc(), TABLES)?;
+    let wrong: [(usize, &[u8], &str); 12] = [
+        (0, &[0], "version 0"),
+        (0, &[1], "version 1 over the counters of version 2"),
+        (0, &[3], "version 3"),
+        (22, &[224], "three are marked, and two came"),
+        (97, &[2], "two panels"),
+        (98, &[1], "the first byte behind the head"),
+        (511, &[1], "the last byte before the counters"),
+        (515, &[1], "a vote more than came"),
+        (519, &[0], "a vote less"),
+        (
+            512,
+            &[255, 255, 255, 255, 0, 0, 0, 2],
+            "2^32 and two votes of two who came",
+        ),
+        (528, &[1], "the first byte behind the last counter"),
+        (65_535, &[1], "the last byte"),
+    ];
+    for (at, bytes, what) in wrong {
+        assert!(rt; at <= 65_536 && bytes.len() <= 65_536 - at);
+        let mut body = counted(rt.alloc(), &SEALED, &COUNTERS)?;
+        assert!(rt; is_refused(&tables, &mut body, at, bytes), "{what}");
+    }
+    Ok(())
 }
 
-/// The rank of a body of so many voters.
+/// Whether a body of three voters is no encoding with these bytes in a place.
+fn is_refused(tables: &Tables, body: &mut [u8], at: usize, bytes: &[u8]) -> bool
+    requires { at + length bytes.now ≤ length body.old }
+{
+    body[at..at + bytes.len()].copy_from_slice(bytes);
+    rank_of(tables, 3, body).is_none()
+}
+
+/// The rank of a body of version 1 of so many voters.
 fn rank(
     alloc: Global,
     tables: &Tables,
@@ -242,6 +283,22 @@ fn rank(
     requires bags { length bags.now ≤ 1000 }
 {
     let body = body_of(alloc, front, bags)?;
+    Ok(rank_of(tables, voters, &body))
+}
+
+/// The rank of a body of version 2.
+fn rank_counted(
+    alloc: Global,
+    tables: &Tables,
+    voters: u32,
+    front: &[u8],
+    counters: &[u8],
+) -> Result<Option<u32>, Memory>
+    requires voters { voters ≤ most_voters }
+    requires front { length front.now ≤ 97 }
+    requires counters { length counters.now ≤ 1000 }
+{
+    let body = counted(alloc, front, counters)?;
     Ok(rank_of(tables, voters, &body))
 }
 
@@ -258,17 +315,30 @@ fn a_body_is_of_its_roll_and_a_ready_one_has_no_moments(rt: HostRuntime) -> Resu
         ],
         [Some(4), None, Some(0), None]
     );
+    assert_eq!(rt;
+        [
+            rank_counted(rt.alloc(), &tables, 3, &SEALED, &COUNTERS)?,
+            rank_counted(rt.alloc(), &tables, 2, &SEALED, &COUNTERS)?,
+            rank_counted(rt.alloc(), &tables, 3, &[1, 0], &[])?,
+            rank_counted(rt.alloc(), &tables, 3, &opened, &[])?,
+        ],
+        [Some(4), None, Some(0), None]
+    );
     Ok(())
 }
 
 #[test]
 fn a_ready_state_takes_on_a_sealed_one(rt: HostRuntime) -> Result<(), Fail> {
     let tables = Tables::read(rt.alloc(), TABLES)?;
-    let body = body_of(rt.alloc(), &SEALED, &VOTES)?;
-    let mut state = State::ready(rt.alloc(), &tables, 3)?;
-    let short = state.load(&tables, &SEALED);
-    assert!(rt; !short && state.rank() == 0);
-    let whole = state.load(&tables, &body);
-    assert!(rt; whole && state.rank() == 4 && state.turnout().len() == 2);
+    for body in [
+        body_of(rt.alloc(), &SEALED, &VOTES)?,
+        counted(rt.alloc(), &SEALED, &COUNTERS)?,
+    ] {
+        let mut state = State::ready(rt.alloc(), &tables, 3)?;
+        let short = state.load(&tables, &SEALED);
+        assert!(rt; !short && state.rank() == 0);
+        let whole = state.load(&tables, &body);
+        assert!(rt; whole && state.rank() == 4 && state.turnout().len() == 2);
+    }
     Ok(())
 }

@@ -1,7 +1,7 @@
-//! The tests of twelve parts: what each answers to values from outside, and each of its public calls once on its happy path.
+//! The tests of fourteen parts: what each answers to values from outside, and each of its public calls once on its happy path.
 //! They stand in a crate of their own because a crate with tests is proved twice, with them and without them.
 //!
-//! One module has the tests of one crate, and `reports`, `files` and `intake` have those of two each. `lines` is no test itself: it
+//! One module has the tests of one crate, and `reports`, `files`, `intake` and `rehearsals` have those of two each. `lines` is no test itself: it
 //! has a line that is pushed in five pieces, which `numbers` tests.
 #![tactic(auto)]
 
@@ -22,6 +22,8 @@ mod names;
 mod numbers;
 #[cfg(test)]
 mod panel;
+#[cfg(test)]
+mod rehearsals;
 #[cfg(test)]
 mod reports;
 #[cfg(test)]

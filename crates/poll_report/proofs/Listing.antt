@@ -56,10 +56,6 @@ few_listed choose bag f xs i =
       ap (λ (l : List ℕ). length (map (counted choose bag) l)) (take_all (length ns) ns (omega arith)),
     )
 
-pub candidate_number : (o : Option NamedCandidate) (r : Candidate) → option_map without_name o ≡ Some r → option_map (λ c. c.number) o ≡ Some r.number
-candidate_number None r e = absurd (cc)
-candidate_number (Some c) r e = let whole : without_name c ≡ r = cc in ap (λ (d : Candidate). Some d.number) whole
-
 -- ---- panels
 
 counts_more : (t : TablesData) (bags : List (List Choice)) (first : ℕ) (panels : List Panel) (i : ℕ) (p : Panel) → slice_get panels i ≡ Some p

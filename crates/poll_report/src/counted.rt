@@ -8,7 +8,7 @@ ghost use Rattle.vote_record.specs.Bag.{bag_at};
 ghost use Rattle.poll_report.specs.Counted.{HasReport, listed, office_count, office_counts, party_counts, report_of};
 ghost use Rattle.poll_report.specs.Report.{IsReport};
 
-use crate::report::{Count, OfficeCount, OfficeCounts, Report, VoteCounts};
+use crate::report::{Count, Counts, OfficeCount, OfficeCounts, Report};
 use election_tables::{Kind, Section, Tables};
 use std::alloc::Global;
 use turnout::Turnout;
@@ -90,12 +90,12 @@ fn count_candidates(
     tables: &Tables,
     votes: &Rdv,
     panel: u32,
-) -> Result<VoteCounts, Memory>
+) -> Result<Counts, Memory>
     requires panel { panel < length tables.now.panels }
     requires bag { panel < length votes.now.bags }
     ensures { IfOk result (λ counts. counts ≡ listed (λ n. choice.Nominal n) (map (λ c. c.number) (candidates_at panel tables.now)) (bag_at votes.now.bags panel)) }
 {
-    let mut counts = VoteCounts::new(alloc);
+    let mut counts = Counts::new(alloc);
     for i in 0..tables.candidate_count(panel) {
         let number = tables.candidate(panel, i).number;
         let votes = votes.count(panel, Choice::Nominal(number));
@@ -111,14 +111,14 @@ fn count_parties(
     votes: &Rdv,
     panel: u32,
     kind: Kind,
-) -> Result<VoteCounts, Memory>
+) -> Result<Counts, Memory>
     requires { panel < length votes.now.bags }
     ensures { IfOk result (λ counts. counts ≡ party_counts kind tables.now (bag_at votes.now.bags panel)) }
 {
     match kind {
         Kind::Proportional => count_all_parties(alloc, tables, votes, panel),
-        Kind::Absolute => Ok(VoteCounts::new(alloc)),
-        Kind::Simple => Ok(VoteCounts::new(alloc)),
+        Kind::Absolute => Ok(Counts::new(alloc)),
+        Kind::Simple => Ok(Counts::new(alloc)),
     }
 }
 
@@ -127,11 +127,11 @@ fn count_all_parties(
     tables: &Tables,
     votes: &Rdv,
     panel: u32,
-) -> Result<VoteCounts, Memory>
+) -> Result<Counts, Memory>
     requires { panel < length votes.now.bags }
     ensures { IfOk result (λ counts. counts ≡ listed (λ n. choice.Party n) (map (λ q. q.number) tables.now.parties) (bag_at votes.now.bags panel)) }
 {
-    let mut counts = VoteCounts::new(alloc);
+    let mut counts = Counts::new(alloc);
     for i in 0..tables.party_count() {
         let number = tables.party(i);
         let votes = votes.count(panel, Choice::Party(number));
@@ -147,7 +147,7 @@ fn count_all_parties(
 }
 
 /// One count more, where it has a vote.
-fn list(counts: &mut VoteCounts, count: Count) -> Result<(), Memory>
+fn list(counts: &mut Counts, count: Count) -> Result<(), Memory>
     requires { length counts.old + 1 < 2 ^ 32 }
     ensures { OnOk result (counts.new ≡ counts.old ++ filter (λ c. nat_lt 0 c.votes) (count ∷ [])) }
 {

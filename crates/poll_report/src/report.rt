@@ -15,13 +15,13 @@ pub struct Count {
     pub votes: u32,
 }
 
-/// Counts in a row, which contracts see as their list.
+/// Numbers with their votes, in a row, which contracts see as their list.
 #[derive(Debug, Drop)]
-pub struct VoteCounts {
+pub struct Counts {
     items: Vec<Count>,
 }
 
-impl Model for VoteCounts {
+impl Model for Counts {
     ghost use Rattle.std.specs.Prelude.{◌<◌, ◌^◌, List, length};
     ghost use Rattle.poll_report.specs.declared.report.Count.{Count};
 
@@ -32,12 +32,12 @@ impl Model for VoteCounts {
     ghost invariant = { λ c. length c.items.items < 2 ^ 32 };
 }
 
-impl VoteCounts {
+impl Counts {
     /// No counts.
-    pub fn new(alloc: Global) -> VoteCounts
+    pub fn new(alloc: Global) -> Counts
         ensures { result ≡ [] }
     {
-        VoteCounts {
+        Counts {
             items: Vec::new(alloc),
         }
     }
@@ -83,8 +83,8 @@ pub struct OfficeCount {
     pub code: u8,
     /// How many votes each voter has.
     pub places: u32,
-    pub nominal: VoteCounts,
-    pub parties: VoteCounts,
+    pub nominal: Counts,
+    pub parties: Counts,
     pub blank: u32,
     pub null_votes: u32,
 }

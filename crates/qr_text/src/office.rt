@@ -15,7 +15,7 @@ use crate::said::{SaidOffice, SaidOffices, SaidParties};
 use crate::table::TABLE;
 use crate::votes::{read_parties, read_votes};
 use election_tables::{MOST_OFFICES, code_digits, code_proportional};
-use poll_report::VoteCounts;
+use poll_report::Counts;
 use std::alloc::Global;
 
 /// The sums of an office.
@@ -155,11 +155,11 @@ fn read_proportional(
 {
     let parties = read_parties(alloc, reader, code)?;
     let sums = read_sums(reader, true, voters, parties.nominal, parties.legend)?;
-    Ok(office_of(code, VoteCounts::new(alloc), parties.items, &sums))
+    Ok(office_of(code, Counts::new(alloc), parties.items, &sums))
 }
 
 /// An office with these votes and sums.
-fn office_of(code: u8, candidates: VoteCounts, parties: SaidParties, sums: &Sums) -> SaidOffice
+fn office_of(code: u8, candidates: Counts, parties: SaidParties, sums: &Sums) -> SaidOffice
     ensures { result ≡ with_sums code candidates parties sums.now }
 {
     SaidOffice {

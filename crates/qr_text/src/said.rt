@@ -1,7 +1,7 @@
 //! What a field text says: the numbers of a report, and beside them the sums as the text gives them, right or wrong.
 ghost use Rattle.std.specs.Prelude.{◌≡◌, ◌++◌, ◌∷◌, [], OnErr, OnOk};
 
-use poll_report::VoteCounts;
+use poll_report::Counts;
 use std::alloc::Global;
 use std::marker::Model;
 use urna_base::Memory;
@@ -10,7 +10,7 @@ use urna_base::Memory;
 #[derive(Debug, Drop)]
 pub struct SaidParty {
     pub number: u32,
-    pub candidates: VoteCounts,
+    pub candidates: Counts,
     /// The party votes.
     pub legend: u32,
     pub total: u32,
@@ -63,7 +63,7 @@ impl SaidParties {
 pub struct SaidOffice {
     pub code: u8,
     /// None in a proportional office, where the candidates stand with their parties.
-    pub candidates: VoteCounts,
+    pub candidates: Counts,
     /// None in a majority office.
     pub parties: SaidParties,
     /// The voters of the section.

@@ -5,7 +5,7 @@ ghost use Rattle.qr_text.specs.Reported.{all_candidates, legend_of, legends, tol
 
 use crate::head::moment;
 use crate::said::{Said, SaidOffice, SaidParties, SaidParty};
-use poll_report::{Count, OfficeCount, OfficeCounts, Report, VoteCounts};
+use poll_report::{Count, Counts, OfficeCount, OfficeCounts, Report};
 use std::alloc::Global;
 use urna_base::Memory;
 
@@ -51,11 +51,11 @@ fn told_office(alloc: Global, office: &SaidOffice) -> Result<OfficeCount, Memory
 }
 
 /// The candidates of an office, party by party where they stand so.
-fn candidates_of(alloc: Global, office: &SaidOffice) -> Result<VoteCounts, Memory>
+fn candidates_of(alloc: Global, office: &SaidOffice) -> Result<Counts, Memory>
     requires { length (all_candidates office.now) < 2 ^ 32 }
     ensures { IfOk result (λ cs. cs ≡ all_candidates office.now) }
 {
-    let mut counts = VoteCounts::new(alloc);
+    let mut counts = Counts::new(alloc);
     push_all(&mut counts, &office.candidates)?;
     for party in office.parties.as_slice() {
         push_all(&mut counts, &party.candidates)?;
@@ -64,7 +64,7 @@ fn candidates_of(alloc: Global, office: &SaidOffice) -> Result<VoteCounts, Memor
 }
 
 /// Counts behind others.
-fn push_all(counts: &mut VoteCounts, others: &VoteCounts) -> Result<(), Memory>
+fn push_all(counts: &mut Counts, others: &Counts) -> Result<(), Memory>
     requires { length counts.old + length others.now < 2 ^ 32 }
     ensures { OnOk result (counts.new ≡ counts.old ++ others.now) }
 {
@@ -75,11 +75,11 @@ fn push_all(counts: &mut VoteCounts, others: &VoteCounts) -> Result<(), Memory>
 }
 
 /// The party votes of these parties.
-fn legends_of(alloc: Global, parties: &SaidParties) -> Result<VoteCounts, Memory>
+fn legends_of(alloc: Global, parties: &SaidParties) -> Result<Counts, Memory>
     requires { length (legends parties.now) < 2 ^ 32 }
     ensures { IfOk result (λ cs. cs ≡ legends parties.now) }
 {
-    let mut counts = VoteCounts::new(alloc);
+    let mut counts = Counts::new(alloc);
     for party in parties.as_slice() {
         push_legend(&mut counts, party)?;
     }
@@ -87,7 +87,7 @@ fn legends_of(alloc: Global, parties: &SaidParties) -> Result<VoteCounts, Memory
 }
 
 /// The party votes of a party behind others, if it has any.
-fn push_legend(counts: &mut VoteCounts, party: &SaidParty) -> Result<(), Memory>
+fn push_legend(counts: &mut Counts, party: &SaidParty) -> Result<(), Memory>
     requires { length counts.old + length (legend_of party.now) < 2 ^ 32 }
     ensures { OnOk result (counts.new ≡ counts.old ++ legend_of party.now) }
 {

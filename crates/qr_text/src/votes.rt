@@ -13,14 +13,14 @@ use crate::reader::{Reader, read};
 use crate::said::{SaidParties, SaidParty};
 use crate::table::TABLE;
 use election_tables::code_digits;
-use poll_report::VoteCounts;
+use poll_report::Counts;
 use std::alloc::Global;
 use urna_base::Memory;
 
 /// Candidates in a row, and all their votes.
 #[derive(Drop)]
 pub(crate) struct Tally {
-    pub counts: VoteCounts,
+    pub counts: Counts,
     pub votes: u64,
 }
 
@@ -39,7 +39,7 @@ pub(crate) fn read_votes(
     // From here on it is known that the fields that are left are fewer than 2^32.
     let _place = reader.place();
     let digits = digits_in(code);
-    let mut counts = VoteCounts::new(alloc);
+    let mut counts = Counts::new(alloc);
     let mut votes = 0;
     let mut last = 0;
     while let Some(count) = reader.try_vote(digits, party, last) {
@@ -64,7 +64,7 @@ fn digits_in(code: u8) -> u8
 fn read_party_end(
     reader: &mut Reader<'_>,
     number: u32,
-    candidates: VoteCounts,
+    candidates: Counts,
     votes: u64,
 ) -> Result<SaidParty, FieldFault>
     requires same { votes ≡ votes_of candidates }

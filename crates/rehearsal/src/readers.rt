@@ -1,11 +1,13 @@
 //! What the readers make of the three texts. They never refuse them: want of memory is the only error.
-ghost use Rattle.std.specs.Prelude.{◌≡◌, ◌≤◌, IfOk};
+ghost use Rattle.std.specs.Prelude.{◌≡◌, ◌≤◌, false, IfOk};
 ghost use Rattle.sha2.specs.Sha256.{sha256};
 ghost use Rattle.election_tables.specs.Limits.{most_voters};
 ghost use Rattle.election_tables.specs.Roll.{IsRoll, IsRollOf};
 ghost use Rattle.election_tables.specs.Tables.{IsReadAs};
 ghost use Rattle.election_tables.specs.TablesData.{IsTables};
-ghost use Rattle.rehearsal.specs.Roll.{generated_roll};
+ghost use Rattle.toml.specs.Text.{IsDocumentText};
+ghost use Rattle.rehearsal.specs.Document.{document};
+ghost use Rattle.rehearsal.specs.Roll.{generated_roll, roll_text};
 ghost use Rattle.rehearsal.specs.Script.{generated_events};
 ghost use Rattle.rehearsal.specs.Tables.{generated_tables};
 
@@ -21,6 +23,7 @@ use urna_base::Memory;
 pub fn read_tables(alloc: Global, n: u32) -> Result<(Vec<u8>, Tables), Memory>
     requires some { 1 ≤ n }
     requires few { n ≤ most_voters }
+    ensures printed { IfOk result (λ r. IsDocumentText false (document n) r.0.items) }
     ensures read { IfOk result (λ r. IsReadAs r.0.items r.1) }
     ensures tables { IfOk result (λ r. r.1 ≡ generated_tables n (sha256 r.0.items)) }
     ensures valid { IfOk result (λ r. IsTables r.1) }
@@ -41,6 +44,7 @@ pub fn read_tables(alloc: Global, n: u32) -> Result<(Vec<u8>, Tables), Memory>
 pub fn read_roll(alloc: Global, n: u32) -> Result<(Vec<u8>, Roll), Memory>
     requires some { 1 ≤ n }
     requires few { n ≤ most_voters }
+    ensures lines { IfOk result (λ r. r.0.items ≡ roll_text n) }
     ensures read { IfOk result (λ r. IsRollOf r.0.items r.1) }
     ensures roll { IfOk result (λ r. r.1 ≡ generated_roll n (sha256 r.0.items)) }
     ensures valid { IfOk result (λ r. IsRoll r.1) }

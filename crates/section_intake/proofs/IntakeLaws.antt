@@ -8,15 +8,14 @@ use Rattle.std.proofs.lemmas.List.{length-map, length_push}
 use Rattle.std.proofs.lemmas.List.Sums.{sum_by-cons, sum_by_push}
 use Rattle.std.proofs.lemmas.Option.{slice_get_cases, slice_get_read, slice_get_within}
 use Rattle.election_tables.specs.TablesData.{TablesData, place_with}
-use Rattle.election_tables.specs.declared.tables.panels.Panel.{Panel}
 use Rattle.election_tables.specs.declared.tables.sections.Section.{Section}
 use Rattle.poll_report.specs.Report.{IsReport, total_of}
 use Rattle.poll_report.specs.declared.report.Count.{Count}
 use Rattle.poll_report.specs.declared.report.OfficeCount.{OfficeCount}
 use Rattle.poll_report.specs.declared.report.Report.{Report}
-use Rattle.vote_kinds.specs.Ballot.{BallotLine, is_choice, line_for, line_of, lines_by_panel, no_panel}
+use Rattle.vote_kinds.specs.Ballot.{BallotLine, is_choice, line_of, lines_by_panel}
 use Rattle.vote_kinds.specs.declared.choice.Choice.TheVariants as choice
-use Rattle.vote_kinds.proofs.Lookups.{by_panel_get, by_panel_length}
+use Rattle.vote_kinds.proofs.Lookups.{by_panel_length, line_found}
 use Rattle.section_intake.specs.Accepted.{File, IsOfSection}
 use Rattle.section_intake.specs.Fits.{FitLines, Fits, FitsLine}
 use Rattle.section_intake.specs.Intake.{IsIntakeFor, accepted_files}
@@ -60,20 +59,11 @@ line_at (l ∷ lines) (p ∷ offices) zero line o fit a b =
     subst (λ (x : OfficeCount). FitsLine line x) second (subst (λ (x : BallotLine). FitsLine x p) first fit.0)
 line_at (l ∷ lines) (p ∷ offices) (suc k) line o fit a b = line_at lines offices k line o fit.1 a b
 
-panel_line : (t : TablesData) (panel : ℕ) → panel < length t.panels → slice_get (lines_by_panel t) panel ≡ Some (line_of t panel)
-panel_line t panel lt = elim ((slice_get_cases t.panels panel).1) [
-  | inl there ↦
-      by_panel_get t panel
-      ∙ ap (option_map (line_for t panel)) there.2
-      ∙ ap (λ (o : Option Panel). Some (line_for t panel (unwrap_or o no_panel))) (sym there.2)
-  | inr past ↦ absurd (let gone = past.0 in omega arith)
-]
-
 fits_there : (t : TablesData) (r : Report) (panel : ℕ) (o : OfficeCount) → Fits t r → slice_get r.offices panel ≡ Some o → FitsLine (line_of t panel) o
 fits_there t r panel o fit at =
     let many = offices_long t r fit in
     let lt = slice_get_within r.offices panel o at in
-    line_at (lines_by_panel t) r.offices panel (line_of t panel) o fit.offices (panel_line t panel (omega arith)) at
+    line_at (lines_by_panel t) r.offices panel (line_of t panel) o fit.offices (line_found t panel (omega arith)) at
 
 -- what is the same of each office that fits is the same of reports that fit
 same_in_office : (f g : OfficeCount → ℕ) (t : TablesData) (panel : ℕ) (r : Report) → Fits t r → ((o : OfficeCount) → FitsLine (line_of t panel) o → f o ≡ g o)

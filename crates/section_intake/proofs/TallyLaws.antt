@@ -18,7 +18,6 @@ use Rattle.election_tables.specs.declared.tables.panels.Panel.{Panel}
 use Rattle.election_tables.specs.declared.tables.parties.Party.{Party}
 use Rattle.poll_report.specs.Report.{votes_of}
 use Rattle.poll_report.specs.declared.report.Count.{Count}
-use Rattle.poll_report.proofs.Listing.{candidate_number}
 use Rattle.vote_kinds.specs.Ballot.{line_of, no_panel, panel_at}
 use Rattle.vote_kinds.proofs.Lookups.{candidates_known}
 use Rattle.section_intake.specs.Kept.{HaveRoom, tallies_of, votes_at, with_counts}
@@ -151,14 +150,6 @@ next_number votes ns i n at =
     sym (map-append tally (take i ns) (n ∷ []))
     ∙ ap (λ (m : ℕ). map tally (take i ns ++ m ∷ [])) (sym is)
     ∙ ap (map tally) (sym (take_more ns i n (slice_get_within ns i n at)))
-
--- the candidate that the tables tell has this number of the panel's
-pub candidate_at : (t : TablesData) (panel i : ℕ) (r : Candidate) → option_map without_name (slice_get (candidates_at panel t) i) ≡ Some r
-    → slice_get (line_of t panel).candidates i ≡ Some r.number
-candidate_at t panel i r e =
-    let at : option_map without_name (slice_get (panel_at t panel).candidates i) ≡ Some r =
-    ap (λ (cs : List NamedCandidate). option_map without_name (slice_get cs i)) (sym (candidates_known t panel)) ∙ e in
-    slice_get-map (λ (c : NamedCandidate). c.number) (panel_at t panel).candidates i ∙ candidate_number (slice_get (panel_at t panel).candidates i) r at
 
 pub candidate_count : (t : TablesData) (panel : ℕ) → length (line_of t panel).candidates ≡ length (candidates_at panel t)
 candidate_count t panel =

@@ -11,6 +11,7 @@ use Rattle.urna_outside.proofs.Faults.{ends_later, faultless_trans}
 use Rattle.twin_image.specs.Frame.{device_image}
 use Rattle.twin_image.specs.Lay.{AreLaid, Lays, header_for}
 use Rattle.twin_image.specs.Level.{IsLevel}
+use Rattle.election_tables.specs.TablesData.{TablesData}
 use Rattle.image_codec.specs.Encoding.{encode}
 use Rattle.image_codec.specs.State.{State}
 use Rattle.image_codec.specs.Layout.{body_size}
@@ -75,10 +76,10 @@ module _ (internal external body : List ℕ) (fresh : get_or body 1 0 ≡ 0) (a 
   )
 
 -- devices that are whole are at rest
-pub laid_rests : (load : Load) (s : State) (internal external body : List ℕ) (fs : Flashes) → internal ≡ header load Internal → external ≡ header load External → body ≡ encode s → AreLaid body_size internal external body fs → IsLevel body_size body fs → AreAtRest load s fs
-laid_rests load s internal external body fs internal_is external_is body_is laid level =
+pub laid_rests : (t : TablesData) (load : Load) (s : State) (internal external body : List ℕ) (fs : Flashes) → internal ≡ header load Internal → external ≡ header load External → body ≡ encode t s → AreLaid body_size internal external body fs → IsLevel body_size body fs → AreAtRest t load s fs
+laid_rests t load s internal external body fs internal_is external_is body_is laid level =
     record { content = content; clean = level.clean }
   where
-    content : (d : Dev) → (flash_of d fs).content ≡ rest load d s
+    content : (d : Dev) → (flash_of d fs).content ≡ rest t load d s
     content Internal = laid Internal ∙ ap (λ (h : List ℕ). device_image body_size h body) internal_is ∙ ap (device_image body_size (header load Internal)) body_is
     content External = laid External ∙ ap (λ (h : List ℕ). device_image body_size h body) external_is ∙ ap (device_image body_size (header load External)) body_is

@@ -89,13 +89,13 @@ recovery_goes_on t r section s start left whole found held keeps =
     poll_left t r section s s (s ∷ []) start left whole found keeps held (Contains-get_or (s ∷ []) 0 s (omega arith))
 
 -- what is at a place of a list is of it
-got : (states : List State) (k : ℕ) (u : State) → slice_get states k ≡ Some u → Contains states u
-got states k u is =
+pub got_state : (states : List State) (k : ℕ) (u : State) → slice_get states k ≡ Some u → Contains states u
+got_state states k u is =
     subst (Contains states) (get_or_from_slice_get states k u u is) (Contains-get_or states k u (slice_get_within states k u is))
 
 next_held : (states : List State) (k : ℕ) (held : State → Type 0) → IsStateOrNext states k held → (u : State) × held u × Contains states u
-next_held states k held (u, is, inl this) = (u, is, got states k u this)
-next_held states k held (u, is, inr next) = (u, is, got states (k + 1) u next)
+next_held states k held (u, is, inl this) = (u, is, got_state states k u this)
+next_held states k held (u, is, inr next) = (u, is, got_state states (k + 1) u next)
 
 pub session_goes_on : SessionGoesOn
 session_goes_on t r section s pieces start left whole found survives = go left.shown refl
@@ -144,7 +144,7 @@ end_goes_on t r section s pieces start ops whole found survives =
 synced_image : (f : Flash) (image : List ℕ) → IsImage (synced f) image → IsImage f image
 synced_image f image is = record { same_length = is.same_length; clean = λ k clean. is.clean k (synced_clean f k) }
 
-sync_leaves : (d : Dev) (flashes : Flashes) (text : List ℕ) (left : Left) → IsLeft (after_one (Sync d) flashes) text left → IsLeft flashes text left
+pub sync_leaves : (d : Dev) (flashes : Flashes) (text : List ℕ) (left : Left) → IsLeft (after_one (Sync d) flashes) text left → IsLeft flashes text left
 sync_leaves Internal flashes text left is = record { internal = synced_image flashes.internal left.internal is.internal; external = is.external; shown = is.shown }
 sync_leaves External flashes text left is = record { internal = is.internal; external = synced_image flashes.external left.external is.external; shown = is.shown }
 

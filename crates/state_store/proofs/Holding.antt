@@ -14,7 +14,7 @@ use Rattle.twin_image.specs.Held.{IsEither as IsEitherBody}
 use Rattle.twin_image.specs.Held.{bodies_of_both as ranked_of_both}
 use Rattle.twin_image.specs.Held.{rank_in as worth_in}
 use Rattle.image_codec.specs.Layout.{body_size}
-use Rattle.state_store.specs.Calls.{HoldEither, IsEither}
+use Rattle.state_store.specs.Calls.{HoldAll, HoldEither, IsEither, IsFirstOf}
 use Rattle.state_store.specs.Held.{HaveUpTo, Hold, HoldNone, bodies_of_both, open_bodies, open_body}
 use Rattle.state_store.specs.Laws.{HeldIsDecoded, IsDecodedFrom}
 
@@ -127,10 +127,10 @@ module _ (t : TablesData) (voters : ℕ) (tables : IsTables t) (few : voters ≤
       absurd (omega (arith, under, over))
   one_held (body ∷ bodies) s u (inr this) (inr that) = one_held bodies s u this.1 that.1
 
-  -- what the first body of greatest rank says of all bodies
+  -- what the first body of greatest rank says of all bodies: it is the first that is an encoding of the state that is held
   abbrev Finds : Option (List ℕ) → List (List ℕ) → Type 0
   Finds None bodies = HoldNone t voters bodies
-  Finds (Some body) bodies = (s : State) × (decoded t voters body ≡ Some s) × Hold t voters bodies s
+  Finds (Some body) bodies = (s : State) × (decoded t voters body ≡ Some s) × Hold t voters bodies s × IsFirstOf t voters s bodies body
 
   skipped : (first : List ℕ) (bodies : List (List ℕ)) → decoded t voters first ≡ None → (o : Option (List ℕ)) → Finds o bodies → Finds o (first ∷ bodies)
   skipped first bodies none None finds = (λ u is. let known = decoded_back t voters first u tables few is in absurd (cc), finds)
@@ -138,11 +138,14 @@ module _ (t : TablesData) (voters : ℕ) (tables : IsTables t) (few : voters ≤
     finds.0,
     finds.1,
     inr (λ u is. let known = decoded_back t voters first u tables few is in absurd (cc), finds.2),
+    inr (λ is. let known = decoded_back t voters first finds.0 tables few is in absurd (cc), finds.3),
   )
 
   taken : (first : List ℕ) (bodies : List (List ℕ)) (u : State) → decoded t voters first ≡ Some u → (o : Option (List ℕ)) → Finds o bodies
       → Finds (Some (better_of (rank_in t voters) first o)) (first ∷ bodies)
-  taken first bodies u is None finds = (u, is, inl (decoded_takes t voters first u tables few is, none_up_to bodies (rank_of u) finds))
+  taken first bodies u is None finds =
+      let first_is = decoded_takes t voters first u tables few is in
+      (u, is, inl (first_is, none_up_to bodies (rank_of u) finds), inl (first_is, refl))
   taken first bodies u is (Some other) finds =
       let first_worth = worth_as t voters first u is in
       let other_worth = worth_as t voters other finds.0 finds.1 in
@@ -154,6 +157,7 @@ module _ (t : TablesData) (voters : ℕ) (tables : IsTables t) (few : voters ≤
               finds.0,
               finds.1,
               inr (λ v of. let same = ap rank_of (one_state v u first of (decoded_takes t voters first u tables few is)) in omega (arith, same, less), finds.2),
+              inr (λ of. let same = ap rank_of (one_state finds.0 u first of (decoded_takes t voters first u tables few is)) in omega (arith, same, less), finds.3),
             )
         | inr le ↦
             let above : worth_in (rank_in t voters) other ≤ worth_in (rank_in t voters) first = omega (arith, le, first_worth, other_worth) in
@@ -162,6 +166,7 @@ module _ (t : TablesData) (voters : ℕ) (tables : IsTables t) (few : voters ≤
               u,
               is,
               inl (decoded_takes t voters first u tables few is, up_to_held bodies (rank_of u) finds.0 le finds.2),
+              inl (decoded_takes t voters first u tables few is, refl),
             )
       ]
 
@@ -188,6 +193,14 @@ module _ (t : TablesData) (voters : ℕ) (tables : IsTables t) (few : voters ≤
         let both : Some finds.0 ≡ Some s = sym finds.1 ∙ known in
         let one : finds.0 ≡ s = cc in
         subst (λ (u : State). Hold t voters bodies u) one finds.2
+
+    -- and the first that is an encoding of it
+    pub found_first : (body : List ℕ) (s : State) → held_body (rank_in t voters) xs ≡ Some body → decoded t voters body ≡ Some s → IsFirstOf t voters s bodies body
+    found_first body s is known =
+        let finds = subst (λ (o : Option (List ℕ)). Finds o bodies) is found in
+        let both : Some finds.0 ≡ Some s = sym finds.1 ∙ known in
+        let one : finds.0 ≡ s = cc in
+        subst (λ (u : State). IsFirstOf t voters u bodies body) one finds.3
 
     pub found_none : held_body (rank_in t voters) xs ≡ None → HoldNone t voters bodies
     found_none is = subst (λ (o : Option (List ℕ)). Finds o bodies) is found
@@ -241,19 +254,35 @@ held_decoded t voters internal external tables few = (
 
 -- reading the encoding of a state gives it back
 abbrev pub IsKnown : TablesData → ℕ → State → Type 0
-IsKnown t voters s = decoded t voters (encode s) ≡ Some s
+IsKnown t voters s = decoded t voters (encode t s) ≡ Some s
 
 module _ (t : TablesData) (voters : ℕ) (tables : IsTables t) (few : voters ≤ most_voters) (s u : State) (s_known : IsKnown t voters s) (u_known : IsKnown t voters u) where
-  either_held : (bodies xs : List (List ℕ)) → xs ≡ ranked t voters bodies → IsEitherBody (encode s) (encode u) (held_body (rank_in t voters) xs)
+  either_held : (bodies xs : List (List ℕ)) → xs ≡ ranked t voters bodies → IsEitherBody (encode t s) (encode t u) (held_body (rank_in t voters) xs)
       → IsEither s u (Hold t voters bodies)
-  either_held bodies xs same (inl is) = inl (found_held t voters tables few bodies xs same (encode s) s is s_known)
-  either_held bodies xs same (inr is) = inr (found_held t voters tables few bodies xs same (encode u) u is u_known)
+  either_held bodies xs same (inl is) = inl (found_held t voters tables few bodies xs same (encode t s) s is s_known)
+  either_held bodies xs same (inr is) = inr (found_held t voters tables few bodies xs same (encode t u) u is u_known)
 
   -- what holds one of two encodings holds one of the two states
-  pub hold_either : (left : Left) → LeavesEither (rank_in t voters) body_size (encode s) (encode u) left → HoldEither t voters s u left
+  pub hold_either : (left : Left) → LeavesEither (rank_in t voters) body_size (encode t s) (encode t u) left → HoldEither t voters s u left
   hold_either left leaves =
       record {
         both = either_held (bodies_of_both left.internal left.external) _ (both_ranked t voters left.internal left.external) leaves.both;
         internal = either_held (open_bodies left.internal) _ (open_ranked t voters left.internal) leaves.internal;
         external = either_held (open_bodies left.external) _ (open_ranked t voters left.external) leaves.external;
+      }
+
+-- ---- one state in two encodings
+
+module _ (t : TablesData) (voters : ℕ) (tables : IsTables t) (few : voters ≤ most_voters) (s : State) (old new : List ℕ) (old_is : decoded t voters old ≡ Some s) (new_is : decoded t voters new ≡ Some s) where
+  one_of_both : (bodies xs : List (List ℕ)) → xs ≡ ranked t voters bodies → IsEitherBody old new (held_body (rank_in t voters) xs) → Hold t voters bodies s
+  one_of_both bodies xs same (inl is) = found_held t voters tables few bodies xs same old s is old_is
+  one_of_both bodies xs same (inr is) = found_held t voters tables few bodies xs same new s is new_is
+
+  -- what holds one of two encodings of a state holds the state
+  pub hold_all : (left : Left) → LeavesEither (rank_in t voters) body_size old new left → HoldAll t voters s left
+  hold_all left leaves =
+      record {
+        both = one_of_both (bodies_of_both left.internal left.external) _ (both_ranked t voters left.internal left.external) leaves.both;
+        internal = one_of_both (open_bodies left.internal) _ (open_ranked t voters left.internal) leaves.internal;
+        external = one_of_both (open_bodies left.external) _ (open_ranked t voters left.external) leaves.external;
       }

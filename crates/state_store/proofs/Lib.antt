@@ -7,6 +7,7 @@ pub mod Holding
 pub mod Resting
 pub mod ShowStops
 pub mod Ordering
+mod Putting
 pub mod Playing
 pub mod Stored
 pub mod Empty
@@ -18,5 +19,7 @@ pub mod Unused
 pub mod Formatting
 pub mod Going
 pub mod Loaded
+pub mod Versions
 mod Costs
+pub mod PageBound
 mod Rows

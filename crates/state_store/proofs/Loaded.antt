@@ -24,7 +24,7 @@ use Rattle.state_store.proofs.Resting.{IsStored, rest_holds}
 use Rattle.state_store.proofs.Stored.{stored}
 
 module _ (t : TablesData) (r : RollData) (section : Section) (s : State) (flashes : Flashes) (tables : IsTables t) (roll : IsRoll r) (fits : IsSectionOf t r section)
-    (of : IsStateOf t (length r.titles) s) (rest : AreAtRest (load_of t r section) s flashes) where
+    (of : IsStateOf t (length r.titles) s) (rest : AreAtRest t (load_of t r section) s flashes) where
   abbrev load : Load
   load = load_of t r section
 
@@ -36,11 +36,11 @@ module _ (t : TablesData) (r : RollData) (section : Section) (s : State) (flashe
 
   pub rest_whole : AreWhole flashes
   rest_whole d =
-      ap length (rest.content d) ∙ (let long = length-device_image body_size (header load d) (encode s) (is_stored.headed d) is_stored.long in omega (arith, long))
+      ap length (rest.content d) ∙ (let long = length-device_image body_size (header load d) (encode t s) (is_stored.headed d) is_stored.long in omega (arith, long))
 
   framed : (d : Dev) → HasFrame body_size (header load d) (flash_of d flashes).content
   framed d =
-      subst (HasFrame body_size (header load d)) (sym (rest.content d)) (device_frame body_size (header load d) (encode s) (is_stored.headed d) is_stored.long)
+      subst (HasFrame body_size (header load d)) (sym (rest.content d)) (device_frame body_size (header load d) (encode t s) (is_stored.headed d) is_stored.long)
 
   abbrev contents : Left
   contents = record { internal = flashes.internal.content; external = flashes.external.content; shown = [] }

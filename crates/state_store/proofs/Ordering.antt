@@ -9,6 +9,7 @@ use Rattle.gate_slot.specs.Front.{IsFrontOfSome, IsFrontOf}
 use Rattle.gate_slot.proofs.Fronts.{front_later, none_yet}
 use Rattle.twin_image.specs.Lay.{load_ops}
 use Rattle.twin_image.proofs.Loading.{load_none}
+use Rattle.election_tables.specs.TablesData.{TablesData}
 use Rattle.image_codec.specs.Encoding.{encode}
 use Rattle.image_codec.specs.State.{State}
 use Rattle.image_codec.specs.Layout.{body_size}
@@ -18,39 +19,39 @@ use Rattle.state_store.specs.Order.{IsLoad}
 use Rattle.state_store.specs.declared.load.Load.{Load}
 
 -- what is done behind the syncs
-abbrev behind : Load → State → Flashes → List Op
-behind load s start =
-    load_ops body_size (header load Internal) (header load External) (encode s) start
+abbrev behind : TablesData → Load → State → Flashes → List Op
+behind t load s start =
+    load_ops body_size (header load Internal) (header load External) (encode t s) start
 
-module _ (load : Load) (s : State) (a b : Told) where
+module _ (t : TablesData) (load : Load) (s : State) (a b : Told) where
   -- nothing was done
-  pub load_not_begun : Does [] a b → ForSome a.flashes (λ start. Runs (IsFrontOfSome (IsLoad load s start)) a b)
+  pub load_not_begun : Does [] a b → ForSome a.flashes (λ start. Runs (IsFrontOfSome (IsLoad t load s start)) a b)
   load_not_begun does start told =
-      ([], does, (both_synced ++ behind load s start, refl, none_yet [] (Sync Internal) (Sync External ∷ behind load s start)))
+      ([], does, (both_synced ++ behind t load s start, refl, none_yet [] (Sync Internal) (Sync External ∷ behind t load s start)))
 
   -- a sync failed
-  pub load_syncing : Runs IsWithinSyncs a b → ForSome a.flashes (λ start. Runs (IsFrontOfSome (IsLoad load s start)) a b)
+  pub load_syncing : Runs IsWithinSyncs a b → ForSome a.flashes (λ start. Runs (IsFrontOfSome (IsLoad t load s start)) a b)
   load_syncing run start told =
-      (run.0, run.1, (both_synced ++ behind load s start, refl, front run.0 run.2))
+      (run.0, run.1, (both_synced ++ behind t load s start, refl, front run.0 run.2))
     where
-      front : (ops : List Op) → IsWithinSyncs ops → IsFrontOf (both_synced ++ behind load s start) ops
+      front : (ops : List Op) → IsWithinSyncs ops → IsFrontOf (both_synced ++ behind t load s start) ops
       front ops (inl none) =
-          subst (IsFrontOf (both_synced ++ behind load s start)) (sym none) (none_yet [] (Sync Internal) (Sync External ∷ behind load s start))
+          subst (IsFrontOf (both_synced ++ behind t load s start)) (sym none) (none_yet [] (Sync Internal) (Sync External ∷ behind t load s start))
       front ops (inr one) =
-          subst (IsFrontOf (both_synced ++ behind load s start)) (sym one) (front_later (Sync Internal ∷ []) (Sync External ∷ behind load s start) [] (none_yet [] (Sync External) (behind load s start)))
+          subst (IsFrontOf (both_synced ++ behind t load s start)) (sym one) (front_later (Sync Internal ∷ []) (Sync External ∷ behind t load s start) [] (none_yet [] (Sync External) (behind t load s start)))
 
-module _ (load : Load) (s : State) (a b c : Told) (synced : Does both_synced a b) (done : Does [] b c) where
+module _ (t : TablesData) (load : Load) (s : State) (a b c : Told) (synced : Does both_synced a b) (done : Does [] b c) where
   syncs_done : Does both_synced a c
   syncs_done = does-append both_synced [] a b c synced done
 
   -- both were synced, and no more
-  pub load_not_tested : ForSome a.flashes (λ start. Runs (IsFrontOfSome (IsLoad load s start)) a c)
+  pub load_not_tested : ForSome a.flashes (λ start. Runs (IsFrontOfSome (IsLoad t load s start)) a c)
   load_not_tested start told =
-      let none = load_none body_size (header load Internal) (header load External) (encode s) start in
-      (both_synced, syncs_done, (both_synced ++ behind load s start, refl, front_later both_synced (behind load s start) [] none))
+      let none = load_none body_size (header load Internal) (header load External) (encode t s) start in
+      (both_synced, syncs_done, (both_synced ++ behind t load s start, refl, front_later both_synced (behind t load s start) [] none))
 
-  module _ (d : Told) (internal external body : List ℕ) (internal_is : internal ≡ header load Internal) (external_is : external ≡ header load External) (body_is : body ≡ encode s) where
-    same_load : (start : Flashes) → both_synced ++ load_ops body_size internal external body start ≡ both_synced ++ behind load s start
+  module _ (d : Told) (internal external body : List ℕ) (internal_is : internal ≡ header load Internal) (external_is : external ≡ header load External) (body_is : body ≡ encode t s) where
+    same_load : (start : Flashes) → both_synced ++ load_ops body_size internal external body start ≡ both_synced ++ behind t load s start
     same_load start =
         ap (λ (h : List ℕ). both_synced ++ load_ops body_size h external body start) internal_is
         ∙ ap (λ (h : List ℕ). both_synced ++ load_ops body_size (header load Internal) h body start) external_is
@@ -60,14 +61,14 @@ module _ (load : Load) (s : State) (a b c : Told) (synced : Does both_synced a b
     told_then start told = told_after both_synced a c start syncs_done told
 
     -- all was done; the syncs change no content, so what is to be shut is as before them
-    pub load_done : ForSome c.flashes (λ start. Does (load_ops body_size internal external body start) c d) → ForSome a.flashes (λ start. Runs (IsLoad load s start) a d)
+    pub load_done : ForSome c.flashes (λ start. Does (load_ops body_size internal external body start) c d) → ForSome a.flashes (λ start. Runs (IsLoad t load s start) a d)
     load_done does start told =
         let mid = after both_synced start in
         let ops = load_ops body_size internal external body mid in
         (both_synced ++ ops, does-append both_synced ops a c d syncs_done (does mid (told_then start told)), same_load start)
 
     -- or up to a fault
-    pub load_cut : ForSome c.flashes (λ start. Runs (IsFrontOf (load_ops body_size internal external body start)) c d) → ForSome a.flashes (λ start. Runs (IsFrontOfSome (IsLoad load s start)) a d)
+    pub load_cut : ForSome c.flashes (λ start. Runs (IsFrontOf (load_ops body_size internal external body start)) c d) → ForSome a.flashes (λ start. Runs (IsFrontOfSome (IsLoad t load s start)) a d)
     load_cut cut start told =
         let mid = after both_synced start in
         let ops = load_ops body_size internal external body mid in

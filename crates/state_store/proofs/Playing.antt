@@ -21,18 +21,22 @@ use Rattle.urna_outside.proofs.Showing.{shows_keep}
 use Rattle.urna_outside.proofs.ShowingLines.{cut_front, shows_lines, cut_later, cut_longer, shows_of-append}
 use Rattle.urna_outside.proofs.Stops.{stops-append, stops-append_silent, stops_both}
 use Rattle.twin_image.specs.Slots.{KeepsFrame}
+use Rattle.twin_image.specs.Rewrite.{PutsAtMost}
 use Rattle.twin_image.specs.Twin.{IsOfTwin}
 use Rattle.election_tables.specs.Roll.{RollData}
 use Rattle.election_tables.specs.TablesData.{TablesData}
+use Rattle.gate_slot.proofs.Paging.{bytes-append}
 use Rattle.image_codec.specs.State.{State}
 use Rattle.image_codec.specs.Layout.{body_size}
 use Rattle.state_store.specs.Calls.{Commits, HoldEither, IsEither, KeepFrames, Recovers, both_synced}
+use Rattle.state_store.specs.Cost.{commit_bytes}
 use Rattle.state_store.specs.Held.{HeldAlone, HeldByBoth}
 use Rattle.state_store.specs.Played.{AreInOrder, AreInOrderTo, IsBeforeLine, Follows, HasPut, HasStopped, IsCutAt, IsSafe, IsStateOrNext, Plays, Survives, shows_in}
 use Rattle.state_store.specs.Rest.{AreAtRest}
 use Rattle.state_store.specs.Pieces.{AreFull, Piece, commits_in, commits_reached, lines_in, quiet, state_after, telling, text_in}
 use Rattle.state_store.specs.declared.load.Load.{Load}
 use Rattle.state_store.proofs.Counting.{commits_in-quiet, contained_after, contained_before, lines_in-append, lines_in-quiet, only_state, reached-quiet, reached-telling, reached_after, reached_before, state_after-append, state_after-quiet, state_or_next_after, state_or_next_before, text_in-append, text_in-quiet}
+use Rattle.state_store.proofs.Putting.{bytes_along-append, quiet_bytes, still_traced, told_bytes, traced_bytes}
 use Rattle.state_store.proofs.Resting.{IsStored, frames_at_end, frames_same, frames_text, frames_trans, rest_holds}
 use Rattle.state_store.proofs.ShowStops.{front_of_text, session-append, session_shows, session_slots, shows_in-append, shows_in_shows, shows_in_silent, stops_of_shows, text_of_lines}
 
@@ -50,7 +54,7 @@ quiet_state s lines n held either = (s, own either, inl (ap (λ (k : ℕ). slice
     own (inr is) = is
 
 -- shows of a front of their text, from flashes at rest on
-plays_quiet : (t : TablesData) (load : Load) (s : State) (lines : List (List ℕ)) (start : Option Flashes) (ops : List Op) → IsStored t load s → ForSome start (AreAtRest load s) → ShowsFront (concat lines) ops → Plays t load s (quiet lines) start ops
+plays_quiet : (t : TablesData) (load : Load) (s : State) (lines : List (List ℕ)) (start : Option Flashes) (ops : List Op) → IsStored t load s → ForSome start (AreAtRest t load s) → ShowsFront (concat lines) ops → Plays t load s (quiet lines) start ops
 plays_quiet t load s lines start ops stored rest part =
     record {
       slots = session_shows ops part.shows;
@@ -105,7 +109,7 @@ order_cut (line ∷ lines) ops (inl torn) = ([], ops, commits_none line, refl, i
 order_cut (line ∷ lines) ops (inr (rest, is, cut)) = ([], ops, commits_none line, refl, inr (rest, is, order_cut lines rest cut))
 
 -- no piece
-pub put_nothing : (t : TablesData) (load : Load) (s : State) (a : Told) → IsStored t load s → ForSome a.flashes (AreAtRest load s) → HasPut t load s [] a a
+pub put_nothing : (t : TablesData) (load : Load) (s : State) (a : Told) → IsStored t load s → ForSome a.flashes (AreAtRest t load s) → HasPut t load s [] a a
 put_nothing t load s a stored rest =
     record {
       ops = [];
@@ -113,12 +117,13 @@ put_nothing t load s a stored rest =
       plays = plays_quiet t load s [] a.flashes [] stored rest (record { shows = tt; back = []; front = refl });
       shown = refl;
       order = refl;
+      bytes = λ traced. omega arith;
       rest = rest;
       fine = faultless_none a;
     }
 
 -- lines that were shown
-pub put_shown : (t : TablesData) (load : Load) (s : State) (lines : List (List ℕ)) (a b : Told) → IsStored t load s → ForSome a.flashes (AreAtRest load s) → HasShown lines a b → HasPut t load s (quiet lines) a b
+pub put_shown : (t : TablesData) (load : Load) (s : State) (lines : List (List ℕ)) (a b : Told) → IsStored t load s → ForSome a.flashes (AreAtRest t load s) → HasShown lines a b → HasPut t load s (quiet lines) a b
 put_shown t load s lines a b stored rest showed =
     let text = shows_lines lines in
     let kept = shows_keep (shows lines) a b text.shows showed.does in
@@ -128,12 +133,13 @@ put_shown t load s lines a b stored rest showed =
       plays = plays_quiet t load s lines a.flashes (shows lines) stored rest (front_of_text (concat lines) (shows lines) text);
       shown = shows_in_shows (shows lines) text.shows ∙ ap shows (sym (lines_in-quiet lines));
       order = order_quiet lines;
-      rest = subst (λ (u : State). ForSome b.flashes (AreAtRest load u)) (sym (state_after-quiet s lines)) (subst (λ (o : Option Flashes). ForSome o (AreAtRest load s)) (sym kept) rest);
+      bytes = λ traced. quiet_bytes t s lines (shows lines) text.shows;
+      rest = subst (λ (u : State). ForSome b.flashes (AreAtRest t load u)) (sym (state_after-quiet s lines)) (subst (λ (o : Option Flashes). ForSome o (AreAtRest t load s)) (sym kept) rest);
       fine = record { faults = showed.faults; calls = showed.calls };
     }
 
 -- lines in which the display failed
-pub stopped_shown : (t : TablesData) (load : Load) (s : State) (lines : List (List ℕ)) (a b : Told) → IsStored t load s → ForSome a.flashes (AreAtRest load s) → IsCutOff lines a b → HasStopped t load s (quiet lines) port.Display a b
+pub stopped_shown : (t : TablesData) (load : Load) (s : State) (lines : List (List ℕ)) (a b : Told) → IsStored t load s → ForSome a.flashes (AreAtRest t load s) → IsCutOff lines a b → HasStopped t load s (quiet lines) port.Display a b
 stopped_shown t load s lines a b stored rest off =
     let part = cut_front lines off.ops off.cut in
     let kept = shows_keep off.ops a b part.shows off.does in
@@ -144,7 +150,8 @@ stopped_shown t load s lines a b stored rest off =
       cut =
           subst (λ (l : List (List ℕ)). IsCutShort l (shows_in off.ops)) (sym (lines_in-quiet lines)) (subst (IsCutShort lines) (sym (shows_in_shows off.ops part.shows)) off.cut);
       order = order_cut lines off.ops off.cut;
-      rest = λ display. (s, (0, omega arith, refl), subst (λ (o : Option Flashes). ForSome o (AreAtRest load s)) (sym kept) rest);
+      bytes = λ traced. quiet_bytes t s lines off.ops part.shows;
+      rest = λ display. (s, (0, omega arith, refl), subst (λ (o : Option Flashes). ForSome o (AreAtRest t load s)) (sym kept) rest);
       fault = record { faults = off.faults; calls = off.calls };
     }
 
@@ -194,7 +201,7 @@ module _ (t : TablesData) (load : Load) (s u : State) (line : List ℕ) where
       }
 
   -- a commit, and then shows of a front of the line
-  plays_told : (a b : Told) (xs ys : List Op) → IsStored t load u → Commits t load.section.voters s u a xs → Does xs a b → ForSome b.flashes (AreAtRest load u) → ShowsFront (line ++ []) ys → Plays t load s (telling u line) a.flashes (xs ++ ys)
+  plays_told : (a b : Told) (xs ys : List Op) → IsStored t load u → Commits t load.section.voters s u a xs → Does xs a b → ForSome b.flashes (AreAtRest t load u) → ShowsFront (line ++ []) ys → Plays t load s (telling u line) a.flashes (xs ++ ys)
   plays_told a b xs ys stored commits does rest part =
       record {
         slots = session-append xs ys (session_slots xs commits.slots.within) (session_shows ys part.shows);
@@ -227,8 +234,8 @@ module _ (t : TablesData) (load : Load) (s u : State) (line : List ℕ) where
   order_in_line a xs ys commits (inr (rest, is, cut)) = absurd cut
 
   -- the state was committed and its line shown
-  pub put_told : (a b c : Told) → IsStored t load u → Runs (Commits t load.section.voters s u a) a b → IsFaultless a b → ForSome b.flashes (AreAtRest load u) → HasShown (line ∷ []) b c → HasPut t load s (telling u line) a c
-  put_told a b c stored run fine rest showed =
+  pub put_told : (a b c : Told) → IsStored t load u → Runs (Commits t load.section.voters s u a) a b → Runs (PutsAtMost (commit_bytes t s u)) a b → IsFaultless a b → ForSome b.flashes (AreAtRest t load u) → HasShown (line ∷ []) b c → HasPut t load s (telling u line) a c
+  put_told a b c stored run few fine rest showed =
       let text = shows_lines (line ∷ []) in
       let kept = shows_keep (Show line ∷ []) b c text.shows showed.does in
       record {
@@ -238,13 +245,14 @@ module _ (t : TablesData) (load : Load) (s u : State) (line : List ℕ) where
         shown =
             shows_in-append run.0 (Show line ∷ []) ∙ ap (λ (l : List Op). l ++ Show line ∷ []) (shows_in_silent (λ d k. IsOfTwin body_size k) run.0 run.2.slots.within);
         order = (run.0, [], commits_state a run.0 run.2, refl, refl);
-        rest = subst (λ (o : Option Flashes). ForSome o (AreAtRest load u)) (sym kept) rest;
+        bytes = λ traced. told_bytes t s u line a b run.0 (Show line ∷ []) traced run.1 few text.shows;
+        rest = subst (λ (o : Option Flashes). ForSome o (AreAtRest t load u)) (sym kept) rest;
         fine = faultless_trans a b c fine (record { faults = showed.faults; calls = showed.calls });
       }
 
   -- the state was committed, and the display failed in its line
-  pub stopped_told : (a b c : Told) → IsStored t load u → Runs (Commits t load.section.voters s u a) a b → IsFaultless a b → ForSome b.flashes (AreAtRest load u) → IsCutOff (line ∷ []) b c → HasStopped t load s (telling u line) port.Display a c
-  stopped_told a b c stored run fine rest off =
+  pub stopped_told : (a b c : Told) → IsStored t load u → Runs (Commits t load.section.voters s u a) a b → Runs (PutsAtMost (commit_bytes t s u)) a b → IsFaultless a b → ForSome b.flashes (AreAtRest t load u) → IsCutOff (line ∷ []) b c → HasStopped t load s (telling u line) port.Display a c
+  stopped_told a b c stored run few fine rest off =
       let part = cut_front (line ∷ []) off.ops off.cut in
       let kept = shows_keep off.ops b c part.shows off.does in
       let shown : shows_in (run.0 ++ off.ops) ≡ off.ops =
@@ -255,7 +263,8 @@ module _ (t : TablesData) (load : Load) (s u : State) (line : List ℕ) where
         plays = plays_told a b run.0 off.ops stored run.2 run.1 rest part;
         cut = subst (IsCutShort (line ∷ [])) (sym shown) off.cut;
         order = order_in_line a run.0 off.ops run.2 off.cut;
-        rest = λ display. (u, (1, omega arith, refl), subst (λ (o : Option Flashes). ForSome o (AreAtRest load u)) (sym kept) rest);
+        bytes = λ traced. told_bytes t s u line a b run.0 off.ops traced run.1 few part.shows;
+        rest = λ display. (u, (1, omega arith, refl), subst (λ (o : Option Flashes). ForSome o (AreAtRest t load u)) (sym kept) rest);
         fault = ends_later port.Display a b c fine (record { faults = off.faults; calls = off.calls });
       }
 
@@ -268,14 +277,15 @@ module _ (t : TablesData) (load : Load) (s u : State) (line : List ℕ) where
   no_display External same = cc
 
   -- a flash failed in the commit
-  pub stopped_commit : (d : Dev) (a b : Told) → Runs (Commits t load.section.voters s u a) a b → EndsAt (port_of d) a b → HasStopped t load s (telling u line) (port_of d) a b
-  stopped_commit d a b run fault =
+  pub stopped_commit : (d : Dev) (a b : Told) → Runs (Commits t load.section.voters s u a) a b → Runs (PutsAtMost (commit_bytes t s u)) a b → EndsAt (port_of d) a b → HasStopped t load s (telling u line) (port_of d) a b
+  stopped_commit d a b run few fault =
       record {
         ops = run.0;
         does = run.1;
         plays = plays_commit a run.0 run.2;
         cut = cut_in_commit d run.0 (shows_in_silent (λ x k. IsOfTwin body_size k) run.0 run.2.slots.within);
         order = (run.0, [], commits_state a run.0 run.2, sym (append-nil run.0), inl (inl refl));
+        bytes = λ traced. let most = traced_bytes (commit_bytes t s u) a b run.0 traced run.1 few in omega (arith, most);
         rest = λ display. absurd (no_display d display);
         fault = fault;
       }
@@ -356,7 +366,9 @@ put-append t load s xs ys a b c full first second =
           shows_in-append first.ops second.ops ∙ ap (λ (l : List Op). l ++ shows_in second.ops) first.shown
           ∙ ap (λ (l : List Op). shows (lines_in xs) ++ l) second.shown ∙ sym (shows_of_pieces xs ys);
       order = order-append xs ys first.ops second.ops first.order second.order;
-      rest = subst (λ (u : State). ForSome c.flashes (AreAtRest load u)) (sym (state_after-append s xs ys)) second.rest;
+      bytes = λ traced.
+          omega (arith, first.bytes traced, second.bytes (still_traced first.ops a b traced first.does), bytes-append first.ops second.ops, bytes_along-append t s xs ys);
+      rest = subst (λ (u : State). ForSome c.flashes (AreAtRest t load u)) (sym (state_after-append s xs ys)) second.rest;
       fine = faultless_trans a b c first.fine second.fine;
     }
 
@@ -400,6 +412,7 @@ stopped_before t load s xs ys p a b stopped =
       plays = plays_before t load s xs ys a.flashes stopped.ops stopped.plays;
       cut = cut_at_before p xs ys (shows_in stopped.ops) stopped.cut;
       order = order_before xs ys stopped.ops stopped.order;
+      bytes = λ traced. omega (arith, stopped.bytes traced, bytes_along-append t s xs ys);
       rest = λ display. let kept = stopped.rest display in (kept.0, contained_before s kept.0 xs ys kept.1, kept.2);
       fault = stopped.fault;
     }
@@ -415,6 +428,8 @@ stopped_after t load s xs ys p a b c full first stopped =
       plays = plays-append t load s xs ys a b first.ops stopped.ops full first.plays first.shown first.does stopped.plays;
       cut = subst (IsCutAt p (xs ++ ys)) (sym shown) (cut_at_after p xs ys (shows_in stopped.ops) stopped.cut);
       order = order_after xs ys first.ops stopped.ops first.order stopped.order;
+      bytes = λ traced.
+          omega (arith, first.bytes traced, stopped.bytes (still_traced first.ops a b traced first.does), bytes-append first.ops stopped.ops, bytes_along-append t s xs ys);
       rest = λ display. let kept = stopped.rest display in (kept.0, contained_after s kept.0 xs ys kept.1, kept.2);
       fault = ends_later p a b c first.fine stopped.fault;
     }

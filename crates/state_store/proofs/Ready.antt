@@ -17,6 +17,6 @@ ready_named t voters s is =
     subst (λ (n : ℕ). IsStateOf t n s) (sym (ready_places t voters s is)) (subst (IsStateOf t voters) (sym is) (of_tables-ready_state t voters))
 
 -- its phase byte is that of no poll that was opened or sealed
-pub ready_unused : (t : TablesData) (voters : ℕ) → get_or (encode (ready_state t voters)) 1 0 ≡ 0
+pub ready_unused : (t : TablesData) (voters : ℕ) → get_or (encode t (ready_state t voters)) 1 0 ≡ 0
 unfolding encode written
 ready_unused t voters = refl

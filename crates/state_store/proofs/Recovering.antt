@@ -1,5 +1,5 @@
--- A recovery: two syncs, a look at the flashes, and a heal.
-use Rattle.std.proofs.Common.{◌≡◌, inl, inr, ℕ, Option, Some, None, ◌≤◌, List, [], ◌++◌, length, option_map, IsSome, refl, sym, subst}
+-- A recovery: two syncs, a look at the flashes, a heal, and the change to the encoding that is written today.
+use Rattle.std.proofs.Common.{◌≡◌, inl, inr, ℕ, Option, Some, None, ◌≤◌, List, [], ◌∷◌, ◌++◌, append_assoc, arith, length, option_map, IsSome, refl, sym, subst}
 use Rattle.std.specs.Option.{ForSome}
 use Rattle.urna_outside.specs.Faults.{EndsAt, IsFaultless}
 use Rattle.urna_outside.specs.Flash.{Op, Flashes, after}
@@ -11,10 +11,14 @@ use Rattle.urna_outside.proofs.Doing.{does-append, then_told, told_after}
 use Rattle.urna_outside.proofs.Faults.{ends_later, faultless_trans}
 use Rattle.urna_outside.proofs.Keeping.{synced_clean}
 use Rattle.urna_outside.specs.Told.{AreSized}
+use Rattle.urna_outside.proofs.Courses.{in-append, in_shows}
+use Rattle.urna_outside.proofs.Runs.{syncs-append}
+use Rattle.urna_outside.proofs.Stops.{stops-append_silent}
 use Rattle.twin_image.specs.Heal.{Heals, IsHeal}
 use Rattle.twin_image.specs.Level.{IsLevel}
 use Rattle.twin_image.specs.Held.{HoldsBody, held_on}
 use Rattle.twin_image.specs.Slots.{AreClean}
+use Rattle.twin_image.specs.Twin.{IsOfTwin}
 use Rattle.election_tables.specs.Limits.{most_voters}
 use Rattle.election_tables.specs.Roll.{IsRoll, RollData}
 use Rattle.election_tables.specs.TablesData.{IsTables, TablesData}
@@ -24,7 +28,7 @@ use Rattle.image_codec.specs.Encoding.{IsEncoding, encode}
 use Rattle.image_codec.specs.State.{State, rank_of}
 use Rattle.image_codec.proofs.Decoding.{decoded_back}
 use Rattle.image_codec.specs.Layout.{body_size}
-use Rattle.state_store.specs.Calls.{AreFound, FailsToPeek, FailsToRecover, IsRecovery, IsSynced, KeepFrames, Recovers, both_synced}
+use Rattle.state_store.specs.Calls.{AreFound, BringsUp, FailsToPeek, FailsToRecover, IsBroughtUp, IsFirstOf, IsRecovery, IsSynced, KeepFrames, Recovers, both_synced}
 use Rattle.state_store.specs.Finding.{EndsFinding}
 use Rattle.state_store.specs.Held.{AreLoaded, HeldByBoth, HeldByNone, IsForeign, bodies_of_both}
 use Rattle.state_store.specs.Load.{IsSectionOf, load_of}
@@ -32,8 +36,9 @@ use Rattle.state_store.specs.Rest.{AreAtRest}
 use Rattle.state_store.specs.Store.{AreDevices}
 use Rattle.state_store.specs.declared.store.StoreError.{StoreError}
 use Rattle.state_store.specs.declared.store.StoreError.TheVariants as store
-use Rattle.state_store.proofs.Changing.{rests_after}
-use Rattle.state_store.proofs.Holding.{both_ranked, found_held}
+use Rattle.state_store.proofs.Changing.{framed_after, rests_after}
+use Rattle.state_store.proofs.Holding.{both_ranked, found_first, found_held}
+use Rattle.state_store.proofs.Resting.{frames_at_end, frames_trans}
 use Rattle.state_store.proofs.Standing.{AreFramed}
 use Rattle.state_store.proofs.Stored.{long_state}
 
@@ -96,6 +101,12 @@ module _ (t : TablesData) (r : RollData) (section : Section) (tables : IsTables 
   held_state internal external is =
       found_held t (length r.titles) tables few (bodies_of_both internal external) _ (both_ranked t (length r.titles) internal external) body s is known
 
+  -- and it is the first that is an encoding of the state
+  first_state : (internal external : List ℕ) → held_on (rank_in t (length r.titles)) body_size internal external ≡ Some body
+      → IsFirstOf t (length r.titles) s (bodies_of_both internal external) body
+  first_state internal external is =
+      found_first t (length r.titles) tables few (bodies_of_both internal external) _ (both_ranked t (length r.titles) internal external) body s is known
+
   -- what is found behind the syncs was there before them
   pub found_before : (a b : Told) → Does both_synced a b → ForSome b.flashes (λ fs. AreLoaded t r section fs.internal.content fs.external.content)
       → ForSome b.flashes (HoldsBody (rank_in t (length r.titles)) body_size body) → ForSome a.flashes (AreFound t r section s)
@@ -112,7 +123,7 @@ module _ (t : TablesData) (r : RollData) (section : Section) (tables : IsTables 
     pub recovers : Recovers t r section s a run.0
     recovers =
         record {
-          slots = record { within = run.2.within; syncs = run.2.syncs };
+          slots = record { within = run.2.within; syncs = omega (arith, run.2.syncs) };
           stops = λ start told.
               let mid = after both_synced start in
               let told_b = told_after both_synced a b start synced told in
@@ -128,8 +139,43 @@ module _ (t : TablesData) (r : RollData) (section : Section) (tables : IsTables 
     pub does_all : Does (both_synced ++ run.0) a d
     does_all = does-append both_synced run.0 a c d (does-append both_synced [] a b c synced done) run.1
 
-    pub recovered : Runs (λ ops. (rest : List Op) × (ops ≡ both_synced ++ rest) × Recovers t r section s a rest) a d
-    recovered = (both_synced ++ run.0, does_all, (run.0, refl, recovers))
+    -- and it is kept while the body becomes the encoding that is written today
+    module _ (e : Told) (second : Runs (BringsUp t (length r.titles) s d) d e) where
+      recovers_on : Recovers t r section s a (run.0 ++ second.0)
+      recovers_on =
+          record {
+            slots = record {
+              within = in-append (λ d k. IsOfTwin body_size k) run.0 second.0 run.2.within second.2.slots.within;
+              syncs = omega (arith, syncs-append run.0 second.0, run.2.syncs, second.2.slots.syncs);
+            };
+            stops = λ start told.
+                let mid = after both_synced start in
+                let told_b = told_after both_synced a b start synced told in
+                let told_c = told_after [] b c mid done told_b in
+                let told_d = told_after run.0 c d mid run.1 told_c in
+                let first = recovers.stops start told in
+                let kept = frames_at_end start mid run.0 (λ stop_ops stop left is. (first.1 stop_ops stop left is).1) in (
+                  first.0,
+                  stops-append_silent mid run.0 second.0 (λ left. HeldByBoth t (length r.titles) left.internal left.external s × KeepFrames start left) (in_shows (λ d k. IsOfTwin body_size k) run.0 run.2.within) first.1
+                      (λ stop_ops stop left is.
+                      let then = second.2.stops (after run.0 mid) told_d stop_ops stop left is in
+                      (then.0.both, frames_trans start (after run.0 mid) left kept then.1)),
+                );
+          }
+
+      does_both : Does (both_synced ++ (run.0 ++ second.0)) a e
+      does_both =
+          subst (λ (ops : List Op). Does ops a e) (append_assoc both_synced run.0 second.0) (does-append (both_synced ++ run.0) second.0 a d e does_all second.1)
+
+      pub recovered : Runs (λ ops. (rest : List Op) × (ops ≡ both_synced ++ rest) × Recovers t r section s a rest) a e
+      recovered = (both_synced ++ (run.0 ++ second.0), does_both, (run.0 ++ second.0, refl, recovers_on))
+
+      -- the change of the body failed at a device
+      pub fails_changing : (dev : Dev) → IsSectionOf t r section → IsFaultless a d → EndsAt (port_of dev) d e → FailsToRecover t r a e (store.Flash dev)
+      fails_changing dev fits fine ends = (
+        ends_later (port_of dev) a d e fine ends,
+        (both_synced ++ (run.0 ++ second.0), does_both, inr (run.0 ++ second.0, refl, inr (section, s, fits, recovers_on))),
+      )
 
     -- the heal failed at a device
     pub fails_healing : (dev : Dev) → IsSectionOf t r section → IsFaultless a c → EndsAt (port_of dev) c d → FailsToRecover t r a d (store.Flash dev)
@@ -138,34 +184,47 @@ module _ (t : TablesData) (r : RollData) (section : Section) (tables : IsTables 
       (both_synced ++ run.0, does_all, inr (run.0, refl, inr (section, s, fits, recovers))),
     )
 
--- all that was done, syncs and heal
-pub healed_exactly : (s : State) (body : List ℕ) (a b c d : Told) → body ≡ encode s → Does both_synced a b → Does [] b c → ForSome c.flashes (λ start. Runs (IsHeal body_size body start) c d)
-    → ForSome a.flashes (λ start. Runs (IsRecovery s start) a d)
-healed_exactly s body a b c d is synced done exact start told =
-    let mid = after both_synced start in
-    let healed = exact mid (told_after [] b c mid done (told_after both_synced a b start synced told)) in (
-      both_synced ++ healed.0,
-      does-append both_synced healed.0 a c d (does-append both_synced [] a b c synced done) healed.1,
-      (healed.0, refl, subst (λ (bytes : List ℕ). IsHeal body_size bytes start healed.0) is (over_start healed.2)),
-    )
-  where
-    -- the syncs change no content
-    over_start : {ops : List Op} → IsHeal body_size body (after both_synced start) ops → IsHeal body_size body start ops
-    over_start heal =
+-- all that was done: syncs, heal, and the change of the body
+module _ (t : TablesData) (r : RollData) (section : Section) (tables : IsTables t) (few : length r.titles ≤ most_voters) (s : State) (body : List ℕ) (known : decoded t (length r.titles) body ≡ Some s) where
+  pub recovered_exactly : (a b c d e : Told) → Does both_synced a b → Does [] b c → ForSome b.flashes (HoldsBody (rank_in t (length r.titles)) body_size body) → ForSome c.flashes (λ start. Runs (IsHeal body_size body start) c d)
+      → ForSome d.flashes (λ start. Runs (IsBroughtUp t s body) d e) → ForSome a.flashes (λ start. Runs (IsRecovery t (length r.titles) s start) a e)
+  recovered_exactly a b c d e synced done held exact second start told =
+      let mid = after both_synced start in
+      let told_b = told_after both_synced a b start synced told in
+      let told_c = told_after [] b c mid done told_b in
+      let healed = exact mid told_c in
+      let changed = second (after healed.0 mid) (told_after healed.0 c d mid healed.1 told_c) in
+      let first = does-append both_synced healed.0 a c d (does-append both_synced [] a b c synced done) healed.1 in (
+        both_synced ++ (healed.0 ++ changed.0),
+        subst (λ (ops : List Op). Does ops a e) (append_assoc both_synced healed.0 changed.0) (does-append (both_synced ++ healed.0) changed.0 a d e first changed.1),
         record {
-          internal = heal.internal;
-          external = heal.external;
-          internal_is = heal.internal_is;
-          external_is = heal.external_is;
-          in_row = heal.in_row;
-        }
+          body = body;
+          held = first_state t r section tables few s body known mid.internal.content mid.external.content (held mid told_b);
+          heal = healed.0;
+          heals = over_start healed.2;
+          change = changed.0;
+          brings_up = changed.2;
+          in_row = refl;
+        },
+      )
+    where
+      -- the syncs change no content
+      over_start : {ops : List Op} → IsHeal body_size body (after both_synced start) ops → IsHeal body_size body start ops
+      over_start heal =
+          record {
+            internal = heal.internal;
+            external = heal.external;
+            internal_is = heal.internal_is;
+            external_is = heal.external_is;
+            in_row = heal.in_row;
+          }
 
 -- the frames of a section's load
 framed_of : (t : TablesData) (r : RollData) (section : Section) (fs : Flashes) → AreLoaded t r section fs.internal.content fs.external.content → AreFramed (load_of t r section) fs
 framed_of t r section fs loaded Internal = loaded.internal_frame
 framed_of t r section fs loaded External = loaded.external_frame
 
--- The bytes that both flashes hold are the encoding of a state, which the flashes are at rest with after the heal.
+-- The bytes that both flashes hold are an encoding of a state, which the flashes are at rest with in the end.
 module _ (t : TablesData) (r : RollData) (section : Section) (tables : IsTables t) (roll : IsRoll r) (fits : IsSectionOf t r section) (s : State) (body : List ℕ) (is : IsEncoding t (length r.titles) s body) where
   pub found_known : decoded t (length r.titles) body ≡ Some s
   found_known = decoded_back t (length r.titles) body s tables roll.count.1 is
@@ -173,9 +232,14 @@ module _ (t : TablesData) (r : RollData) (section : Section) (tables : IsTables 
   pub found_encoding : IsEncoding t section.voters s body
   found_encoding = subst (λ (n : ℕ). IsEncoding t n s body) (sym fits.voters) is
 
-  pub rests_healed : (c d : Told) → AreDevices c.sizes → ForSome c.flashes (AreSized c.sizes) → ForSome d.flashes (AreSized d.sizes) → ForSome c.flashes (λ fs. AreLoaded t r section fs.internal.content fs.external.content)
-      → Runs (Heals c body_size body) c d → ForSome d.flashes (IsLevel body_size body) → ForSome d.flashes (AreAtRest (load_of t r section) s)
-  rests_healed c d devices sized sized_d loaded run level =
-      rests_after (load_of t r section) s 12 _ c d devices sized sized_d (long_state t (length r.titles) s tables roll.count.1 is.state)
-      (λ fs told. framed_of t r section fs (loaded fs told)) run
-      (λ fs told. subst (λ (b : List ℕ). IsLevel body_size b fs) is.same (level fs told))
+  pub rests_brought : (c d e : Told) → AreDevices c.sizes → ForSome c.flashes (AreSized c.sizes) → ForSome d.flashes (AreSized d.sizes) → ForSome e.flashes (AreSized e.sizes) → ForSome c.flashes (λ fs. AreLoaded t r section fs.internal.content fs.external.content)
+      → Runs (Heals c body_size body) c d → Runs (BringsUp t (length r.titles) s d) d e → ForSome e.flashes (IsLevel body_size (encode t s)) → ForSome e.flashes (AreAtRest t (load_of t r section) s)
+  rests_brought c d e devices sized sized_d sized_e loaded run second level =
+      let load = load_of t r section in
+      let framed = framed_after load _ c d devices sized (λ fs told. framed_of t r section fs (loaded fs told)) run run.2.frames in
+      rests_after t load s _ d e (subst AreDevices (sym run.1.sizes) devices) sized_d sized_e (long_state t (length r.titles) s tables roll.count.1 is.state) framed second
+      (λ start told done stop left at. (second.2.stops start told done stop left at).1) level
+
+  -- by the number of those whom the state has
+  pub brought_named : (d e : Told) → Runs (BringsUp t (length s.came) s d) d e → Runs (BringsUp t (length r.titles) s d) d e
+  brought_named d e run = subst (λ (n : ℕ). Runs (BringsUp t n s d) d e) is.state.roll run

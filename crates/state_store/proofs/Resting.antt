@@ -4,6 +4,7 @@ use Rattle.urna_outside.specs.Flash.{Op, Flash, Flashes, flash_of, after, shown_
 use Rattle.urna_outside.specs.Stop.{IsStop, Left, AtEachStop}
 use Rattle.urna_outside.specs.declared.device.Dev.{Dev}
 use Rattle.urna_outside.specs.declared.device.Dev.TheVariants.{Internal, External}
+use Rattle.urna_outside.proofs.Stops.{stop_whole}
 use Rattle.gate_slot.specs.Slot.{header_size}
 use Rattle.twin_image.specs.Frame.{device_image}
 use Rattle.twin_image.specs.Slots.{AreClean, KeepsFrame}
@@ -22,14 +23,13 @@ use Rattle.state_store.specs.Load.{header}
 use Rattle.state_store.specs.Rest.{AreAtRest}
 use Rattle.state_store.specs.declared.load.Load.{Load}
 use Rattle.state_store.proofs.Holding.{IsKnown, hold_either}
-use Rattle.twin_image.proofs.Framing.{stop_whole}
 
 -- a state that can stand in the slots of flashes of this load
 pub record IsStored (t : TablesData) (load : Load) (s : State) : Type 0 where
   pub tables : IsTables t
   pub few : load.section.voters ≤ most_voters
   pub known : IsKnown t load.section.voters s
-  pub long : length (encode s) ≡ body_size
+  pub long : length (encode t s) ≡ body_size
   pub headed : (d : Dev) → length (header load d) ≡ header_size
 
 -- The image of a device
@@ -48,20 +48,20 @@ pub clean_image : (f : Flash) (image : List ℕ) → IsClean f → IsImage f ima
 clean_image f image clean is = ext_get_or 0 image f.content is.same_length (λ k below. is.clean k (clean k))
 
 -- each image of a device at rest has the body in its slots
-rest_image : (t : TablesData) (load : Load) (s : State) (flashes : Flashes) (d : Dev) (image : List ℕ) → IsStored t load s → AreAtRest load s flashes → IsImage (flash_of d flashes) image → HoldsEither body_size (encode s) (encode s) image
+rest_image : (t : TablesData) (load : Load) (s : State) (flashes : Flashes) (d : Dev) (image : List ℕ) → IsStored t load s → AreAtRest t load s flashes → IsImage (flash_of d flashes) image → HoldsEither body_size (encode t s) (encode t s) image
 rest_image t load s flashes d image stored rest is =
-    subst (HoldsEither body_size (encode s) (encode s)) (sym (clean_image (flash_of d flashes) image (rest.clean d) is ∙ rest.content d))
-    (whole_holds body_size (header load d) (encode s) (stored.headed d) stored.long)
+    subst (HoldsEither body_size (encode t s) (encode t s)) (sym (clean_image (flash_of d flashes) image (rest.clean d) is ∙ rest.content d))
+    (whole_holds body_size (header load d) (encode t s) (stored.headed d) stored.long)
 
 -- Both flashes at rest, and each alone, hold their state.
-pub rest_holds : (t : TablesData) (load : Load) (s : State) (flashes : Flashes) (left : Left) → IsStored t load s → AreAtRest load s flashes → IsImage flashes.internal left.internal → IsImage flashes.external left.external
+pub rest_holds : (t : TablesData) (load : Load) (s : State) (flashes : Flashes) (left : Left) → IsStored t load s → AreAtRest t load s flashes → IsImage flashes.internal left.internal → IsImage flashes.external left.external
     → HoldEither t load.section.voters s s left
 rest_holds t load s flashes left stored rest internal external =
     let voters = load.section.voters in
     let rank = rank_in t voters in
-    let ranked : rank (encode s) ≡ Some (rank_of s) = ap (option_map rank_of) stored.known in
+    let ranked : rank (encode t s) ≡ Some (rank_of s) = ap (option_map rank_of) stored.known in
     let leaves =
-    leaves_either rank body_size (encode s) (encode s) (rank_of s) (rank_of s) ranked ranked left
+    leaves_either rank body_size (encode t s) (encode t s) (rank_of s) (rank_of s) ranked ranked left
     (rest_image t load s flashes Internal left.internal stored rest internal)
     (rest_image t load s flashes External left.external stored rest external) in
     hold_either t voters stored.tables stored.few s s stored.known stored.known left leaves
@@ -82,6 +82,15 @@ frames_trans first mid left kept keeps d =
       same_length = (keeps d).same_length ∙ (kept d).same_length;
       bytes = λ k out. (keeps d).bytes k out ∙ (kept d).bytes k out;
     }
+
+-- and so does what keeps the frames of their content
+pub frames_then : (first mid : Flashes) (left : Left) (text : List ℕ)
+    → KeepFrames first (record { internal = mid.internal.content; external = mid.external.content; shown = text }) → KeepFrames mid left → KeepFrames first left
+frames_then first mid left text kept keeps = frames_trans first mid left contents keeps
+  where
+    contents : (d : Dev) → KeepsFrame body_size (flash_of d first).content (flash_of d mid).content
+    contents Internal = kept Internal
+    contents External = kept External
 
 -- What holds at each stop holds of what reads give at the end.
 pub at_end : (start : Flashes) (ops : List Op) (P : Left → Type 0) → AtEachStop start ops P

@@ -1,5 +1,5 @@
 -- A state of a poll can stand in the slots of flashes that are loaded for it.
-use Rattle.std.proofs.Common.{◌≡◌, ℕ, ◌≤◌, List, ◌++◌, length, refl, ap, ◌∙◌, arith, length-append}
+use Rattle.std.proofs.Common.{◌≡◌, inl, ℕ, ◌≤◌, List, ◌++◌, length, refl, ap, ◌∙◌, arith, length-append}
 use Rattle.std.specs.Prelude.{replicate}
 use Rattle.std.proofs.lemmas.List.{length-replicate}
 use Rattle.std.proofs.lemmas.List.Elements.{All-contains}
@@ -10,7 +10,8 @@ use Rattle.election_tables.specs.TablesData.{IsSection, IsTables, TablesData}
 use Rattle.gate_slot.specs.Slot.{header_size}
 use Rattle.image_codec.specs.Encoding.{IsStateOf, encode}
 use Rattle.image_codec.specs.State.{State}
-use Rattle.image_codec.proofs.Decoding.{decoded_back, length-encode, room_of_state}
+use Rattle.image_codec.proofs.Decoding.{decoded_back}
+use Rattle.image_codec.proofs.Lengths.{length-encode, room_of_state}
 use Rattle.image_codec.specs.Layout.{body_size}
 use Rattle.state_store.specs.Load.{header}
 use Rattle.state_store.specs.Store.{IsLoadedWith}
@@ -38,10 +39,10 @@ header_long t r load d loaded =
 
 -- reading the encoding of a state of a poll gives it back, and it fills a body
 pub known_state : (t : TablesData) (voters : ℕ) (s : State) → IsTables t → voters ≤ most_voters → IsStateOf t voters s → IsKnown t voters s
-known_state t voters s tables few is = decoded_back t voters (encode s) s tables few (record { state = is; same = refl })
+known_state t voters s tables few is = decoded_back t voters (encode t s) s tables few (record { state = is; same = inl refl })
 
-pub long_state : (t : TablesData) (voters : ℕ) (s : State) → IsTables t → voters ≤ most_voters → IsStateOf t voters s → length (encode s) ≡ body_size
-long_state t voters s tables few is = let room = room_of_state t voters s tables few is in length-encode s (omega (arith, room))
+pub long_state : (t : TablesData) (voters : ℕ) (s : State) → IsTables t → voters ≤ most_voters → IsStateOf t voters s → length (encode t s) ≡ body_size
+long_state t voters s tables few is = let room = room_of_state t voters s tables few is in length-encode t s (omega (arith, room))
 
 pub stored : (t : TablesData) (r : RollData) (load : Load) (s : State) → IsLoadedWith t r load → IsStateOf t load.section.voters s → IsStored t load s
 stored t r load s loaded is =

@@ -1,5 +1,5 @@
 -- What the calls of a store do on the flashes, also where the power goes
-use Rattle.std.specs.Prelude.{◌≡◌, ◌⊎◌, ℕ, ◌<◌, ◌≤◌, List, [], ◌∷◌, ◌++◌, length}
+use Rattle.std.specs.Prelude.{◌≡◌, ◌≢◌, ◌⊎◌, ℕ, ◌<◌, ◌≤◌, List, [], ◌∷◌, ◌++◌, length}
 use Rattle.std.specs.Option.{ForSome}
 use Rattle.urna_outside.specs.Confined.{AreIn, count_syncs}
 use Rattle.urna_outside.specs.Faults.{EndsAt, IsFaultless}
@@ -11,13 +11,14 @@ use Rattle.urna_outside.specs.declared.device.Dev.TheVariants.{Internal, Externa
 use Rattle.election_tables.specs.Roll.{RollData}
 use Rattle.election_tables.specs.TablesData.{TablesData}
 use Rattle.election_tables.specs.declared.tables.sections.Section.{Section}
-use Rattle.image_codec.specs.Encoding.{encode}
+use Rattle.image_codec.specs.Encoding.{IsEncoding, encode}
 use Rattle.image_codec.specs.State.{State}
 use Rattle.twin_image.specs.Heal.{IsHeal}
+use Rattle.twin_image.specs.Order.{AreRenewals}
 use Rattle.twin_image.specs.Slots.{KeepsFrame}
 use Rattle.twin_image.specs.Twin.{IsOfTwin}
 use Rattle.image_codec.specs.Layout.{body_size}
-use Rattle.state_store.specs.Held.{AreLoaded, IsForeign, HeldAlone, HeldByBoth, HeldByNone}
+use Rattle.state_store.specs.Held.{AreLoaded, IsForeign, HeldAlone, HeldByBoth, HeldByNone, bodies_of_both}
 use Rattle.state_store.specs.Load.{IsSectionOf}
 use Rattle.state_store.specs.Rest.{IsInUse, device_size}
 use Rattle.state_store.specs.declared.store.StoreError.{StoreError}
@@ -34,10 +35,9 @@ pub record IsSynced (old new : Told) : Type 0 where
   pub does : Does both_synced old new
   pub fine : IsFaultless old new
 
--- nothing was done, and no call failed
-pub record IsUntouched (old new : Told) : Type 0 where
-  pub does : Does [] old new
-  pub fine : IsFaultless old new
+-- no call was made
+abbrev pub IsUntouched : Told → Told → Type 0
+IsUntouched old new = new ≡ old
 
 -- of the two syncs the second wasn't done
 abbrev pub IsWithinSyncs : List Op → Type 0
@@ -61,14 +61,14 @@ pub record HoldEither (t : TablesData) (voters : ℕ) (s u : State) (left : Left
   pub internal : IsEither s u (HeldAlone t voters left.internal)
   pub external : IsEither s u (HeldAlone t voters left.external)
 
--- writes of gates and bodies alone, and few syncs
-pub record AreInSlots (ops : List Op) : Type 0 where
+-- writes of gates and bodies alone, and at most so many syncs
+pub record AreInSlots (most : ℕ) (ops : List Op) : Type 0 where
   pub within : AreIn (λ d k. IsOfTwin body_size k) ops
-  pub syncs : count_syncs ops ≤ 12
+  pub syncs : count_syncs ops ≤ most
 
 -- What a commit does: at each stop both flashes, and each alone, hold the old state or the new one.
 pub record Commits (t : TablesData) (voters : ℕ) (s u : State) (told : Told) (ops : List Op) : Type 0 where
-  pub slots : AreInSlots ops
+  pub slots : AreInSlots 12 ops
   pub stops : ForSome told.flashes (λ start. AtEachStop start ops (λ left. HoldEither t voters s u left × KeepFrames start left))
 
 -- The state that both flashes hold together, with the frames of a section's load
@@ -76,16 +76,34 @@ pub record AreFound (t : TablesData) (r : RollData) (section : Section) (s : Sta
   pub loaded : AreLoaded t r section flashes.internal.content flashes.external.content
   pub held : HeldByBoth t (length r.titles) flashes.internal.content flashes.external.content s
 
--- what a recovery does behind the two syncs
+-- what a recovery does behind the two syncs: it heals, and may bring the healed slots to another encoding
 pub record Recovers (t : TablesData) (r : RollData) (section : Section) (s : State) (told : Told) (ops : List Op) : Type 0 where
-  pub slots : AreInSlots ops
+  pub slots : AreInSlots 24 ops
   pub stops : ForSome told.flashes (λ start. AreFound t r section s start
       × AtEachStop (after both_synced start) ops (λ left. HeldByBoth t (length r.titles) left.internal left.external s × KeepFrames start left))
 
--- All that a recovery does over these flashes: behind the two syncs it brings each slot that isn't open with the state to it, and
--- touches no other.
-abbrev pub IsRecovery : State → Flashes → List Op → Type 0
-IsRecovery s start ops = (rest : List Op) × (ops ≡ both_synced ++ rest) × IsHeal body_size (encode s) start rest
+-- the first of these bodies that is an encoding of this state
+abbrev pub IsFirstOf : TablesData → ℕ → State → List (List ℕ) → List ℕ → Type 0
+IsFirstOf t voters s [] body = ⊥
+IsFirstOf t voters s (first ∷ bodies) body =
+    (IsEncoding t voters s first × (first ≡ body)) ⊎ ((¬ IsEncoding t voters s first) × IsFirstOf t voters s bodies body)
+
+-- the body of all four slots is brought to the encoding that is written today, where it is another one; else nothing is done
+abbrev pub IsBroughtUp : TablesData → State → List ℕ → List Op → Type 0
+IsBroughtUp t s body ops =
+    ((body ≡ encode t s) × (ops ≡ [])) ⊎ ((body ≢ encode t s) × AreRenewals body_size body (encode t s) ops)
+
+-- All that a recovery does over these flashes, which hold a state. The body that is held is the first of those of the open slots that is
+-- an encoding of it. Behind the two syncs each slot that isn't open with that body is brought to it, and no other is touched; and then,
+-- where that body isn't the state's encoding of version 2, all four slots are brought to this, one after the other.
+pub record IsRecovery (t : TablesData) (voters : ℕ) (s : State) (start : Flashes) (ops : List Op) : Type 0 where
+  pub body : List ℕ
+  pub held : IsFirstOf t voters s (bodies_of_both start.internal.content start.external.content) body
+  pub heal : List Op
+  pub heals : IsHeal body_size body start heal
+  pub change : List Op
+  pub brings_up : IsBroughtUp t s body change
+  pub in_row : ops ≡ both_synced ++ (heal ++ change)
 
 -- what there is where a recovery fails
 abbrev pub FailsToRecover : TablesData → RollData → Told → Told → StoreError → Type 0
@@ -133,3 +151,14 @@ abbrev pub FailsToLoad : Told → Told → LoadError → Type 0
 FailsToLoad old new load.Memory = IsUntouched old new
 FailsToLoad old new (load.Flash d) = EndsAt (port_of d) old new × Runs (FromSyncs (λ ops. (ops ≡ []) ⊎ Loads old ops)) old new
 FailsToLoad old new (load.Busy d) = IsSynced old new × ForSome old.flashes (IsBusy d)
+
+-- both flashes, and each alone, hold the state
+pub record HoldAll (t : TablesData) (voters : ℕ) (s : State) (left : Left) : Type 0 where
+  pub both : HeldByBoth t voters left.internal left.external s
+  pub internal : HeldAlone t voters left.internal s
+  pub external : HeldAlone t voters left.external s
+
+-- What a change of the body does that keeps its state: at each stop both flashes, and each alone, hold the state.
+pub record BringsUp (t : TablesData) (voters : ℕ) (s : State) (told : Told) (ops : List Op) : Type 0 where
+  pub slots : AreInSlots 12 ops
+  pub stops : ForSome told.flashes (λ start. AtEachStop start ops (λ left. HoldAll t voters s left × KeepFrames start left))

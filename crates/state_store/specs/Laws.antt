@@ -94,7 +94,7 @@ OneIsHeld =
 abbrev pub RestIsFound : Type 0
 RestIsFound =
     (t : TablesData) (r : RollData) (section : Section) (s : State) (flashes : Flashes) → IsTables t → IsRoll r → IsSectionOf t r section
-    → IsStateOf t (length r.titles) s → AreAtRest (load_of t r section) s flashes → AreWhole flashes × AreFound t r section s flashes
+    → IsStateOf t (length r.titles) s → AreAtRest t (load_of t r section) s flashes → AreWhole flashes × AreFound t r section s flashes
 
 -- A session that ended, with its pieces put out or by a fault, leaves the flashes so too, where no power cut comes.
 abbrev pub EndGoesOn : Type 0

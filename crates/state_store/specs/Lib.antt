@@ -5,6 +5,7 @@ pub mod Looking
 pub mod Finding
 pub mod Store
 pub mod Calls
+pub mod Cost
 pub mod Order
 pub mod Pieces
 pub mod Played

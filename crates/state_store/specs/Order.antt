@@ -2,6 +2,7 @@
 use Rattle.std.specs.Prelude.{◌≡◌, List, ◌++◌}
 use Rattle.urna_outside.specs.Flash.{Op, Flashes}
 use Rattle.urna_outside.specs.declared.device.Dev.TheVariants.{Internal, External}
+use Rattle.election_tables.specs.TablesData.{TablesData}
 use Rattle.image_codec.specs.Encoding.{encode}
 use Rattle.image_codec.specs.State.{State}
 use Rattle.twin_image.specs.Lay.{load_ops}
@@ -12,14 +13,14 @@ use Rattle.state_store.specs.Load.{header}
 use Rattle.state_store.specs.declared.load.Load.{Load}
 
 -- All that a commit does over flashes at rest with a state: internal 0, internal 1, external 0 and external 1 are brought to the
--- next state, one after the other. Of each the gate is shut, the body is put and the gate is opened, and each of these is synced: 24
--- operations.
-abbrev pub IsCommit : State → State → List Op → Type 0
-IsCommit s u ops = AreRenewals body_size (encode s) (encode u) ops
+-- next state, one after the other. Of each the gate is shut, each page of the body that changes is put and the gate is opened, and each of
+-- these three steps is synced.
+abbrev pub IsCommit : TablesData → State → State → List Op → Type 0
+IsCommit t s u ops = AreRenewals body_size (encode t s) (encode t u) ops
 
 -- All that a load with a state does over these flashes: both are synced, and then the internal one is loaded and after it the external
 -- one. Of each the gates that read open are shut, both bodies are put, header and paddings are written, and both gates are opened.
 -- Header and paddings are synced together, every other write by itself.
-abbrev pub IsLoad : Load → State → Flashes → List Op → Type 0
-IsLoad load s start ops =
-    ops ≡ both_synced ++ load_ops body_size (header load Internal) (header load External) (encode s) start
+abbrev pub IsLoad : TablesData → Load → State → Flashes → List Op → Type 0
+IsLoad t load s start ops =
+    ops ≡ both_synced ++ load_ops body_size (header load Internal) (header load External) (encode t s) start

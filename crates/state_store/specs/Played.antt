@@ -12,9 +12,11 @@ use Rattle.urna_outside.specs.declared.device.Port.{Port}
 use Rattle.urna_outside.specs.declared.device.Port.TheVariants as port
 use Rattle.election_tables.specs.TablesData.{TablesData}
 use Rattle.image_codec.specs.State.{State}
+use Rattle.gate_slot.specs.Page.{put_bytes}
 use Rattle.twin_image.specs.Twin.{IsOfTwin}
 use Rattle.image_codec.specs.Layout.{body_size}
 use Rattle.state_store.specs.Calls.{KeepFrames, both_synced}
+use Rattle.state_store.specs.Cost.{bytes_along}
 use Rattle.state_store.specs.Held.{HeldAlone, HeldByBoth}
 use Rattle.state_store.specs.Rest.{AreAtRest}
 use Rattle.state_store.specs.Pieces.{Piece, commits_in, commits_reached, lines_in, state_after, text_in}
@@ -70,14 +72,16 @@ AreInOrderTo (piece ∷ pieces) ops =
     (commit : List Op) × (rest : List Op) × IsBeforeLine piece commit × (ops ≡ commit ++ rest)
     × (IsTornShow piece.line rest ⊎ ((more : List Op) × (rest ≡ Show piece.line ∷ more) × AreInOrderTo pieces more))
 
--- All pieces were put out in order, and no call failed. Both flashes are at rest with the state after them.
+-- All pieces were put out in order, and no call failed. Where the trail is told, no more bytes were put than the states cost that were
+-- committed. Both flashes are at rest with the state after them.
 pub record HasPut (t : TablesData) (load : Load) (s : State) (pieces : List Piece) (old new : Told) : Type 0 where
   pub ops : List Op
   pub does : Does ops old new
   pub plays : Plays t load s pieces old.flashes ops
   pub shown : shows_in ops ≡ shows (lines_in pieces)
   pub order : AreInOrder pieces ops
-  pub rest : ForSome new.flashes (AreAtRest load (state_after s pieces))
+  pub bytes : IsSome old.trail → put_bytes ops ≤ bytes_along t s (commits_in pieces)
+  pub rest : ForSome new.flashes (AreAtRest t load (state_after s pieces))
   pub fine : IsFaultless old new
 
 -- Where the call was cut off, by the port that failed: the display in one of the lines, or a flash in the commit before a line.
@@ -88,15 +92,16 @@ IsCutAt port.Internal pieces shown =
 IsCutAt port.External pieces shown =
     (before : List Piece) × (piece : Piece) × (behind : List Piece) × (pieces ≡ before ++ piece ∷ behind) × IsSome piece.commit × (shown ≡ shows (lines_in before))
 
--- A port failed while the pieces were put out, and no call of the machine was made after it. Where it was the display, both flashes
--- are at rest with one of the states.
+-- A port failed while the pieces were put out, and no call of the machine was made after it. Where the trail is told, no more bytes were
+-- put than all states of the pieces cost. Where it was the display, both flashes are at rest with one of the states.
 pub record HasStopped (t : TablesData) (load : Load) (s : State) (pieces : List Piece) (at : Port) (old new : Told) : Type 0 where
   pub ops : List Op
   pub does : Does ops old new
   pub plays : Plays t load s pieces old.flashes ops
   pub cut : IsCutAt at pieces (shows_in ops)
   pub order : AreInOrderTo pieces ops
-  pub rest : at ≡ port.Display → (u : State) × Contains (s ∷ commits_in pieces) u × ForSome new.flashes (AreAtRest load u)
+  pub bytes : IsSome old.trail → put_bytes ops ≤ bytes_along t s (commits_in pieces)
+  pub rest : at ≡ port.Display → (u : State) × Contains (s ∷ commits_in pieces) u × ForSome new.flashes (AreAtRest t load u)
   pub fault : EndsAt at old new
 
 -- A call puts these pieces out: all of them where it is Ok, and up to a fault of the port that it answers where it isn't.

@@ -2,6 +2,7 @@
 use Rattle.std.specs.Prelude.{◌≡◌, ◌⊎◌, ℕ, List, take, slice_index}
 use Rattle.urna_outside.specs.Flash.{Flashes, flash_of, IsClean}
 use Rattle.urna_outside.specs.declared.device.Dev.{Dev}
+use Rattle.election_tables.specs.TablesData.{TablesData}
 use Rattle.gate_slot.specs.Slot.{open_gate, room, gate_in, body_in}
 use Rattle.twin_image.specs.Frame.{device_image}
 use Rattle.image_codec.specs.Layout.{body_size, phase_offset}
@@ -14,13 +15,14 @@ use Rattle.state_store.specs.declared.load.Load.{Load}
 abbrev pub device_size : ℕ
 device_size = room body_size
 
--- a device at rest with a state: the header of its load, and the state in both slots, whose gates are open
-abbrev pub rest : Load → Dev → State → List ℕ
-rest load d s = device_image body_size (header load d) (encode s)
+-- a device at rest with a state: the header of its load, and in both slots, whose gates are open, the encoding of the state that is
+-- written today
+abbrev pub rest : TablesData → Load → Dev → State → List ℕ
+rest t load d s = device_image body_size (header load d) (encode t s)
 
 -- both flashes are at rest with a state, and nothing is dirty
-pub record AreAtRest (load : Load) (s : State) (flashes : Flashes) : Type 0 where
-  pub content : (d : Dev) → (flash_of d flashes).content ≡ rest load d s
+pub record AreAtRest (t : TablesData) (load : Load) (s : State) (flashes : Flashes) : Type 0 where
+  pub content : (d : Dev) → (flash_of d flashes).content ≡ rest t load d s
   pub clean : (d : Dev) → IsClean (flash_of d flashes)
 
 -- the slot is open, and its phase byte is that of a poll that was opened or sealed

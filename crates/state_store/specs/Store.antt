@@ -5,7 +5,7 @@ use Rattle.urna_outside.specs.Told.{Told, Sizes, size_of}
 use Rattle.urna_outside.specs.declared.device.Dev.{Dev}
 use Rattle.election_tables.specs.Roll.{IsRoll, RollData}
 use Rattle.election_tables.specs.TablesData.{IsTables, TablesData}
-use Rattle.image_codec.specs.Encoding.{IsEncoding}
+use Rattle.image_codec.specs.Encoding.{IsStateOf, encode}
 use Rattle.image_codec.specs.State.{State, rank_of}
 use Rattle.image_codec.specs.Layout.{body_size}
 use Rattle.state_store.specs.Load.{IsSectionOf, load_of}
@@ -26,10 +26,11 @@ pub record IsBuffer (bytes : List ℕ) (capacity : ℕ) : Type 0 where
 abbrev pub AreDevices : Sizes → Type 0
 AreDevices sizes = (d : Dev) → size_of d sizes ≡ device_size
 
--- The store has this state of a poll of its section, and both flashes are at rest with it.
+-- The store has this state of a poll of its section, in the encoding that is written today, and both flashes are at rest with it.
 pub record Keeps (t : TablesData) (told : Told) (store : StoreData) (s : State) : Type 0 where
-  pub encoding : IsEncoding t store.load.section.voters s store.body
-  pub rest : ForSome told.flashes (AreAtRest store.load s)
+  pub state : IsStateOf t store.load.section.voters s
+  pub body : store.body ≡ encode t s
+  pub rest : ForSome told.flashes (AreAtRest t store.load s)
 
 -- the store has a state of lesser rank
 pub record IsBelow (t : TablesData) (told : Told) (store : StoreData) (next : State) : Type 0 where

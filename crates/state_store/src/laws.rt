@@ -1,5 +1,6 @@
 //! Laws of what is found on two flashes, and of sessions over them (`specs/Laws.antt`). Each function here does nothing: its
 //! contract is the law.
+ghost use Rattle.state_store.specs.Cost.{BallotCostsFew, OpeningCostsOnePage, SealingCostsOnePage};
 ghost use Rattle.state_store.specs.Laws.{CostsAreBounded, EndGoesOn, ForeignOnce, HeldIsDecoded, LoadedOnce, LoadedOrForeign, OneIsHeld, RecoveryGoesOn, RestIsFound, SessionGoesOn, SyncsLeaveNoMore};
 
 /// Two flashes are loaded for one section at most; loaded flashes are not foreign; and not both sides are.
@@ -26,7 +27,12 @@ pub fn goes_on()
     ensures syncs { SyncsLeaveNoMore }
 {}
 
-/// What a session does is bounded: at most 12 syncs for each state that its lines tell, and nothing but shows where they tell none.
+/// What a session does is bounded: at most 12 syncs for each state that its lines tell, and nothing but shows where they tell none. And
+/// a commit writes few pages of each slot: that of a ballot at most two more than there are panels, however many voters came before; that
+/// of an opening or a seal the one with the head alone.
 pub fn commit_cost()
-    ensures { CostsAreBounded }
+    ensures session { CostsAreBounded }
+    ensures ballot { BallotCostsFew }
+    ensures opening { OpeningCostsOnePage }
+    ensures sealing { SealingCostsOnePage }
 {}

@@ -16,6 +16,7 @@ mod ranks;
 mod room;
 mod store;
 mod sync;
+mod version;
 
 pub use layout::DEVICE_SIZE;
 pub use load::header;

@@ -5,10 +5,12 @@ ghost use Rattle.urna_outside.specs.Faults.{FailsAt, IsFaultless};
 ghost use Rattle.urna_outside.specs.Flash.{Op};
 ghost use Rattle.urna_outside.specs.Told.{Runs, port_of};
 ghost use Rattle.gate_slot.specs.Front.{RunsUpTo};
-ghost use Rattle.image_codec.specs.Encoding.{IsEncoding, IsStateOf, encode};
+ghost use Rattle.twin_image.specs.Rewrite.{PutsAtMost};
+ghost use Rattle.image_codec.specs.Encoding.{IsStateOf};
 ghost use Rattle.image_codec.specs.State.{State};
 ghost use Rattle.image_codec.specs.Valid.{ready_state};
 ghost use Rattle.state_store.specs.Calls.{AreFound, Commits, FailsToLoad, FailsToPeek, FailsToRecover, IsRecovery, IsSynced, Loads, Recovers, both_synced};
+ghost use Rattle.state_store.specs.Cost.{commit_bytes};
 ghost use Rattle.state_store.specs.Load.{IsSectionOf, load_of};
 ghost use Rattle.state_store.specs.Order.{IsCommit, IsLoad};
 ghost use Rattle.state_store.specs.Rest.{AreAtRest};
@@ -20,6 +22,7 @@ use crate::load::Load;
 use crate::ranks::Ranks;
 use crate::room::Room;
 use crate::sync::sync_both;
+use crate::version::bring_up;
 use election_tables::{Roll, Section, Tables};
 use image_codec::{BODY_SIZE, State, encode_into};
 use std::alloc::Global;
@@ -94,7 +97,7 @@ impl Store {
         ensures kept { IfOk result (λ store. Keeps tables.now (M.told m.new) store (ready_state tables.now (length roll.now.titles))) }
         ensures ran { OnOk result (Runs (λ ops. (rest : List Op) × (ops ≡ both_synced ++ rest) × Loads (M.told m.old) rest) (M.told m.old) (M.told m.new)) }
         ensures order { ForSome (M.told m.old).flashes (λ start. RunsUpTo result
-            (IsLoad (load_of tables.now roll.now section) (ready_state tables.now (length roll.now.titles)) start) (M.told m.old) (M.told m.new)) }
+            (IsLoad tables.now (load_of tables.now roll.now section) (ready_state tables.now (length roll.now.titles)) start) (M.told m.old) (M.told m.new)) }
         ensures fine { OnOk result (IsFaultless (M.told m.old) (M.told m.new)) }
         ensures fails { IfErr result (FailsToLoad (M.told m.old) (M.told m.new)) }
     {
@@ -121,8 +124,9 @@ impl Store {
     }
 
     /// The poll that both flashes keep, whatever a power cut left of them. It takes its memory, syncs both devices, looks
-    /// at the frames and the slots, and heals the slots that don't stand with the held state, and no other. Both flashes
-    /// hold that state at each stop behind the syncs. No frame is written.
+    /// at the frames and the slots, and heals the slots that don't stand with the held body, and no other. Where that body is
+    /// an encoding of version 1, all four slots are then brought to that of version 2. Both flashes hold the state at each
+    /// stop behind the syncs. No frame is written.
     ///
     /// The caller owes that both devices have the size of a flash. `Memory` comes where an allocation failed, before any
     /// call of the machine; `Foreign(Internal)` where the internal frame is that of no section of the tables with as many
@@ -139,7 +143,7 @@ impl Store {
         ensures kept { IfOk result (λ found. Keeps tables.now (M.told m.new) found.0 found.1) }
         ensures ran { IfOk result (λ found. Runs (λ ops. (rest : List Op) × (ops ≡ both_synced ++ rest)
             × Recovers tables.now roll.now found.0.load.section found.1 (M.told m.old) rest) (M.told m.old) (M.told m.new)) }
-        ensures exact { IfOk result (λ found. ForSome (M.told m.old).flashes (λ start. Runs (IsRecovery found.1 start) (M.told m.old) (M.told m.new))) }
+        ensures exact { IfOk result (λ found. ForSome (M.told m.old).flashes (λ start. Runs (IsRecovery tables.now (length roll.now.titles) found.1 start) (M.told m.old) (M.told m.new))) }
         ensures fine { OnOk result (IsFaultless (M.told m.old) (M.told m.new)) }
         ensures fails { IfErr result (FailsToRecover tables.now roll.now (M.told m.old) (M.told m.new)) }
     {
@@ -152,7 +156,7 @@ impl Store {
         let Room {
             twin,
             mut state,
-            next,
+            mut next,
         } = room;
         let (section, found) = find(tables, roll, twin, m)?;
         let level = match found.heal(m) {
@@ -162,6 +166,10 @@ impl Store {
         // it has a rank, so it is the encoding of a state
         let loaded = state.load(tables, level.body());
         prove!(loaded);
+        let level = match bring_up(m, tables, &state, level, &mut next) {
+            Ok(level) => level,
+            Err(dev) => return Err(StoreError::Flash(dev)),
+        };
         let load = Load::of(tables, roll, section);
         Ok((Store { load, level, next }, state))
     }
@@ -217,7 +225,10 @@ impl Store {
         ensures ran { (s : State) → Keeps tables.now (M.told m.old) self s
             → Runs (Commits tables.now self.load.section.voters s state.now (M.told m.old)) (M.told m.old) (M.told m.new) }
         ensures order { (s : State) → Keeps tables.now (M.told m.old) self s → ForSome (M.told m.old).flashes
-            (λ start. RunsUpTo result (IsCommit s state.now) (M.told m.old) (M.told m.new)) }
+            (λ start. RunsUpTo result (IsCommit tables.now s state.now) (M.told m.old) (M.told m.new)) }
+        // In each slot the pages that change are put, and two gates.
+        ensures bytes { (s : State) → Keeps tables.now (M.told m.old) self s
+            → Runs (PutsAtMost (commit_bytes tables.now s state.now)) (M.told m.old) (M.told m.new) }
         ensures fails { FailsAt port_of result (M.told m.old) (M.told m.new) }
     {
         let Store {

@@ -350,3 +350,11 @@ pub run_fims : {s u : State} {es : List Event} {out : List Output} (t : TablesDa
     → (run : IsRun (setting_of t titles) s es u out)
     → fims_reached (lines_in (session_pieces t out)) (length (text_in (session_pieces t out))) ≡ length (ballots_of run)
 run_fims {out} t titles r run = fims_whole (session_pieces t out) (full_pieces t out) ∙ casts_fims t (run_casts r run)
+
+-- and with the opening line before them
+pub opened_fims : {s u : State} {es : List Event} {out : List Output} (t : TablesData) (titles : List ℕ) → length s.came ≡ length titles
+    → (run : IsRun (setting_of t titles) s es u out)
+    → fims_reached (lines_in (opening t s ++ session_pieces t out)) (length (text_in (opening t s ++ session_pieces t out))) ≡ length (ballots_of run)
+opened_fims {s} {out} t titles r run =
+    let line = Says (line.Poll s.phase (number_came s.came)) in
+    fims_whole (opening t s ++ session_pieces t out) (full_pieces t (line ∷ out)) ∙ casts_fims t (shows line tt (run_casts r run))

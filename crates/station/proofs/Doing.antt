@@ -54,7 +54,7 @@ acts_begin t r u first acts a loaded state devices may =
       state = state;
       devices = devices;
       kept = λ s kept. kept;
-      put = λ s kept. put_nothing t first.load s a (stored t r first.load s loaded kept.encoding.state) kept.rest;
+      put = λ s kept. put_nothing t first.load s a (stored t r first.load s loaded kept.state) kept.rest;
       may = may;
     }
 
@@ -120,7 +120,7 @@ module _ (t : TablesData) (r : RollData) (told : Told) (x : StationData) (e : Ev
 
   leads : Leads t (length r.titles) x.standing.state pressed
   leads =
-      press_leads t r.titles x.standing e (subst (λ (n : ℕ). IsStateOf t n x.standing.state) voters_are is.kept.encoding.state) valid is.stands
+      press_leads t r.titles x.standing e (subst (λ (n : ℕ). IsStateOf t n x.standing.state) voters_are is.kept.state) valid is.stands
 
   pub event_acts : AllByRecursion (IsAct t) (map act_of pressed.out)
   event_acts =
@@ -197,4 +197,4 @@ module _ (t : TablesData) (r : RollData) (told : Told) (from : StationData) (e :
   pub nothing_put : HasPut t from.store.load from.standing.state (session_pieces t (press (setting_of t r.titles) from.standing e).out) told told
   nothing_put =
       subst (λ (l : List Piece). HasPut t from.store.load from.standing.state l told told) (asked_pieces t r told from e x [] is)
-      (put_nothing t from.store.load from.standing.state told (stored t r from.store.load from.standing.state is.before.load is.before.kept.encoding.state) is.before.kept.rest)
+      (put_nothing t from.store.load from.standing.state told (stored t r from.store.load from.standing.state is.before.load is.before.kept.state) is.before.kept.rest)

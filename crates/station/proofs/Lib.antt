@@ -6,6 +6,7 @@ pub mod Choosing
 pub mod Replies
 pub mod Faithful
 pub mod RunLaws
+mod Costs
 pub mod Lines
 pub mod Stepping
 pub mod Typing

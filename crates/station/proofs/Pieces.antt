@@ -43,11 +43,12 @@ use Rattle.state_store.proofs.Counting.{state_after-quiet}
 pub keeps_shown : (t : TablesData) (r : RollData) (store : StoreData) (s : State) (lines : List (List ℕ)) (a b : Told) → IsLoadedWith t r store.load → Keeps t a store s → HasShown lines a b
     → Keeps t b store (state_after s (quiet lines))
 keeps_shown t r store s lines a b loaded kept shown =
-    let put = put_shown t store.load s lines a b (stored t r store.load s loaded kept.encoding.state) kept.rest shown in
+    let put = put_shown t store.load s lines a b (stored t r store.load s loaded kept.state) kept.rest shown in
     let same = state_after-quiet s lines in
     subst (λ (u : State). Keeps t b store u) (sym same) (record {
-      encoding = kept.encoding;
-      rest = subst (λ (u : State). ForSome b.flashes (AreAtRest store.load u)) same put.rest;
+      state = kept.state;
+      body = kept.body;
+      rest = subst (λ (u : State). ForSome b.flashes (AreAtRest t store.load u)) same put.rest;
     })
 
 -- No line is empty

@@ -1,5 +1,5 @@
 -- A station that starts
-use Rattle.std.proofs.Common.{◌≡◌, ◌++◌, ℕ, List, [], ◌∷◌, ap, ◌∙◌}
+use Rattle.std.proofs.Common.{◌≡◌, ◌++◌, ℕ, List, [], ◌∷◌, ap, ◌∙◌, length}
 use Rattle.std.specs.Option.{ForSome}
 use Rattle.urna_outside.specs.Faults.{IsFaultless}
 use Rattle.urna_outside.specs.Flash.{Op}
@@ -42,7 +42,7 @@ opening_line t s p came phase count =
 -- A store that was recovered between a and b, with the opening line behind it
 module _ (t : TablesData) (r : RollData) (store : StoreData) (s : State) (a b c : Told) (loaded : IsLoadedWith t r store.load) (kept : Keeps t b store s)
     (ran : Runs (λ ops. (rest : List Op) × (ops ≡ both_synced ++ rest) × Recovers t r store.load.section s a rest) a b)
-    (exact : ForSome a.flashes (λ start. Runs (IsRecovery s start) a b)) (fine : IsFaultless a b) where
+    (exact : ForSome a.flashes (λ start. Runs (IsRecovery t (length r.titles) s start) a b)) (fine : IsFaultless a b) where
   abbrev line : List ℕ
   line = line_text t (Poll s.phase (number_came s.came))
 
@@ -54,12 +54,12 @@ module _ (t : TablesData) (r : RollData) (store : StoreData) (s : State) (a b c 
       record {
         between = b;
         recovered = recovered;
-        shown = put_shown t store.load s (line ∷ []) b c (stored t r store.load s loaded kept.encoding.state) kept.rest shown;
+        shown = put_shown t store.load s (line ∷ []) b c (stored t r store.load s loaded kept.state) kept.rest shown;
       }
 
   pub stationed : HasShown (line ∷ []) b c → (digits : ℕ) → IsStationed t r c (record { standing = idle_at s; digits = digits; store = store })
   stationed shown digits =
-      let state = kept.encoding.state in
+      let state = kept.state in
       record {
         panel = record { fits = λ place l voting at. absurd (cc) };
         stands = idle_stands (setting_of t r.titles) s (record { roll = state.roll ∙ loaded.section.voters; places = state.places });
@@ -69,7 +69,7 @@ module _ (t : TablesData) (r : RollData) (store : StoreData) (s : State) (a b c 
 
   pub cut_at_opening : IsCutOff (line ∷ []) b c → IsCutAtOpening t r a c
   cut_at_opening off =
-      let stopped = stopped_shown t store.load s (line ∷ []) b c (stored t r store.load s loaded kept.encoding.state) kept.rest off in
+      let stopped = stopped_shown t store.load s (line ∷ []) b c (stored t r store.load s loaded kept.state) kept.rest off in
       record {
         load = store.load;
         state = s;

@@ -1,5 +1,5 @@
 -- How a station starts
-use Rattle.std.specs.Prelude.{◌≡◌, ◌++◌, ℕ, List, [], ◌∷◌}
+use Rattle.std.specs.Prelude.{◌≡◌, ◌++◌, ℕ, List, [], ◌∷◌, length}
 use Rattle.std.specs.Option.{ForSome}
 use Rattle.urna_outside.specs.Faults.{IsFaultless}
 use Rattle.urna_outside.specs.Flash.{Op}
@@ -33,13 +33,14 @@ opening_line t s = line_text t (Poll s.phase (number_came s.came))
 abbrev pub opening : TablesData → State → List Piece
 opening t s = quiet (opening_line t s ∷ [])
 
--- The flashes were synced and recovered, which touched no slot that was right already, and left them at rest with a state of this
+-- The flashes were synced and recovered: the slots that weren't open with the held body were brought to it and no other was touched,
+-- and then all were brought to the encoding that is written today, where that body is another one. They are left at rest with a state of this
 -- load, which is that of the tables and the roll.
 pub record IsRecovered (t : TablesData) (r : RollData) (load : Load) (s : State) (old new : Told) : Type 0 where
   pub same : load ≡ load_of t r load.section
   pub ran : Runs (λ ops. (rest : List Op) × (ops ≡ both_synced ++ rest) × Recovers t r load.section s old rest) old new
-  pub exact : ForSome old.flashes (λ start. Runs (IsRecovery s start) old new)
-  pub rest : ForSome new.flashes (AreAtRest load s)
+  pub exact : ForSome old.flashes (λ start. Runs (IsRecovery t (length r.titles) s start) old new)
+  pub rest : ForSome new.flashes (AreAtRest t load s)
   pub fine : IsFaultless old new
 
 -- The flashes were recovered, and then the opening line was shown.

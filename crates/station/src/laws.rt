@@ -1,13 +1,15 @@
 //! Laws of runs (`specs/Run.antt`), of states (`specs/States.antt`), of what a station stands for (`specs/Stands.antt`) and of the
 //! screens of a visit (`specs/Screens.antt`).
-ghost use Rattle.std.specs.Prelude.{◌≡◌, ◌≤◌, ℕ, List, [], ◌∷◌, ◌++◌, length};
+ghost use Rattle.std.specs.Prelude.{◌≡◌, ◌*◌, ◌≤◌, ℕ, List, [], ◌∷◌, ◌++◌, length};
 ghost use Rattle.std.specs.List.{AllByRecursion};
+ghost use Rattle.election_tables.specs.Limits.{most_voters};
 ghost use Rattle.election_tables.specs.TablesData.{IsTables, TablesData};
 ghost use Rattle.key_script.specs.Event.{IsEvent};
 ghost use Rattle.key_script.specs.declared.keys.Event.{Event};
 ghost use Rattle.image_codec.specs.CodecLaws.{Ballot};
 ghost use Rattle.image_codec.specs.Encoding.{IsStateOf};
 ghost use Rattle.image_codec.specs.State.{State, filled_up};
+ghost use Rattle.state_store.specs.Cost.{ballot_bytes, bytes_along};
 ghost use Rattle.state_store.specs.Pieces.{commits_in, lines_in, state_after, text_in};
 ghost use Rattle.station.specs.Setting.{Setting, setting_of};
 ghost use Rattle.station.specs.Output.{Output, commits_of};
@@ -45,6 +47,14 @@ pub fn run_commits()
     ensures valid { (t : TablesData) (titles : List ℕ) (s last : State) (es : List Event) (out : List Output)
         → IsStateOf t (length titles) s → AllByRecursion IsEvent es → IsRun (setting_of t titles) s es last out
         → AllByRecursion (IsStateOf t (length titles)) (commits_of out) × IsStateOf t (length titles) last }
+{}
+
+/// However many voters came before, the commits of a run put no more bytes than as many ballots may put. A press has one commit at
+/// most (`event_commits`).
+pub fn run_costs()
+    ensures { (t : TablesData) (titles : List ℕ) (s last : State) (es : List Event) (out : List Output) → IsTables t → length titles ≤ most_voters
+        → IsStateOf t (length titles) s → AllByRecursion IsEvent es → IsRun (setting_of t titles) s es last out
+        → bytes_along t s (commits_of out) ≤ length (commits_of out) * ballot_bytes t }
 {}
 
 /// A session shows `FIM` once for each ballot.

@@ -1,32 +1,26 @@
 -- A course over the four slots leaves the frames alone.
-use Rattle.std.proofs.Common.{◌≡◌, ℕ, inl, Some, List, [], ◌∷◌, refl, sym, ap, subst, ◌∙◌}
+use Rattle.std.proofs.Common.{◌≡◌, ℕ, Some, List, [], refl, ◌∙◌}
 use Rattle.std.specs.Option.{ForSome}
-use Rattle.urna_outside.specs.Flash.{Op, Flashes, flash_of, after, shown_by}
+use Rattle.urna_outside.specs.Flash.{Op, Flashes, flash_of, after}
 use Rattle.urna_outside.specs.Confined.{AreIn}
-use Rattle.urna_outside.specs.Stop.{IsStop, IsLeft, Left, AtEachStop, left_on}
+use Rattle.urna_outside.specs.Stop.{Left, AtEachStop, left_on}
 use Rattle.urna_outside.specs.Stage.{Course}
 use Rattle.urna_outside.specs.Told.{Told, Runs, AreSized, size_of}
 use Rattle.urna_outside.specs.declared.device.Dev.{Dev}
 use Rattle.urna_outside.specs.declared.device.Dev.TheVariants.{Internal, External}
-use Rattle.urna_outside.proofs.Courses.{in_shows, stop_in}
-use Rattle.urna_outside.proofs.Doing.{told_after}
+use Rattle.urna_outside.proofs.Courses.{stop_in}
 use Rattle.urna_outside.proofs.Frames.{course_keeps}
 use Rattle.urna_outside.proofs.Keeping.{HasPlaces}
 use Rattle.urna_outside.proofs.Runs.{places_of}
 use Rattle.urna_outside.proofs.Stages.{left_image}
 use Rattle.twin_image.specs.Slots.{HaveRoom, AreClean, KeepsFrame, SlotCourse}
 use Rattle.twin_image.specs.Twin.{IsOfTwin}
-use Rattle.twin_image.proofs.Renewing.{content_image, twin_bounded}
+use Rattle.twin_image.proofs.Renewing.{twin_bounded}
 
 -- what holds of each device
 pub on_both : (P : Dev → Type 0) → P Internal → P External → (d : Dev) → P d
 on_both P internal external Internal = internal
 on_both P internal external External = external
-
--- a stop of all operations
-pub stop_whole : (ops : List Op) → IsStop ops ops
-stop_whole [] = tt
-stop_whole (op ∷ ops) = inl (refl, stop_whole ops)
 
 -- what reads give, as one of the things that a power cut may leave
 abbrev pub contents_of : Flashes → Left
@@ -63,18 +57,3 @@ framed size n P a b fits sized clean run = (
         keeps_frame size d start run.0 run.2.within (places_of d (IsOfTwin size) a start (sized start told) (twin_bounded size (size_of d a.sizes) (fits d))) (clean start told) done stop left is;
   },
 )
-
--- What is told at the end of a course over the slots: P of the contents, and the frames are as at the start.
-pub course_at_end : (size n : ℕ) (P : Flashes → Left → Type 0) (a b : Told) (start now : Flashes) → a.flashes ≡ Some start → b.flashes ≡ Some now → Runs (SlotCourse a size n P) a b
-    → P start (contents_of now) × ((d : Dev) → KeepsFrame size (flash_of d start).content (flash_of d now).content)
-course_at_end size n P a b start now told later run =
-    let same : after run.0 start ≡ now = some_same (sym (told_after run.0 a b start run.1 told) ∙ later) in
-    let left : IsLeft (after run.0 start) (shown_by run.0) (contents_of (after run.0 start)) = record {
-      internal = content_image (after run.0 start).internal;
-      external = content_image (after run.0 start).external;
-      shown = sym (in_shows (λ d k. IsOfTwin size k) run.0 run.2.within);
-    } in (
-      subst (λ (fs : Flashes). P start (contents_of fs)) same (run.2.stops start told run.0 (stop_whole run.0) (contents_of (after run.0 start)) left),
-      λ d.
-          subst (λ (l : List ℕ). KeepsFrame size (flash_of d start).content l) (ap (λ (fs : Flashes). left_on d (contents_of fs)) same ∙ left_contents d now) (run.2.frames start told run.0 (stop_whole run.0) (contents_of (after run.0 start)) left d),
-    )

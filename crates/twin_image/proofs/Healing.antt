@@ -6,12 +6,12 @@ use Rattle.std.specs.Option.{ForSome}
 use Rattle.std.specs.List.{AllByRecursion}
 use Rattle.urna_outside.specs.Flash.{Flash, Flashes, flash_of, after, IsClean, IsImage}
 use Rattle.urna_outside.specs.Stop.{Left, left_on}
-use Rattle.urna_outside.specs.Stage.{Stage, Course}
+use Rattle.urna_outside.specs.Stage.{Course}
 use Rattle.urna_outside.specs.Told.{Told, Sizes, Does, Runs, AreSized, size_of}
 use Rattle.urna_outside.specs.declared.device.Dev.{Dev}
 use Rattle.urna_outside.specs.declared.device.Dev.TheVariants.{Internal, External}
 use Rattle.urna_outside.proofs.Doing.{does-append, told_after}
-use Rattle.urna_outside.proofs.Runs.{places_of, run_keeps}
+use Rattle.urna_outside.proofs.Runs.{places_of}
 use Rattle.urna_outside.proofs.Keeping.{within_keeps}
 use Rattle.urna_outside.proofs.Stages.{stage_stronger}
 use Rattle.urna_outside.proofs.Courses.{course_from_stage, courses-append, course_weaker}
@@ -22,7 +22,7 @@ use Rattle.twin_image.specs.Heal.{MendsTo, MendsBoth, MendsTwin, KeepsHeld, Leav
 use Rattle.twin_image.specs.Slots.{HaveRoom, AreClean}
 use Rattle.twin_image.proofs.Renewing.{live_image, twin_bounded}
 use Rattle.twin_image.proofs.Framing.{framed, on_both}
-use Rattle.twin_image.proofs.Committing.{internal_differs, external_differs}
+use Rattle.twin_image.proofs.Committing.{differs}
 use Rattle.twin_image.proofs.Mending.{same_mends, image_same, live_mends}
 use Rattle.twin_image.specs.Held.{bodies_at, bodies_on, held_body, held_on, held_by_both}
 use Rattle.twin_image.proofs.Best.{IsBest, Mended, IsOneAtMost, best_from_held, held_from_best, best_mended}
@@ -126,11 +126,6 @@ module _ (rank : List ℕ → Option ℕ) (size : ℕ) where
       let on : (image : List ℕ) → AreRanked (bodies_on rank size image) = λ image. ranked-append (bodies_at rank size 0 image) (bodies_at rank size 1 image) (ranked_slot 0 image) (ranked_slot 1 image) in
       held_ranked (i ++ e) best (ranked-append i e (on internal) (on external)) (best_from_held rank (i ++ e) best is)
 
--- the other device is as it was
-pub other_stays : (d e : Dev) (size n : ℕ) (P : Flashes → Left → Type 0) (F : Flash → Type 0) (a b : Told) → e ≢ d → room size ≤ size_of d a.sizes → ForSome a.flashes (AreSized a.sizes) → Runs (Stage a d (IsOfTwin size) n P) a b → ForSome a.flashes (λ fs. F (flash_of e fs)) → ForSome b.flashes (λ fs. F (flash_of e fs))
-other_stays d e size n P F a b differ fits sized run was =
-    run_keeps d (IsOfTwin size) (λ fs. F (flash_of e fs)) run.0 a b run.1 run.2.within sized (twin_bounded size (size_of d a.sizes) fits) (λ fs gs keeps f. subst F (sym (keeps.other e differ)) f) was
-
 module _ (size : ℕ) (body : List ℕ) (long : length body ≡ size) where
   -- each slot of both devices is mended
   abbrev MendsAll : Flashes → Left → Type 0
@@ -160,7 +155,7 @@ module _ (size : ℕ) (body : List ℕ) (long : length body ≡ size) where
   heal_internal a b fits sized clean run =
       course_from_stage Internal (IsOfTwin size) 6 MendsAll a b
       (stage_stronger Internal (IsOfTwin size) 6 (λ start left. MendsBoth size body start.internal.content left.internal) MendsAll a b sized (twin_bounded size (size_of Internal a.sizes) (fits Internal)) (λ start told fs left keeps is mends.
-      let image = subst (λ (f : Flash). IsImage f left.external) (keeps.other External external_differs) is.external in
+      let image = subst (λ (f : Flash). IsImage f left.external) (keeps.other External (differs Internal)) is.external in
       let external = untouched External start left.external (size_of External a.sizes) ((sized start told).content External) (fits External) (clean start told External) image in
       on_both (λ d. MendsBoth size body (flash_of d start).content (left_on d left)) mends external) run)
 
@@ -173,7 +168,7 @@ module _ (size : ℕ) (body : List ℕ) (long : length body ≡ size) where
   heal_external b c fits sized twin run =
       course_from_stage External (IsOfTwin size) 6 Later b c
       (stage_stronger External (IsOfTwin size) 6 (λ start left. MendsBoth size body start.external.content left.external) Later b c sized (twin_bounded size (size_of External b.sizes) fits) (λ start told fs left keeps is mends.
-      let image = subst (λ (f : Flash). IsImage f left.internal) (keeps.other Internal internal_differs) is.internal in
+      let image = subst (λ (f : Flash). IsImage f left.internal) (keeps.other Internal (differs External)) is.internal in
       let t = twin start told in
       (mends, live_image size 0 body start.internal left.internal long t.first image, live_image size 1 body start.internal left.internal long t.second image)) run)
 
@@ -181,7 +176,7 @@ module _ (size : ℕ) (body : List ℕ) (long : length body ≡ size) where
   external_same a b fits sized run start mid told later =
       let keeps = within_keeps Internal (IsOfTwin size) run.0 start run.2.within (places_of Internal (IsOfTwin size) a start (sized start told) (twin_bounded size (size_of Internal a.sizes) fits)) in
       let same : mid ≡ after run.0 start = some_same (sym later ∙ told_after run.0 a b start run.1 told) in
-      ap (λ (fs : Flashes). fs.external) same ∙ keeps.other External external_differs
+      ap (λ (fs : Flashes). fs.external) same ∙ keeps.other External (differs Internal)
     where
       some_same : {x y : Flashes} → Some x ≡ Some y → x ≡ y
       some_same e = cc

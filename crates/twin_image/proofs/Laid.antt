@@ -75,9 +75,6 @@ byte_of before after byte at long =
     get_or-append_right before (byte ∷ after) at at 0 long (omega arith) ∙ ap (λ (k : ℕ). get_or (byte ∷ after) k 0) step
 
 module _ (size : ℕ) (header body : List ℕ) (header_long : length header ≡ 512) (body_long : length body ≡ size) where
-  slot_bytes : List ℕ
-  slot_bytes = 0xA5 ∷ padding ++ body
-
   pub length-device_image : length (device_image size header body) ≡ room size
   length-device_image =
       let gate = 0xA5 ∷ padding in

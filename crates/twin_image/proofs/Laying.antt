@@ -2,17 +2,17 @@
 use Rattle.std.proofs.Common.{◌≡◌, ◌≢◌, ℕ, ◌+◌, ◌<◌, ◌≤◌, inl, inr, Some, List, [], ◌∷◌, ◌++◌, length, sym, subst, ◌∙◌, arith, cond, eqb, ap, append_assoc}
 use Rattle.std.specs.Option.{ForSome}
 use Rattle.urna_outside.specs.Flash.{Flash, Flashes, flash_of, after, IsClean, IsImage, part, Op}
-use Rattle.urna_outside.specs.Confined.{KeepsBut, KeepsOthers}
-use Rattle.urna_outside.specs.Stop.{Left, IsLeft, left_on}
+use Rattle.urna_outside.specs.Confined.{KeepsBut}
+use Rattle.urna_outside.specs.Stop.{Left, left_on}
 use Rattle.urna_outside.specs.Stage.{Stage}
 use Rattle.urna_outside.specs.Told.{Told, Sizes, Runs, AreSized, size_of, Does}
 use Rattle.urna_outside.specs.declared.device.Dev.{Dev}
 use Rattle.urna_outside.proofs.Doing.{does-append, told_after}
 use Rattle.urna_outside.proofs.Keeping.{within_more, within-append, stays}
 use Rattle.urna_outside.proofs.Places.{same_part}
-use Rattle.urna_outside.proofs.Runs.{places_of, run_keeps, syncs-append}
+use Rattle.urna_outside.proofs.Runs.{run_keeps, syncs-append}
 use Rattle.urna_outside.proofs.Stages.{left_image, stage_weaker, stage_stronger, stages-append}
-use Rattle.urna_outside.proofs.Stops.{stops_within, within_shows}
+use Rattle.urna_outside.proofs.Stops.{stop_whole, within_shows}
 use Rattle.gate_slot.specs.Device.{OnFlash, KeepsRest}
 use Rattle.gate_slot.specs.Front.{IsFrontOf}
 use Rattle.gate_slot.proofs.Fronts.{fronts_later, none_yet}
@@ -23,11 +23,11 @@ use Rattle.twin_image.specs.Frame.{IsOfFrame, FrameStands, padding}
 use Rattle.twin_image.specs.Lay.{IsEarly, IsLate, IsOfGates, IsOfBodies, LaysOn, LeavesLaid, WritesOnly}
 use Rattle.twin_image.specs.Pair.{AreShut, AreOpen, AreFilled, HaveBody}
 use Rattle.twin_image.specs.Twin.{IsOfTwin, IsTwin, WasOpen, shutting_ops}
-use Rattle.twin_image.proofs.Framing.{stop_whole, contents_of, left_contents, some_same}
+use Rattle.twin_image.proofs.Framing.{contents_of, left_contents, some_same}
 use Rattle.twin_image.proofs.Laid.{frame_apart, frame_image, length-padding}
 use Rattle.twin_image.proofs.Mending.{SameSlot, image_kept}
 use Rattle.twin_image.proofs.Renewing.{content_image, twin_bounded}
-use Rattle.twin_image.proofs.Turning.{shutting_cut}
+use Rattle.twin_image.proofs.Turning.{shutting_cut, writes_stage}
 
 -- places
 pub gates_of_twin : (size k : ℕ) → IsOfGates size k → IsOfTwin size k
@@ -63,10 +63,6 @@ writes-append d In m n a b c first second = (
 pub writes_weaker : (d : Dev) (In More : ℕ → Type 0) (m n : ℕ) (a b : Told) → m ≤ n → ((k : ℕ) → In k → More k) → Runs (WritesOnly d In m) a b → Runs (WritesOnly d More n) a b
 writes_weaker d In More m n a b fewer more run =
     (run.0, run.1, record { within = within_more d In More run.0 more run.2.within; syncs = omega (arith, run.2.syncs) })
-
-pub writes_one : (d : Dev) (In More : ℕ → Type 0) (a b : Told) → ((k : ℕ) → In k → More k) → Runs (IsOneWrite d In) a b → Runs (WritesOnly d More 1) a b
-writes_one d In More a b more run =
-    (run.0, run.1, record { within = within_more d In More run.0 more run.2.within; syncs = run.2.syncs })
 
 -- what survives them
 pub writes_keep : (d : Dev) (In : ℕ → Type 0) (n : ℕ) (F : Flash → Type 0) (a b : Told) → ForSome a.flashes (AreSized a.sizes) → ((k : ℕ) → In k → k < size_of d a.sizes) → ((f g : Flash) → KeepsBut In f g → F f → F g) → Runs (WritesOnly d In n) a b → OnFlash d F a → OnFlash d F b
@@ -257,21 +253,6 @@ module _ (d : Dev) (size : ℕ) where
         second = was;
       }) run)
 
-  -- writes as a stage
-  writes_stage : (In : ℕ → Type 0) (n : ℕ) (P : Flashes → Left → Type 0) (a b : Told) → ForSome a.flashes (AreSized a.sizes) → ((k : ℕ) → In k → k < size_of d a.sizes)
-      → ((start : Flashes) → a.flashes ≡ Some start → (fs : Flashes) (left : Left) → KeepsOthers d In start fs → IsLeft fs [] left → P start left)
-      → Runs (WritesOnly d In n) a b → Runs (Stage a d In n P) a b
-  writes_stage In n P a b sized bounded holds run = (
-    run.0,
-    run.1,
-    record {
-      within = run.2.within;
-      syncs = run.2.syncs;
-      stops = λ start told.
-          stops_within d In start run.0 (P start) run.2.within (places_of d In a start (sized start told) bounded) (holds start told);
-    },
-  )
-
   -- gates that are shut show so
   shut_images : (f : Flash) (image : List ℕ) → AreShut size f → IsImage f image → (gate_in size 0 image ≢ 0xA5) × (gate_in size 1 image ≢ 0xA5)
   shut_images f image shut is = (
@@ -283,7 +264,7 @@ module _ (d : Dev) (size : ℕ) where
   pub fill_early : (b c : Told) → room size ≤ size_of d b.sizes → ForSome b.flashes (AreSized b.sizes) → OnFlash d IsClean b → OnFlash d (AreShut size) b → Runs (WritesOnly d (IsOfBodies size) 2) b c → Runs (Stage b d (IsOfTwin size) 2 Early) b c
   fill_early b c fits sized clean shut run =
       stage_weaker d (IsOfBodies size) (IsOfTwin size) 2 2 Early Early b c (bodies_of_twin size) (omega arith) (λ start told left p. p)
-      (writes_stage (IsOfBodies size) 2 Early b c sized (λ k is. twin_bounded size (size_of d b.sizes) fits k (bodies_of_twin size k is)) (λ start told fs left keeps is.
+      (writes_stage d (IsOfBodies size) 2 Early b c sized (λ k is. twin_bounded size (size_of d b.sizes) fits k (bodies_of_twin size k is)) (λ start told fs left keeps is.
       let wide = (sized start told).content d in
       let image = left_image d fs [] left is in
       let seen = shut_images (flash_of d fs) (left_on d left) (shut_kept size (IsOfBodies size) (flash_of d start) (flash_of d fs) keeps.own (gates_apart size) (shut start told)) image in
@@ -311,7 +292,7 @@ module _ (d : Dev) (size : ℕ) where
     frame_late c e fits sized shut run =
         let all : room size ≤ room size = omega arith in
         stage_weaker d (IsOfFrame size) OnDevice 1 1 Late Late c e (frame_bounded size (room size) all) (omega arith) (λ start told left p. p)
-        (writes_stage (IsOfFrame size) 1 Late c e sized (frame_bounded size (size_of d c.sizes) fits) (λ start told fs left keeps is.
+        (writes_stage d (IsOfFrame size) 1 Late c e sized (frame_bounded size (size_of d c.sizes) fits) (λ start told fs left keeps is.
         let image = left_image d fs [] left is in
         let seen = shut_images (flash_of d fs) (left_on d left) (shut_kept size (IsOfFrame size) (flash_of d start) (flash_of d fs) keeps.own (λ k gate frame. frame_apart size k frame (gates_of_twin size k gate)) (shut start told)) image in
         record { first = λ gate. absurd (seen.0 gate); second = λ gate. absurd (seen.1 gate) }) run)
@@ -320,7 +301,7 @@ module _ (d : Dev) (size : ℕ) where
     publish_late : (e f : Told) → room size ≤ size_of d e.sizes → ForSome e.flashes (AreSized e.sizes) → OnFlash d (FrameStands size header) e → OnFlash d (HaveBody size body) e → Runs (WritesOnly d (IsOfGates size) 2) e f → Runs (Stage e d OnDevice 2 Late) e f
     publish_late e f fits sized stands has run =
         stage_weaker d (IsOfGates size) OnDevice 2 2 Late Late e f (λ k is. twin_there k (gates_of_twin size k is)) (omega arith) (λ start told left p. p)
-        (writes_stage (IsOfGates size) 2 Late e f sized (λ k is. twin_bounded size (size_of d e.sizes) fits k (gates_of_twin size k is)) (λ start told fs left keeps is.
+        (writes_stage d (IsOfGates size) 2 Late e f sized (λ k is. twin_bounded size (size_of d e.sizes) fits k (gates_of_twin size k is)) (λ start told fs left keeps is.
         let image = left_image d fs [] left is in
         let whole = frame_image size header (flash_of d fs) (left_on d left) header_long (stands_kept size (IsOfGates size) (flash_of d start) (flash_of d fs) keeps.own header header_long (λ k frame gate. frame_apart size k frame (gates_of_twin size k gate)) (stands start told)) image in
         let bodies = body_kept size (IsOfGates size) (flash_of d start) (flash_of d fs) keeps.own body body_long (λ k body gate. gates_apart size k gate body) (has start told) in

@@ -1,5 +1,6 @@
 pub mod Best
 pub mod Committing
+pub mod Counting
 pub mod Framing
 pub mod Healing
 pub mod Holding
@@ -10,6 +11,7 @@ pub mod Looking
 pub mod Mending
 pub mod Ordering
 pub mod Renewing
+pub mod Rewriting
 pub mod Rows
 pub mod Turning
 pub mod Writing

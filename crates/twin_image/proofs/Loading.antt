@@ -1,9 +1,9 @@
 -- Both devices are loaded, one after the other.
-use Rattle.std.proofs.Common.{◌≡◌, ◌≢◌, ℕ, ◌+◌, ◌<◌, ◌≤◌, inl, inr, Some, List, [], ◌∷◌, ◌++◌, length, sym, ap, subst, ◌∙◌, arith}
+use Rattle.std.proofs.Common.{◌≡◌, ℕ, ◌+◌, ◌<◌, ◌≤◌, inl, inr, Some, List, [], ◌∷◌, ◌++◌, length, sym, ap, subst, ◌∙◌, arith}
 use Rattle.std.specs.Option.{ForSome}
 use Rattle.urna_outside.specs.Flash.{Put, Sync, Flash, Flashes, flash_of, after, IsClean, IsImage}
 use Rattle.urna_outside.specs.Stop.{Left, left_on}
-use Rattle.urna_outside.specs.Stage.{Stage, Course}
+use Rattle.urna_outside.specs.Stage.{Course}
 use Rattle.urna_outside.specs.Told.{Told, Sizes, Runs, AreSized, size_of, Does}
 use Rattle.urna_outside.specs.declared.device.Dev.{Dev}
 use Rattle.urna_outside.specs.declared.device.Dev.TheVariants.{Internal, External}
@@ -11,7 +11,7 @@ use Rattle.urna_outside.proofs.Courses.{course_from_stage, courses-append, cours
 use Rattle.urna_outside.proofs.Doing.{told_after, does-append}
 use Rattle.urna_outside.proofs.Keeping.{within_keeps}
 use Rattle.urna_outside.proofs.Places.{same_part}
-use Rattle.urna_outside.proofs.Runs.{places_of, run_keeps}
+use Rattle.urna_outside.proofs.Runs.{places_of}
 use Rattle.urna_outside.proofs.Stages.{stage_stronger}
 use Rattle.gate_slot.specs.Device.{OnFlash}
 use Rattle.gate_slot.specs.Front.{IsFrontOf}
@@ -22,7 +22,7 @@ use Rattle.twin_image.specs.Frame.{FrameStands, device_image}
 use Rattle.twin_image.specs.Lay.{IsEarly, IsLate, LeavesLaid, LaysOn, Lays, frame_ops, header_for, lay_ops, load_ops}
 use Rattle.twin_image.specs.Slots.{AreClean}
 use Rattle.twin_image.specs.Twin.{IsTwin, shutting_ops}
-use Rattle.twin_image.proofs.Committing.{internal_differs, external_differs}
+use Rattle.twin_image.proofs.Committing.{differs}
 use Rattle.twin_image.proofs.Framing.{on_both}
 use Rattle.twin_image.proofs.Laid.{frame_image, twin_whole}
 use Rattle.twin_image.proofs.Laying.{was_same}
@@ -68,11 +68,6 @@ pub loaded_content : (size : ℕ) (header body : List ℕ) (f : Flash) → lengt
 loaded_content size header body f header_long long full stands twin =
     twin_whole size header body f long full (frame_image size header f f.content header_long stands (content_image f)) twin
 
--- what is so of the other device stays so
-pub other_kept : (d e : Dev) (size n : ℕ) (P : Flashes → Left → Type 0) (F : Flash → Type 0) (a b : Told) → e ≢ d → room size ≤ size_of d a.sizes → ForSome a.flashes (AreSized a.sizes) → Runs (Stage a d (λ k. k < room size) n P) a b → OnFlash e F a → OnFlash e F b
-other_kept d e size n P F a b differ fits sized run was =
-    run_keeps d (λ k. k < room size) (λ fs. F (flash_of e fs)) run.0 a b run.1 run.2.within sized (λ k is. omega arith) (λ fs gs keeps f. subst F (sym (keeps.other e differ)) f) was
-
 module _ (size : ℕ) (internal external body : List ℕ) (internal_long : length internal ≡ 512) (external_long : length external ≡ 512) (long : length body ≡ size) where
   abbrev OnDevice : Dev → ℕ → Type 0
   OnDevice d k = k < room size
@@ -89,7 +84,7 @@ module _ (size : ℕ) (internal external body : List ℕ) (internal_long : lengt
   load_internal a b fits sized clean run =
       course_from_stage Internal (λ k. k < room size) 7 Loading a b
       (stage_stronger Internal (λ k. k < room size) 7 (OnOne Internal) Loading a b sized (λ k is. let wide = fits Internal in omega arith) (λ start told fs left keeps is laying.
-      let image = subst (λ (f : Flash). IsImage f left.external) (keeps.other External external_differs) is.external in
+      let image = subst (λ (f : Flash). IsImage f left.external) (keeps.other External (differs Internal)) is.external in
       let wide = (sized start told).content External in
       let full = fits External in
       on_both (λ d. OnOne d start left) laying (inl (untouched size start.external left.external (omega arith) (clean start told External) image))) run)
@@ -102,14 +97,14 @@ module _ (size : ℕ) (internal external body : List ℕ) (internal_long : lengt
   load_external b c fits sized stands twin run =
       course_from_stage External (λ k. k < room size) 7 Later b c
       (stage_stronger External (λ k. k < room size) 7 (OnOne External) Later b c sized (λ k is. omega arith) (λ start told fs left keeps is laying.
-      let image = subst (λ (f : Flash). IsImage f left.internal) (keeps.other Internal internal_differs) is.internal in
+      let image = subst (λ (f : Flash). IsImage f left.internal) (keeps.other Internal (differs External)) is.internal in
       (loaded size internal body start.internal left.internal internal_long long (stands start told) (twin start told) image, laying)) run)
 
   external_same : (a b : Told) → room size ≤ size_of Internal a.sizes → ForSome a.flashes (AreSized a.sizes) → Runs (LaysOn a Internal size internal body) a b → (start mid : Flashes) → a.flashes ≡ Some start → b.flashes ≡ Some mid → mid.external ≡ start.external
   external_same a b fits sized run start mid told later =
       let keeps = within_keeps Internal (λ k. k < room size) run.0 start run.2.within (places_of Internal (λ k. k < room size) a start (sized start told) (λ k is. omega arith)) in
       let same : mid ≡ after run.0 start = some_same (sym later ∙ told_after run.0 a b start run.1 told) in
-      ap (λ (fs : Flashes). fs.external) same ∙ keeps.other External external_differs
+      ap (λ (fs : Flashes). fs.external) same ∙ keeps.other External (differs Internal)
     where
       some_same : {x y : Flashes} → Some x ≡ Some y → x ≡ y
       some_same e = cc

@@ -8,7 +8,7 @@ use Rattle.urna_outside.specs.Stage.{Stage}
 use Rattle.urna_outside.specs.Told.{Told, Sizes, Does, Runs, AreSized, size_of}
 use Rattle.urna_outside.specs.declared.device.Dev.{Dev}
 use Rattle.urna_outside.proofs.Doing.{told_after, does-append}
-use Rattle.urna_outside.proofs.Runs.{places_of, run_keeps}
+use Rattle.urna_outside.proofs.Runs.{places_of}
 use Rattle.urna_outside.proofs.Keeping.{within_keeps}
 use Rattle.urna_outside.proofs.Places.{same_part}
 use Rattle.urna_outside.proofs.Stops.{stops_none}
@@ -16,8 +16,8 @@ use Rattle.urna_outside.proofs.Stages.{left_image, stage_weaker, stage_stronger,
 use Rattle.gate_slot.specs.Slot.{room, gate_offset, body_offset, gate_in, body_in, shut_ops, fill_ops, publish_ops}
 use Rattle.gate_slot.proofs.Written.{body_fits}
 use Rattle.twin_image.specs.Heal.{MendsTo, Mends, MendsBoth, MendsTwin, IsMend, AreMends}
-use Rattle.twin_image.specs.Twin.{IsOfSlot, IsOfTwin, IsLive, TurnsTo, Turns, turning_ops}
-use Rattle.twin_image.proofs.Renewing.{slot_bounded, apart_first, apart_second, live_stays, live_image}
+use Rattle.twin_image.specs.Twin.{IsOfSlot, IsOfTwin, IsLive, turning_ops}
+use Rattle.twin_image.proofs.Renewing.{slot_bounded, apart, live_stays, live_image}
 use Rattle.gate_slot.specs.Device.{OnFlash}
 
 -- two contents that have the same slot
@@ -69,20 +69,6 @@ module _ (d : Dev) (size index : ℕ) (below : index < 2) (body : List ℕ) wher
     },
   )
 
-  -- a turn of a slot that isn't live with the body
-  pub turn_mends : (a b c : Told) → room size ≤ size_of d a.sizes → ForSome a.flashes (AreSized a.sizes) → ForSome a.flashes (λ fs. IsClean (flash_of d fs)) → Does [] a b
-      → ForSome a.flashes (λ fs. gate_in size index (flash_of d fs).content ≡ 0xA5 → body_in size index (flash_of d fs).content ≢ body)
-      → Runs (Turns b d size index body) b c → Runs (Mends a d size index body) a c
-  turn_mends a b c fits sized clean does other run =
-      let Q : Flashes → Left → Type 0 = λ mid left. TurnsTo size index body (flash_of d mid).content (left_on d left) in
-      stages-append d (IsOfSlot size index) 0 3 Mending Q a b c (λ start mid told later left turns.
-      let same : mid ≡ start = some_same (sym later ∙ told_after [] a b start does told) in
-      let now = subst (λ (fs : Flashes). TurnsTo size index body (flash_of d fs).content (left_on d left)) same turns in
-      record { live = λ gate is. absurd (other start told gate is); turns = now }) (nothing_mends a b fits sized clean does) run
-    where
-      some_same : {x y : Flashes} → Some x ≡ Some y → x ≡ y
-      some_same e = cc
-
   pub mends_more : (a b : Told) → Runs (Stage a d (IsOfSlot size index) 0 Mending) a b → Runs (Mends a d size index body) a b
   mends_more a b run = stage_weaker d (IsOfSlot size index) (IsOfSlot size index) 0 3 Mending Mending a b (λ k is. is) (omega arith) (λ start told left p. p) run
 
@@ -129,7 +115,7 @@ module _ (d : Dev) (size : ℕ) (body : List ℕ) (long : length body ≡ size) 
       let within = body_fits size 1 (size_of d a.sizes) other fits in
       record {
         first = mends;
-        second = same_mends size 1 body (flash_of d start).content (left_on d left) (image_kept (IsOfSlot size 0) size 1 (flash_of d start) (flash_of d fs) (left_on d left) (omega arith) (clean start told) (apart_second size) keeps.own (left_image d fs [] left is));
+        second = same_mends size 1 body (flash_of d start).content (left_on d left) (image_kept (IsOfSlot size 0) size 1 (flash_of d start) (flash_of d fs) (left_on d left) (omega arith) (clean start told) (apart size 0 below) keeps.own (left_image d fs [] left is));
       }) run in
       stage_weaker d (IsOfSlot size 0) (IsOfTwin size) 3 3 Both Both a b (λ k is. inl is) (omega arith) (λ start told left p. p) held
 
@@ -137,7 +123,7 @@ module _ (d : Dev) (size : ℕ) (body : List ℕ) (long : length body ≡ size) 
   second_mends b c fits sized live run =
       let below : 1 < 2 = omega arith in
       let held = stage_stronger d (IsOfSlot size 1) 3 (λ start left. MendsTo size 1 body (flash_of d start).content (left_on d left)) Second b c sized (slot_bounded size 1 (size_of d b.sizes) below fits) (λ start told fs left keeps is mends.
-      let still = live_stays d (IsOfSlot size 1) size 0 body long (apart_first size) start fs keeps (live start told) in
+      let still = live_stays d (IsOfSlot size 1) size 0 body long (apart size 1 below) start fs keeps (live start told) in
       let seen = live_image size 0 body (flash_of d fs) (left_on d left) long still (left_image d fs [] left is) in
       (seen.0, seen.1, mends)) run in
       stage_weaker d (IsOfSlot size 1) (IsOfTwin size) 3 3 Second Second b c (λ k is. inr is) (omega arith) (λ start told left p. p) held
@@ -150,7 +136,7 @@ module _ (d : Dev) (size : ℕ) (body : List ℕ) (long : length body ≡ size) 
       let wide = (sized start told).content d in
       let within = body_fits size 1 (size_of d a.sizes) other fits in
       let keeps = within_keeps d (IsOfSlot size 0) run.0 start run.2.within (places_of d (IsOfSlot size 0) a start (sized start told) (slot_bounded size 0 (size_of d a.sizes) below fits)) in
-      let there = kept_same (IsOfSlot size 0) size 1 (flash_of d start) (flash_of d (after run.0 start)) (omega arith) (apart_second size) keeps.own in
+      let there = kept_same (IsOfSlot size 0) size 1 (flash_of d start) (flash_of d (after run.0 start)) (omega arith) (apart size 0 below) keeps.own in
       let same : after run.0 start ≡ mid = some_same (sym (told_after run.0 a b start run.1 told) ∙ later) in
       subst (λ (fs : Flashes). SameSlot size 1 (flash_of d start).content (flash_of d fs).content) same there
     where
@@ -171,12 +157,6 @@ module _ (d : Dev) (size : ℕ) (body : List ℕ) (long : length body ≡ size) 
         first = live_mends size 0 body (flash_of d start).content (left_on d left) (q.0, q.1);
         second = mends_from size 1 body (flash_of d start).content (flash_of d mid).content (left_on d left) (second_same a b fits sized run start mid told later) q.2;
       }) (first_mends a b fits sized clean run) (second_mends b c fits_b sized_b live run_2))
-
-  -- slot 0 stays live while slot 1 is mended
-  pub first_stays_live : (b c : Told) → room size ≤ size_of d b.sizes → ForSome b.flashes (AreSized b.sizes) → ForSome b.flashes (λ fs. IsLive size 0 body (flash_of d fs)) → Runs (Mends b d size 1 body) b c → ForSome c.flashes (λ fs. IsLive size 0 body (flash_of d fs))
-  first_stays_live b c fits sized live run =
-      let below : 1 < 2 = omega arith in
-      run_keeps d (IsOfSlot size 1) (λ fs. IsLive size 0 body (flash_of d fs)) run.0 b c run.1 run.2.within sized (slot_bounded size 1 (size_of d b.sizes) below fits) (live_stays d (IsOfSlot size 1) size 0 body long (apart_first size)) live
 
 -- all that a turn does of a slot that isn't live with the body
 pub mend_turned : (d : Dev) (size index : ℕ) (body : List ℕ) (a b c : Told) → OnFlash d (λ f. gate_in size index f.content ≡ 0xA5 → body_in size index f.content ≢ body) a → Does [] a b → OnFlash d (λ f. Does (turning_ops size d index body f.content) b c) b

@@ -1,11 +1,11 @@
 -- The two slots of a device, one after the other.
-use Rattle.std.proofs.Common.{◌≡◌, ℕ, ◌+◌, ◌<◌, ◌≤◌, ◌⊎◌, inl, inr, Some, List, [], ◌∷◌, length, refl, sym, subst, ◌∙◌, arith}
+use Rattle.std.proofs.Common.{◌≡◌, ℕ, zero, suc, ◌+◌, ◌<◌, ◌≤◌, ◌⊎◌, inl, inr, Some, List, [], ◌∷◌, length, refl, sym, subst, ◌∙◌, arith}
 use Rattle.std.specs.Option.{ForSome}
 use Rattle.urna_outside.specs.Flash.{Flash, Flashes, flash_of, after, IsImage}
 use Rattle.urna_outside.specs.Confined.{KeepsOthers}
 use Rattle.urna_outside.specs.Stop.{Left, left_on}
 use Rattle.urna_outside.specs.Stage.{Stage}
-use Rattle.urna_outside.specs.Told.{Told, Runs, AreSized, size_of}
+use Rattle.urna_outside.specs.Told.{Told, Does, Runs, AreSized, size_of}
 use Rattle.urna_outside.specs.declared.device.Dev.{Dev}
 use Rattle.urna_outside.proofs.Doing.{told_after}
 use Rattle.urna_outside.proofs.Keeping.{within_keeps}
@@ -13,10 +13,10 @@ use Rattle.urna_outside.proofs.Runs.{places_of, run_keeps}
 use Rattle.gate_slot.specs.Device.{OnFlash, KeepsRest}
 use Rattle.gate_slot.specs.declared.slot.Step.{Step}
 use Rattle.urna_outside.proofs.Stages.{left_image, stage_weaker, stage_stronger, stages-append}
-use Rattle.gate_slot.specs.Slot.{room, gate_offset, body_offset, gate_in, body_in}
+use Rattle.gate_slot.specs.Slot.{room, gate_offset, body_offset, gate_in, body_in, shut_ops}
 use Rattle.gate_slot.proofs.Written.{gate_fits, body_fits, stands_through}
 use Rattle.gate_slot.proofs.Images.{gate_image, body_image}
-use Rattle.twin_image.specs.Twin.{IsOfSlot, IsOfTwin, IsLive, IsTwin, TurnsTo, Turns, HoldsEither, Renews, StepLeaves}
+use Rattle.twin_image.specs.Twin.{IsOfSlot, IsOfTwin, IsLive, IsOldOrNew, TurnsTo, Turns, HoldsEither, Renews, StepLeaves}
 
 pub slot_bounded : (size index n : ℕ) → index < 2 → room size ≤ n → (k : ℕ) → IsOfSlot size index k → k < n
 slot_bounded size index n below fits k (inl gate) = omega (arith, gate_fits size index n below fits, gate.1)
@@ -36,13 +36,27 @@ live_stays d In size index body long apart fs gs keeps live =
       body_stands = stands_through d In (body_offset size index) body (λ k low high. apart k (omega arith) (omega arith)) fs gs keeps live.body_stands;
     }
 
-pub apart_second : (size k : ℕ) → gate_offset size 1 ≤ k → k < body_offset size 1 + size → ¬ IsOfSlot size 0 k
-apart_second size k low high (inl gate) = omega (arith, gate.1)
-apart_second size k low high (inr body) = omega (arith, body.1)
+-- the other one of slots 0 and 1
+abbrev pub other_slot : ℕ → ℕ
+other_slot zero = 1
+other_slot (suc n) = 0
 
-pub apart_first : (size k : ℕ) → gate_offset size 0 ≤ k → k < body_offset size 0 + size → ¬ IsOfSlot size 1 k
-apart_first size k low high (inl gate) = omega (arith, gate.0)
-apart_first size k low high (inr body) = omega (arith, body.0)
+-- a place of one slot is none of the other
+pub apart : (size index : ℕ) → index < 2 → (k : ℕ) → gate_offset size (other_slot index) ≤ k → k < body_offset size (other_slot index) + size → ¬ IsOfSlot size index k
+apart size zero below k low high (inl gate) = omega (arith, gate.1)
+apart size zero below k low high (inr body) = omega (arith, body.1)
+apart size (suc zero) below k low high (inl gate) = omega (arith, gate.0)
+apart size (suc zero) below k low high (inr body) = omega (arith, body.0)
+apart size (suc (suc n)) below k low high is = omega arith
+
+in_twin : (size index : ℕ) → index < 2 → (k : ℕ) → IsOfSlot size index k → IsOfTwin size k
+in_twin size zero below k is = inl is
+in_twin size (suc zero) below k is = inr is
+in_twin size (suc (suc n)) below k is = absurd (omega arith)
+
+pub one_of : {now body old new : List ℕ} → now ≡ body → (body ≡ old) ⊎ (body ≡ new) → (now ≡ old) ⊎ (now ≡ new)
+one_of same (inl is) = inl (same ∙ is)
+one_of same (inr is) = inr (same ∙ is)
 
 either : {now before old new : List ℕ} {C : Type 0} → before ≡ old → (now ≡ new) ⊎ ((now ≡ before) × C) → (now ≡ old) ⊎ (now ≡ new)
 either was (inl is) = inr is
@@ -65,6 +79,12 @@ content_image f = record { same_length = refl; clean = λ k clean. refl }
 pub live_gate : (size index : ℕ) (body : List ℕ) (f : Flash) → IsLive size index body f → gate_in size index f.content ≡ 0xA5
 live_gate size index body f live = gate_image size index 0xA5 f f.content live.gate (content_image f)
 
+-- so what its shutting does where the gate reads open was done
+pub live_shut : (d : Dev) (size index : ℕ) (body : List ℕ) (a b : Told) → OnFlash d (IsLive size index body) a → OnFlash d (λ flash. gate_in size index flash.content ≡ 0xA5 → Does (shut_ops size d index) a b) a
+    → ForSome a.flashes (λ start. Does (shut_ops size d index) a b)
+live_shut d size index body a b live shuts start told =
+    shuts start told (live_gate size index body (flash_of d start) (live start told))
+
 -- what a step leaves of a slot that has another name
 pub leaves_at : (d : Dev) (size i j : ℕ) (step : Step) (old new : List ℕ) (b : Told) → i ≡ j → OnFlash d (StepLeaves step size j old new) b → OnFlash d (StepLeaves step size i old new) b
 leaves_at d size i j step old new b same leaves = subst (λ (k : ℕ). OnFlash d (StepLeaves step size k old new) b) (sym same) leaves
@@ -73,57 +93,37 @@ pub twin_bounded : (size n : ℕ) → room size ≤ n → (k : ℕ) → IsOfTwin
 twin_bounded size n fits k (inl first) = let below : 0 < 2 = omega arith in slot_bounded size 0 n below fits k first
 twin_bounded size n fits k (inr second) = let below : 1 < 2 = omega arith in slot_bounded size 1 n below fits k second
 
-module _ (d : Dev) (size : ℕ) (old new : List ℕ) (old_long : length old ≡ size) (new_long : length new ≡ size) where
+-- whatever a stage of one slot does, the other stays live
+pub other_live : (d : Dev) (size index n : ℕ) (P : Flashes → Left → Type 0) (body : List ℕ) (a b : Told) → index < 2 → length body ≡ size → room size ≤ size_of d a.sizes → ForSome a.flashes (AreSized a.sizes)
+    → OnFlash d (IsLive size (other_slot index) body) a → Runs (Stage a d (IsOfSlot size index) n P) a b → OnFlash d (IsLive size (other_slot index) body) b
+other_live d size index n P body a b below long fits sized live run =
+    run_keeps d (IsOfSlot size index) (λ fs. IsLive size (other_slot index) body (flash_of d fs)) run.0 a b run.1 run.2.within sized (slot_bounded size index (size_of d a.sizes) below fits)
+    (live_stays d (IsOfSlot size index) size (other_slot index) body long (apart size index below)) live
+
+-- one slot has one of two bodies, or is shut, and the other is open with one of them
+one_open : (size index : ℕ) (old new body image : List ℕ) → index < 2 → (body ≡ old) ⊎ (body ≡ new) → IsOldOrNew size index old new image → (gate_in size (other_slot index) image ≡ 0xA5) × (body_in size (other_slot index) image ≡ body)
+    → HoldsEither size old new image
+one_open size zero old new body image below one turning is =
+    record { first = turning; second = λ gate. one_of is.1 one; open_one = inr is.0 }
+one_open size (suc zero) old new body image below one turning is =
+    record { first = λ gate. one_of is.1 one; second = turning; open_one = inl is.0 }
+one_open size (suc (suc n)) old new body image below one turning is = absurd (omega arith)
+
+module _ (d : Dev) (size : ℕ) (old new : List ℕ) (old_long : length old ≡ size) where
   abbrev Holding : Flashes → Left → Type 0
   Holding start left = HoldsEither size old new (left_on d left)
 
-  abbrev First : Flashes → Left → Type 0
-  First start left = TurnsTo size 0 new (flash_of d start).content (left_on d left)
-
-  abbrev Second : Flashes → Left → Type 0
-  Second start left = TurnsTo size 1 new (flash_of d start).content (left_on d left)
-
-  -- while slot 0 turns, slot 1 has the old body
-  pub first_stage : (a b : Told) → room size ≤ size_of d a.sizes → ForSome a.flashes (AreSized a.sizes) → ForSome a.flashes (λ fs. IsTwin size old (flash_of d fs)) → Runs (Turns a d size 0 new) a b → Runs (Stage a d (IsOfTwin size) 3 Holding) a b
-  first_stage a b fits sized twin run =
-      let below : 0 < 2 = omega arith in
-      let held = stage_stronger d (IsOfSlot size 0) 3 First Holding a b sized (slot_bounded size 0 (size_of d a.sizes) below fits) (λ start told fs left keeps is turns.
-      let live = live_stays d (IsOfSlot size 0) size 1 old old_long (apart_second size) start fs keeps (twin start told).second in
-      let seen = live_image size 1 old (flash_of d fs) (left_on d left) old_long live (left_image d fs [] left is) in
-      let had = live_image size 0 old (flash_of d start) (flash_of d start).content old_long (twin start told).first (content_image (flash_of d start)) in
-      record {
-        first = λ gate. either had.1 (turns gate);
-        second = λ gate. inl seen.1;
-        open_one = inr seen.0;
-      }) run in
-      stage_weaker d (IsOfSlot size 0) (IsOfTwin size) 3 3 Holding Holding a b (λ k is. inl is) (omega arith) (λ start told left p. p) held
-
-  -- while slot 1 turns, slot 0 has the new one
-  pub second_stage : (b c : Told) → room size ≤ size_of d b.sizes → ForSome b.flashes (AreSized b.sizes) → ForSome b.flashes (λ fs. IsLive size 0 new (flash_of d fs)) → ForSome b.flashes (λ fs. IsLive size 1 old (flash_of d fs)) → Runs (Turns b d size 1 new) b c → Runs (Stage b d (IsOfTwin size) 3 Holding) b c
-  second_stage b c fits sized first other run =
-      let below : 1 < 2 = omega arith in
-      let held = stage_stronger d (IsOfSlot size 1) 3 Second Holding b c sized (slot_bounded size 1 (size_of d b.sizes) below fits) (λ start told fs left keeps is turns.
-      let live = live_stays d (IsOfSlot size 1) size 0 new new_long (apart_first size) start fs keeps (first start told) in
-      let seen = live_image size 0 new (flash_of d fs) (left_on d left) new_long live (left_image d fs [] left is) in
-      let had = live_image size 1 old (flash_of d start) (flash_of d start).content old_long (other start told) (content_image (flash_of d start)) in
-      record {
-        first = λ gate. inr seen.1;
-        second = λ gate. either had.1 (turns gate);
-        open_one = inl seen.0;
-      }) run in
-      stage_weaker d (IsOfSlot size 1) (IsOfTwin size) 3 3 Holding Holding b c (λ k is. inr is) (omega arith) (λ start told left p. p) held
-
-  -- what the first turn leaves of slot 1
-  pub second_live : (a b : Told) → room size ≤ size_of d a.sizes → ForSome a.flashes (AreSized a.sizes) → ForSome a.flashes (λ fs. IsTwin size old (flash_of d fs)) → Runs (Turns a d size 0 new) a b → ForSome b.flashes (λ fs. IsLive size 1 old (flash_of d fs))
-  second_live a b fits sized twin run =
-      let below : 0 < 2 = omega arith in
-      run_keeps d (IsOfSlot size 0) (λ fs. IsLive size 1 old (flash_of d fs)) run.0 a b run.1 run.2.within sized (slot_bounded size 0 (size_of d a.sizes) below fits) (live_stays d (IsOfSlot size 0) size 1 old old_long (apart_second size)) (λ fs told. (twin fs told).second)
-
-  -- and the second one of slot 0
-  pub first_live : (b c : Told) → room size ≤ size_of d b.sizes → ForSome b.flashes (AreSized b.sizes) → ForSome b.flashes (λ fs. IsLive size 0 new (flash_of d fs)) → Runs (Turns b d size 1 new) b c → ForSome c.flashes (λ fs. IsLive size 0 new (flash_of d fs))
-  first_live b c fits sized first run =
-      let below : 1 < 2 = omega arith in
-      run_keeps d (IsOfSlot size 1) (λ fs. IsLive size 0 new (flash_of d fs)) run.0 b c run.1 run.2.within sized (slot_bounded size 1 (size_of d b.sizes) below fits) (live_stays d (IsOfSlot size 1) size 0 new new_long (apart_first size)) first
+  -- while one slot turns, the other has one of the two bodies
+  pub turn_stage : (index : ℕ) (body : List ℕ) (a b : Told) → index < 2 → length body ≡ size → (body ≡ old) ⊎ (body ≡ new) → room size ≤ size_of d a.sizes → ForSome a.flashes (AreSized a.sizes)
+      → OnFlash d (IsLive size index old) a → OnFlash d (IsLive size (other_slot index) body) a → Runs (Turns a d size index new) a b → Runs (Stage a d (IsOfTwin size) 3 Holding) a b
+  turn_stage index body a b below long one fits sized live other run =
+      let In = IsOfSlot size index in
+      let held = stage_stronger d In 3 (λ start left. TurnsTo size index new (flash_of d start).content (left_on d left)) Holding a b sized (slot_bounded size index (size_of d a.sizes) below fits) (λ start told fs left keeps is turns.
+      let still = live_stays d In size (other_slot index) body long (apart size index below) start fs keeps (other start told) in
+      let seen = live_image size (other_slot index) body (flash_of d fs) (left_on d left) long still (left_image d fs [] left is) in
+      let had = live_image size index old (flash_of d start) (flash_of d start).content old_long (live start told) (content_image (flash_of d start)) in
+      one_open size index old new body (left_on d left) below one (λ gate. either had.1 (turns gate)) seen) run in
+      stage_weaker d In (IsOfTwin size) 3 3 Holding Holding a b (in_twin size index below) (omega arith) (λ start told left p. p) held
 
   -- the call stops while slot 0 turns
   pub renewed_first : (a b : Told) → Runs (Stage a d (IsOfTwin size) 3 Holding) a b → Runs (Renews a d size old new) a b

@@ -8,11 +8,12 @@ use Rattle.urna_outside.specs.Stop.{Left, IsLeft, left_on}
 use Rattle.urna_outside.specs.Stage.{Stage}
 use Rattle.urna_outside.specs.Told.{Told, Sizes, Does, Runs, AreSized, size_of}
 use Rattle.urna_outside.specs.declared.device.Dev.{Dev}
-use Rattle.urna_outside.proofs.Keeping.{stands_clean}
+use Rattle.urna_outside.proofs.Keeping.{stands_clean, within_more}
 use Rattle.urna_outside.proofs.Places.{length-part}
 use Rattle.urna_outside.proofs.Stops.{stops_within}
 use Rattle.urna_outside.proofs.Runs.{places_of}
 use Rattle.urna_outside.proofs.Stages.{left_image, stage_weaker, stages-append}
+use Rattle.gate_slot.specs.Page.{IsPatch}
 use Rattle.gate_slot.specs.Slot.{room, gate_offset, body_offset, gate_in, body_in, IsGate, IsBody, IsGateShut, HasBody, IsOneWrite, shut_ops, fill_ops, publish_ops}
 use Rattle.gate_slot.proofs.Written.{gate_fits, body_fits, gate_bounded, body_bounded, stands_through}
 use Rattle.gate_slot.specs.Device.{OnFlash}
@@ -21,13 +22,22 @@ use Rattle.gate_slot.proofs.Fronts.{fronts_first, none_yet}
 use Rattle.gate_slot.proofs.Images.{gate_image, body_image, stands_one}
 use Rattle.gate_slot.specs.declared.slot.Step.{Step}
 use Rattle.gate_slot.specs.declared.slot.Step.TheVariants.{Shutting}
+use Rattle.twin_image.specs.Lay.{WritesOnly}
 use Rattle.twin_image.specs.Twin.{IsOfSlot, StepLeaves, TurnsTo, WasOpen, Turns, turning_ops, shutting_ops}
 
--- one write as a stage
-pub runs_one : (d : Dev) (In : ℕ → Type 0) (P : Flashes → Left → Type 0) (a b : Told) → ForSome a.flashes (AreSized a.sizes) → ((k : ℕ) → In k → k < size_of d a.sizes)
+-- one write and one patch are writes of their places
+pub writes_one : (d : Dev) (In More : ℕ → Type 0) (a b : Told) → ((k : ℕ) → In k → More k) → Runs (IsOneWrite d In) a b → Runs (WritesOnly d More 1) a b
+writes_one d In More a b more run =
+    (run.0, run.1, record { within = within_more d In More run.0 more run.2.within; syncs = run.2.syncs })
+
+pub writes_patch : (d : Dev) (In : ℕ → Type 0) (most : ℕ) (a b : Told) → Runs (IsPatch d In most) a b → Runs (WritesOnly d In 1) a b
+writes_patch d In most a b run = (run.0, run.1, record { within = run.2.within; syncs = run.2.syncs })
+
+-- writes as a stage
+pub writes_stage : (d : Dev) (In : ℕ → Type 0) (n : ℕ) (P : Flashes → Left → Type 0) (a b : Told) → ForSome a.flashes (AreSized a.sizes) → ((k : ℕ) → In k → k < size_of d a.sizes)
     → ((start : Flashes) → a.flashes ≡ Some start → (fs : Flashes) (left : Left) → KeepsOthers d In start fs → IsLeft fs [] left → P start left)
-    → Runs (IsOneWrite d In) a b → Runs (Stage a d In 1 P) a b
-runs_one d In P a b sized bounded holds run = (
+    → Runs (WritesOnly d In n) a b → Runs (Stage a d In n P) a b
+writes_stage d In n P a b sized bounded holds run = (
   run.0,
   run.1,
   record {
@@ -68,14 +78,6 @@ shutting_does d size index a b opened other start told = elim (cases_eq (gate_in
       subst (λ (t : Bool). Does (cond t (shut_ops size d index) []) a b) (sym (ne_eqb (gate_in size index (flash_of d start).content) 0xA5 shut)) (other start told shut)
 ]
 
--- all that is done of an open slot
-abbrev pub turn_ops : ℕ → Dev → ℕ → List ℕ → List Op
-turn_ops size d index body = shut_ops size d index ++ fill_ops size d index body ++ publish_ops size d index
-
-pub turning-open : (d : Dev) (size index : ℕ) (body content : List ℕ) → gate_in size index content ≡ 0xA5 → turning_ops size d index body content ≡ turn_ops size d index body
-turning-open d size index body content gate =
-    ap (λ (t : Bool). cond t (shut_ops size d index) [] ++ fill_ops size d index body ++ publish_ops size d index) (eq-eqb (gate_in size index content) 0xA5 gate)
-
 -- a slot whose body stays is left by Shutting
 pub shutting_leaves : (d : Dev) (size index : ℕ) (new : List ℕ) (step : Step) (a b : Told) → step ≡ Shutting → ((old : List ℕ) → OnFlash d (HasBody size index old) a → OnFlash d (HasBody size index old) b)
     → (old : List ℕ) → OnFlash d (HasBody size index old) a → OnFlash d (StepLeaves step size index old new) b
@@ -103,14 +105,14 @@ module _ (d : Dev) (size index : ℕ) (below : index < 2) where
     where
       whole : ((start : Flashes) → a.flashes ≡ Some start → gate_in size index (flash_of d start).content ≡ 0xA5) → Runs (Stage a d (IsGate size index) 1 Unturned) a b
       whole is_open =
-          runs_one d (IsGate size index) Unturned a b sized (gate_bounded size index (size_of d a.sizes) below fits) (λ start told fs left keeps is gate.
+          writes_stage d (IsGate size index) 1 Unturned a b sized (gate_bounded size index (size_of d a.sizes) below fits) (λ start told fs left keeps is gate.
           let f = flash_of d start in
           let old = body_in size index f.content in
           let long = (sized start told).content d in
           let within = body_fits size index (size_of d a.sizes) below fits in
           let old_long = length-part f.content (body_offset size index) size (omega arith) in
           let stands = stands_clean f (body_offset size index) old (clean start told) (omega arith) (ap (λ (n : ℕ). part f.content (body_offset size index) n) old_long) in
-          (body_image size index old (flash_of d fs) (left_on d left) old_long (body_stays old start fs old_long keeps stands) (left_image d fs [] left is), is_open start told)) run
+          (body_image size index old (flash_of d fs) (left_on d left) old_long (body_stays old start fs old_long keeps stands) (left_image d fs [] left is), is_open start told)) (writes_one d (IsGate size index) (IsGate size index) a b (λ k is. is) run)
 
       none : (start : Flashes) → a.flashes ≡ Some start → gate_in size index (flash_of d start).content ≢ 0xA5 → Runs (Stage a d (IsGate size index) 1 Unturned) a b
       none start told shut = (
@@ -150,11 +152,11 @@ module _ (d : Dev) (size index : ℕ) (below : index < 2) where
 
     -- while the body is written, the gate is shut
     pub fill_stage : (b c : Told) → room size ≤ size_of d b.sizes → ForSome b.flashes (AreSized b.sizes) → ForSome b.flashes (λ fs. IsGateShut size index (flash_of d fs))
-        → Runs (IsOneWrite d (IsBody size index)) b c → Runs (Stage b d (IsOfSlot size index) 1 (λ start left. gate_in size index (left_on d left) ≢ 0xA5)) b c
+        → Runs (WritesOnly d (IsBody size index) 1) b c → Runs (Stage b d (IsOfSlot size index) 1 (λ start left. gate_in size index (left_on d left) ≢ 0xA5)) b c
     fill_stage b c fits sized shut run =
         let P : Flashes → Left → Type 0 = λ start left. gate_in size index (left_on d left) ≢ 0xA5 in
         stage_weaker d (IsBody size index) (IsOfSlot size index) 1 1 P P b c (λ k is. inr is) (omega arith) (λ start told left p. p)
-        (runs_one d (IsBody size index) P b c sized (body_bounded size index (size_of d b.sizes) below fits) (λ start told fs left keeps is gate.
+        (writes_stage d (IsBody size index) 1 P b c sized (body_bounded size index (size_of d b.sizes) below fits) (λ start told fs left keeps is gate.
         let was = shut start told in
         was.1 (sym (gate_image size index was.0 (flash_of d fs) (left_on d left) (gate_stays was.0 start fs keeps was.2) (left_image d fs [] left is)) ∙ gate)) run)
 
@@ -164,8 +166,8 @@ module _ (d : Dev) (size index : ℕ) (below : index < 2) where
     publish_stage c e fits sized stands run =
         let P : Flashes → Left → Type 0 = λ start left. body_in size index (left_on d left) ≡ new in
         stage_weaker d (IsGate size index) (IsOfSlot size index) 1 1 P P c e (λ k is. inl is) (omega arith) (λ start told left p. p)
-        (runs_one d (IsGate size index) P c e sized (gate_bounded size index (size_of d c.sizes) below fits) (λ start told fs left keeps is.
-        body_image size index new (flash_of d fs) (left_on d left) new_long (body_stays new start fs new_long keeps (stands start told)) (left_image d fs [] left is)) run)
+        (writes_stage d (IsGate size index) 1 P c e sized (gate_bounded size index (size_of d c.sizes) below fits) (λ start told fs left keeps is.
+        body_image size index new (flash_of d fs) (left_on d left) new_long (body_stays new start fs new_long keeps (stands start told)) (left_image d fs [] left is)) (writes_one d (IsGate size index) (IsGate size index) c e (λ k is. is) run))
 
     later_room : {P : List Op → Type 0} (a b : Told) → room size ≤ size_of d a.sizes → Runs P a b → room size ≤ size_of d b.sizes
     later_room a b fits run = subst (λ (s : Sizes). room size ≤ size_of d s) (sym run.1.sizes) fits
@@ -181,14 +183,14 @@ module _ (d : Dev) (size index : ℕ) (below : index < 2) where
 
     -- or while it is filled
     pub turned_fill : (a b c : Told) → room size ≤ size_of d a.sizes → ForSome b.flashes (AreSized b.sizes) → ForSome b.flashes (λ fs. IsGateShut size index (flash_of d fs))
-        → Runs (Stage a d (IsOfSlot size index) 1 Turning) a b → Runs (IsOneWrite d (IsBody size index)) b c → Runs (Turns a d size index new) a c
+        → Runs (Stage a d (IsOfSlot size index) 1 Turning) a b → Runs (WritesOnly d (IsBody size index) 1) b c → Runs (Turns a d size index new) a c
     turned_fill a b c fits sized shut first run =
         let both = filling a b c first (fill_stage b c (later_room a b fits first) sized shut run) in
         stage_weaker d (IsOfSlot size index) (IsOfSlot size index) (1 + 1) 3 Turning Turning a c (λ k is. is) (omega arith) (λ start told left p. p) both
 
     -- or while it is published, or at its end
     pub turned : (a b c e : Told) → room size ≤ size_of d a.sizes → ForSome b.flashes (AreSized b.sizes) → ForSome c.flashes (AreSized c.sizes) → ForSome b.flashes (λ fs. IsGateShut size index (flash_of d fs)) → ForSome c.flashes (λ fs. HasBody size index new (flash_of d fs))
-        → Runs (Stage a d (IsOfSlot size index) 1 Turning) a b → Runs (IsOneWrite d (IsBody size index)) b c → Runs (IsOneWrite d (IsGate size index)) c e → Runs (Turns a d size index new) a e
+        → Runs (Stage a d (IsOfSlot size index) 1 Turning) a b → Runs (WritesOnly d (IsBody size index) 1) b c → Runs (IsOneWrite d (IsGate size index)) c e → Runs (Turns a d size index new) a e
     turned a b c e fits sized_b sized_c shut stands first second third =
         let fits_b = later_room a b fits first in
         let both = filling a b c first (fill_stage b c fits_b sized_b shut second) in

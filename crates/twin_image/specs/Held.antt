@@ -72,10 +72,10 @@ pub record LeavesEither (rank : List ℕ → Option ℕ) (size : ℕ) (old new :
   pub internal : IsEither old new (held_alone rank size left.internal)
   pub external : IsEither old new (held_alone rank size left.external)
 
--- the new body has a greater rank than the old one
-pub record Outranks (rank : List ℕ → Option ℕ) (new old : List ℕ) : Type 0 where
+-- the rank of the new body is not less than that of the old one
+pub record IsNotOutranked (rank : List ℕ → Option ℕ) (new old : List ℕ) : Type 0 where
   pub lower : ℕ
   pub higher : ℕ
   pub old_rank : rank old ≡ Some lower
   pub new_rank : rank new ≡ Some higher
-  pub below : lower < higher
+  pub no_lower : lower ≤ higher

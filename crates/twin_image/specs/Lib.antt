@@ -1,4 +1,5 @@
 pub mod Best
+pub mod Cut
 pub mod Found
 pub mod Frame
 pub mod Heal
@@ -7,6 +8,7 @@ pub mod Lay
 pub mod Level
 pub mod Order
 pub mod Pair
+pub mod Rewrite
 pub mod Slots
 pub mod Survey
 pub mod Twin

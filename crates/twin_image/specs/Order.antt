@@ -3,12 +3,13 @@ use Rattle.std.specs.Prelude.{◌≡◌, ℕ, List, ◌++◌}
 use Rattle.urna_outside.specs.Flash.{Op}
 use Rattle.urna_outside.specs.declared.device.Dev.{Dev}
 use Rattle.urna_outside.specs.declared.device.Dev.TheVariants.{Internal, External}
-use Rattle.gate_slot.specs.Slot.{shut_ops, fill_ops, publish_ops}
+use Rattle.gate_slot.specs.Slot.{shut_ops, publish_ops}
+use Rattle.twin_image.specs.Rewrite.{rewrite_ops}
 
--- The new body takes the place of the old one in a slot that is shut: one write of the whole of it, and a sync. How a commit writes
--- a body is said here alone.
+-- The new body takes the place of the old one in a slot that is shut: by the pages that change, which are synced together. How a
+-- commit writes a body is said by `rewrite_ops` alone.
 abbrev pub IsPutOver : ℕ → Dev → ℕ → List ℕ → List ℕ → List Op → Type 0
-IsPutOver size d index old new ops = ops ≡ fill_ops size d index new
+IsPutOver size d index old new ops = ops ≡ rewrite_ops size d index old new
 
 -- an open slot has its turn: its gate is shut and synced, the body is put, and the gate is opened and synced
 pub record IsTurn (size : ℕ) (d : Dev) (index : ℕ) (old new : List ℕ) (ops : List Op) : Type 0 where

@@ -1,18 +1,13 @@
 //! The same body in all four slots of two devices.
-ghost use Rattle.std.specs.Prelude.{◌≡◌, ◌≢◌, ◌≤◌, length, vec_capacity, IfOk, IfErr, OnOk};
+ghost use Rattle.std.specs.Prelude.{◌≡◌, ◌+◌, ◌*◌, length, vec_capacity, IfOk};
 ghost use Rattle.std.specs.Option.{ForSome};
-ghost use Rattle.urna_outside.specs.Flash.{IsClean};
 ghost use Rattle.urna_outside.specs.Faults.{FailsAt};
-ghost use Rattle.urna_outside.specs.Told.{Runs, port_of, size_of};
-ghost use Rattle.gate_slot.specs.Device.{OnFlash};
+ghost use Rattle.urna_outside.specs.Told.{Runs, port_of};
 ghost use Rattle.gate_slot.specs.Front.{RunsUpTo};
-ghost use Rattle.gate_slot.specs.Slot.{room};
-ghost use Rattle.twin_image.specs.Held.{Outranks};
-ghost use Rattle.twin_image.specs.Order.{IsRenewal};
-ghost use Rattle.twin_image.specs.Pair.{AreOf};
-ghost use Rattle.twin_image.specs.Twin.{IsTwin, Renews};
+ghost use Rattle.twin_image.specs.Held.{IsNotOutranked};
 
-use crate::{Ranked, renew};
+use crate::Ranked;
+use crate::renewal::renew_on;
 use gate_slot::Live;
 use urna_outside::{Dev, Machine};
 
@@ -26,41 +21,10 @@ pub struct Level<const SIZE: usize> {
     ghost room: { vec_capacity body ≡ SIZE },
 }
 
-/// Renews the two slots of a device.
-fn renew_on<M: Machine, const SIZE: usize>(
-    m: &mut M,
-    dev: Dev,
-    lives: (Live<SIZE>, Live<SIZE>),
-    old: &[u8],
-    new: &[u8],
-) -> Result<(Live<SIZE>, Live<SIZE>), Dev>
-    requires pair { AreOf dev lives.0 lives.1 }
-    requires room { room SIZE ≤ size_of dev (M.told m.old).sizes }
-    requires old { length old.now ≡ SIZE }
-    requires new { length new.now ≡ SIZE }
-    requires clean { OnFlash dev IsClean (M.told m.old) }
-    requires twin { OnFlash dev (IsTwin SIZE old.now) (M.told m.old) }
-
-    ensures pair { IfOk result (λ lives. AreOf dev lives.0 lives.1) }
-    ensures twin { OnOk result (OnFlash dev (IsTwin SIZE new.now) (M.told m.new)) }
-    ensures clean { OnOk result (OnFlash dev IsClean (M.told m.new)) }
-    ensures dev { IfErr result (λ failed. failed ≡ dev) }
-
-    ensures ran { Runs (Renews (M.told m.old) dev SIZE old.now new.now) (M.told m.old) (M.told m.new) }
-    ensures order { ForSome (M.told m.old).flashes
-        (λ start. RunsUpTo result (IsRenewal SIZE dev old.now new.now) (M.told m.old) (M.told m.new)) }
-    ensures fails { FailsAt port_of result (M.told m.old) (M.told m.new) }
-{
-    let (first, second) = lives;
-    match renew(m, first, second, old, new) {
-        Ok(renewed) => Ok(renewed),
-        Err(_) => Err(dev),
-    }
-}
-
 impl<const SIZE: usize> Level<SIZE> {
     ghost use Rattle.twin_image.specs.Level.{body_of, Stands, CommitsTo};
     ghost use Rattle.twin_image.specs.Order.{AreRenewals};
+    ghost use Rattle.twin_image.specs.Rewrite.{PutsAtMost, rewrite_bytes};
 
     /// A level of these tokens.
     pub(crate) fn of(
@@ -87,11 +51,13 @@ impl<const SIZE: usize> Level<SIZE> {
         &self.body
     }
 
-    /// Brings all four slots to a body of greater rank: internal 0, internal 1, external 0, external 1. Each is shut,
-    /// filled and published, so that at each stop both flashes, and each alone, hold the old body or the new one.
+    /// Brings all four slots to a body whose rank is not less: internal 0, internal 1, external 0, external 1. Each is
+    /// shut, the new body is brought over the old one, and it is published, so that at each stop both flashes, and each
+    /// alone, hold the old body or the new one. Where SIZE is a multiple of PAGE_SIZE, only the pages that change are
+    /// written.
     ///
     /// The caller owes that the slots of this machine are still live with the level's body, that the new body has
-    /// SIZE bytes, and that its rank is greater than that of the present one. A device is answered only where its
+    /// SIZE bytes, and that its rank is not less than that of the present one. A device is answered only where its
     /// count rose; a new survey then says what stands.
     pub fn commit<M: Machine, R: Ranked>(
         self,
@@ -101,12 +67,15 @@ impl<const SIZE: usize> Level<SIZE> {
     ) -> Result<Level<SIZE>, Dev>
         requires stands { Stands (M.told m.old) self }
         requires next { length next.now ≡ SIZE }
-        requires rank { Outranks (R.rank ranks.now) next.now (body_of self) }
+        requires rank { IsNotOutranked (R.rank ranks.now) next.now (body_of self) }
 
         ensures level { IfOk result (λ level. Stands (M.told m.new) level) }
         ensures body { IfOk result (λ level. body_of level ≡ next.now) }
 
         ensures ran { Runs (CommitsTo (M.told m.old) (R.rank ranks.now) SIZE (body_of self.entry) next.now)
+            (M.told m.old) (M.told m.new) }
+        // Ok or not, two gate bytes and the pages that change are put to each slot, at most.
+        ensures bytes { Runs (PutsAtMost (4 * (rewrite_bytes SIZE (body_of self.entry) next.now + 2)))
             (M.told m.old) (M.told m.new) }
         // The slots have their turns in this order; up to a fault it is a front of them that was done.
         ensures order { ForSome (M.told m.old).flashes (λ start.

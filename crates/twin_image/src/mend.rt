@@ -10,7 +10,7 @@ ghost use Rattle.twin_image.specs.Heal.{AreMends, IsMend, Mends, MendsTwin};
 ghost use Rattle.twin_image.specs.Pair.{AreOf};
 ghost use Rattle.twin_image.specs.Twin.{IsLive, IsTwin};
 
-use crate::turn::turn;
+use crate::renewal::turn;
 use gate_slot::{Live, Slot, adopt};
 use urna_outside::{Dev, Machine};
 

@@ -9,4 +9,4 @@ use Rattle.urna_app.specs.Putting.{result_files}
 pub same_at_rest : IsKnownByVotes → SameAtRest
 same_at_rest known out t load s u of_s of_u phase came counts =
     let same : s ≡ u = (known t load.section.voters s u of_s of_u phase came counts).0 in
-    ((λ d. ap (λ (x : State). rest load d x) same), (λ opened closed. ap (λ (x : State). result_files out t load.section x opened closed) same))
+    ((λ d. ap (λ (x : State). rest t load d x) same), (λ opened closed. ap (λ (x : State). result_files out t load.section x opened closed) same))

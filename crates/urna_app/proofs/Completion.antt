@@ -28,12 +28,13 @@ use Rattle.station.specs.Start.{FailsToStart}
 use Rattle.station.specs.declared.station.StartError.{StartError}
 use Rattle.station.specs.declared.station.StartError.TheVariants as start
 use Rattle.urna_app.specs.Carga.{CargaEnds, IsSectionAsked, load_no_cabinet, load_no_memory, load_refused, loaded, no_section, not_loaded, not_told}
-use Rattle.urna_app.specs.Command.{Carga, Confere, Emite, ToCheck, ToEmit, ToLoad, ToTotal, ToVote, Totaliza, Vota, command_of}
-use Rattle.urna_app.specs.Completion.{CanCheck, CanEmit, CanLoad, CanTotal, CanVote, IsByVerdicts, CompletesWhereItCan, IsDoneOrMemory, TellsOfRisenCounts, tells_of_count}
+use Rattle.urna_app.specs.Command.{Carga, Confere, Emite, ToCheck, ToEmit, ToLoad, ToRehearse, ToTotal, ToVote, Totaliza, Vota, command_of}
+use Rattle.urna_app.specs.Completion.{CanCheck, CanEmit, CanLoad, CanTotal, CanVote, IsByVerdicts, CompletesWhereItCan, IsDoneOrMemory, RehearsalCompletes, TellsOfRisenCounts, tells_of_count}
 use Rattle.urna_app.specs.Confere.{ConfereEnds, check_no_cabinet, check_no_memory, check_not_told, check_refused, checked}
 use Rattle.urna_app.specs.Documents.{HasDocuments, IsBad, IsFault, IsFirstFault, bad, count, first_other, first_tables, lacks, line, longer, name_line, no_document, roll_line, rule}
 use Rattle.urna_app.specs.Emite.{EmiteEnds, emit_no_cabinet, emit_no_memory, emit_refused, emitted, files_stopped, no_files, not_emitted, not_found, not_sealed}
-use Rattle.urna_app.specs.Ending.{CommandEnds, carga, confere, emite, no_command, totaliza, vota}
+use Rattle.urna_app.specs.Ending.{CommandEnds, carga, confere, emite, ensaio, no_command, totaliza, vota}
+use Rattle.urna_app.specs.Ensaio.{EnsaioEnds, not_rehearsed, rehearsal_files, rehearsal_not_put, rehearsal_not_told, rehearsed}
 use Rattle.urna_app.specs.Errors.{load_status, port_status, start_status, store_status}
 use Rattle.urna_app.specs.FaultLines.{Tells, fault_text}
 use Rattle.urna_app.specs.Laws.{FoundOnce}
@@ -269,9 +270,18 @@ confere_completes names c d m b s files told none calm can (checked {v} given ta
     by_verdict (verdict.Repeated zone number) = inr (verdict.Repeated zone number, refl)
     by_verdict (verdict.Conflict zone number) = inr (verdict.Conflict zone number, refl)
 
+-- ---- ensaio
+
+ensaio_completes : (voters : ℕ) (c d : CabinetTold) (m b : Told) (s : Status) → ¬ Rose c.tally.faults d.tally.faults → Calm s m b → EnsaioEnds voters c d m b s
+    → IsDoneOrMemory s
+ensaio_completes voters c d m b s none calm (not_rehearsed same untouched) = inr refl
+ensaio_completes voters c d m b s none calm (rehearsal_not_put {r} is stop untouched) = absurd (none (stopped_rose (rehearsal_files r) c d stop))
+ensaio_completes voters c d m b s none calm (rehearsal_not_told is put off) = absurd (calm Display refl off.faults.rose)
+ensaio_completes voters c d m b s none calm (rehearsed is put shown) = inl refl
+
 -- ---- the program
 
-of_vota : (words : List (List ℕ)) (names : Vota) (c d : CabinetTold) (m b : Told) (s : Status) → command_of words ≡ Some (ToVote names)
+pub of_vota : (words : List (List ℕ)) (names : Vota) (c d : CabinetTold) (m b : Told) (s : Status) → command_of words ≡ Some (ToVote names)
     → CommandEnds words c d m b s → VotaEnds names c d m b s
 of_vota words names c d m b s is (no_command none h untouched) = absurd (cc)
 of_vota words names c d m b s is (vota {names = other} also h) = let same : other ≡ names = cc in subst (λ (x : Vota). VotaEnds x c d m b s) same h
@@ -279,8 +289,9 @@ of_vota words names c d m b s is (carga also h) = absurd (cc)
 of_vota words names c d m b s is (emite also h) = absurd (cc)
 of_vota words names c d m b s is (confere also h) = absurd (cc)
 of_vota words names c d m b s is (totaliza also h) = absurd (cc)
+of_vota words names c d m b s is (ensaio also h) = absurd (cc)
 
-of_carga : (words : List (List ℕ)) (names : Carga) (c d : CabinetTold) (m b : Told) (s : Status) → command_of words ≡ Some (ToLoad names)
+pub of_carga : (words : List (List ℕ)) (names : Carga) (c d : CabinetTold) (m b : Told) (s : Status) → command_of words ≡ Some (ToLoad names)
     → CommandEnds words c d m b s → CargaEnds names c d m b s
 of_carga words names c d m b s is (no_command none h untouched) = absurd (cc)
 of_carga words names c d m b s is (vota also h) = absurd (cc)
@@ -288,8 +299,9 @@ of_carga words names c d m b s is (carga {names = other} also h) = let same : ot
 of_carga words names c d m b s is (emite also h) = absurd (cc)
 of_carga words names c d m b s is (confere also h) = absurd (cc)
 of_carga words names c d m b s is (totaliza also h) = absurd (cc)
+of_carga words names c d m b s is (ensaio also h) = absurd (cc)
 
-of_emite : (words : List (List ℕ)) (names : Emite) (c d : CabinetTold) (m b : Told) (s : Status) → command_of words ≡ Some (ToEmit names)
+pub of_emite : (words : List (List ℕ)) (names : Emite) (c d : CabinetTold) (m b : Told) (s : Status) → command_of words ≡ Some (ToEmit names)
     → CommandEnds words c d m b s → EmiteEnds names c d m b s
 of_emite words names c d m b s is (no_command none h untouched) = absurd (cc)
 of_emite words names c d m b s is (vota also h) = absurd (cc)
@@ -297,6 +309,7 @@ of_emite words names c d m b s is (carga also h) = absurd (cc)
 of_emite words names c d m b s is (emite {names = other} also h) = let same : other ≡ names = cc in subst (λ (x : Emite). EmiteEnds x c d m b s) same h
 of_emite words names c d m b s is (confere also h) = absurd (cc)
 of_emite words names c d m b s is (totaliza also h) = absurd (cc)
+of_emite words names c d m b s is (ensaio also h) = absurd (cc)
 
 of_confere : (words : List (List ℕ)) (names : Confere) (c d : CabinetTold) (m b : Told) (s : Status) → command_of words ≡ Some (ToCheck names)
     → CommandEnds words c d m b s → ConfereEnds names c d m b s
@@ -306,6 +319,7 @@ of_confere words names c d m b s is (carga also h) = absurd (cc)
 of_confere words names c d m b s is (emite also h) = absurd (cc)
 of_confere words names c d m b s is (confere {names = other} also h) = let same : other ≡ names = cc in subst (λ (x : Confere). ConfereEnds x c d m b s) same h
 of_confere words names c d m b s is (totaliza also h) = absurd (cc)
+of_confere words names c d m b s is (ensaio also h) = absurd (cc)
 
 of_totaliza : (words : List (List ℕ)) (names : Totaliza) (c d : CabinetTold) (m b : Told) (s : Status) → command_of words ≡ Some (ToTotal names)
     → CommandEnds words c d m b s → TotalizaEnds names c d m b s
@@ -315,6 +329,17 @@ of_totaliza words names c d m b s is (carga also h) = absurd (cc)
 of_totaliza words names c d m b s is (emite also h) = absurd (cc)
 of_totaliza words names c d m b s is (confere also h) = absurd (cc)
 of_totaliza words names c d m b s is (totaliza {names = other} also h) = let same : other ≡ names = cc in subst (λ (x : Totaliza). TotalizaEnds x c d m b s) same h
+of_totaliza words names c d m b s is (ensaio also h) = absurd (cc)
+
+of_ensaio : (words : List (List ℕ)) (voters : ℕ) (c d : CabinetTold) (m b : Told) (s : Status) → command_of words ≡ Some (ToRehearse voters)
+    → CommandEnds words c d m b s → EnsaioEnds voters c d m b s
+of_ensaio words voters c d m b s is (no_command none h untouched) = absurd (cc)
+of_ensaio words voters c d m b s is (vota also h) = absurd (cc)
+of_ensaio words voters c d m b s is (carga also h) = absurd (cc)
+of_ensaio words voters c d m b s is (emite also h) = absurd (cc)
+of_ensaio words voters c d m b s is (confere also h) = absurd (cc)
+of_ensaio words voters c d m b s is (totaliza also h) = absurd (cc)
+of_ensaio words voters c d m b s is (ensaio {voters = other} also h) = let same : other ≡ voters = cc in subst (λ (x : ℕ). EnsaioEnds x c d m b s) same h
 
 pub completes : LoadedOrForeign → HeldIsDecoded → FoundOnce → OneListAnswers → CompletesWhereItCan
 completes either decoded once answers words c d m n s files told failed ends =
@@ -332,6 +357,11 @@ completes either decoded once answers words c d m n s files told failed ends =
       λ names is can.
           totaliza_completes answers names c d m b s files told failed.cabinet quietly can (of_totaliza words names c d m b s is ends.command),
     )
+
+pub rehearsal_completes : RehearsalCompletes
+rehearsal_completes words voters c d m n s is failed ends =
+    ensaio_completes voters c d m ends.between s failed.cabinet (calm s m ends.between n failed.ports ends.told)
+    (of_ensaio words voters c d m ends.between s is ends.command)
 
 -- ---- over any cabinet and machine
 
@@ -467,6 +497,7 @@ command_counts words c d m b s none (carga {names} is ends) = carga_counts names
 command_counts words c d m b s none (emite {names} is ends) = emite_counts names c d m b s none ends
 command_counts words c d m b s none (confere {names} is ends) = confere_counts names c d m b s none ends
 command_counts words c d m b s none (totaliza {names} is ends) = totaliza_counts names c d m b s none ends
+command_counts words c d m b s none (ensaio {voters} is ends) = done_or_memory s (ensaio_completes voters c d m b s none.faults none.calm ends)
 
 pub tells_of_risen_counts : TellsOfRisenCounts
 tells_of_risen_counts words c d m n s failed missing too_long ends =

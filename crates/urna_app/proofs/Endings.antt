@@ -8,8 +8,6 @@ use Rattle.urna_outside.specs.Told.{Told}
 use Rattle.urna_outside.specs.declared.device.Dev.TheVariants as dev
 use Rattle.urna_outside.specs.declared.device.Port.{Port}
 use Rattle.urna_outside.specs.declared.device.Port.TheVariants as port
-use Rattle.urna_outside.proofs.Doing.{does_nothing}
-use Rattle.urna_outside.proofs.Faults.{faultless_none}
 use Rattle.election_tables.specs.Roll.{RollData}
 use Rattle.election_tables.specs.TablesData.{TablesData}
 use Rattle.key_script.specs.declared.keys.Event.{Event}
@@ -53,7 +51,7 @@ told Ends lines (Err s) old new shown fails whole part = subst Ends (sym fails) 
 
 -- nothing was done between a moment and itself
 pub untouched : (m : Told) → IsUntouched m m
-untouched m = record { does = does_nothing m; fine = faultless_none m }
+untouched m = refl
 
 -- want of memory, a fault of the cabinet, or neither
 pub which : (s : Status) → (s ≡ status.Memory) ⊎ (s ≡ status.Cabinet) ⊎ ((s ≢ status.Memory) × (s ≢ status.Cabinet))

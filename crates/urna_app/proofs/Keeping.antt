@@ -1,6 +1,5 @@
 -- What a power cut leaves of a call of vota keeps its votes
-use Rattle.std.proofs.Common.{◌≡◌, ◌⊎◌, inl, inr, ℕ, ◌+◌, ◌<◌, List, [], ◌∷◌, ◌++◌, length, refl, sym, ap, subst, ◌∙◌, arith}
-use Rattle.std.specs.List.{concat}
+use Rattle.std.proofs.Common.{◌≡◌, ◌⊎◌, inl, inr, ℕ, ◌+◌, ◌<◌, List, [], ◌∷◌, ◌++◌, length, slice_get, refl, sym, ap, subst, ◌∙◌, arith}
 use Rattle.std.proofs.lemmas.List.{append_cancel_left}
 use Rattle.urna_outside.specs.Flash.{Flashes, Op, Sync, after}
 use Rattle.urna_outside.specs.Stop.{AtEachStop, Left}
@@ -19,18 +18,16 @@ use Rattle.image_codec.proofs.Growing.{also_none}
 use Rattle.state_store.specs.Calls.{AreFound, KeepFrames, both_synced}
 use Rattle.state_store.specs.Held.{HeldAlone, HeldByBoth, bodies_of_both}
 use Rattle.state_store.specs.Played.{Follows, IsSafe, IsStateOrNext, Survives}
-use Rattle.state_store.specs.Pieces.{Piece, commits_in, commits_reached, lines_reached}
+use Rattle.state_store.specs.Pieces.{Piece, commits_in, commits_reached, lines_in, lines_reached, text_in}
 use Rattle.state_store.specs.declared.load.Load.{Load}
 use Rattle.state_store.proofs.Holding.{hold_encoding}
 use Rattle.station.specs.Cast.{ballots_of, fims_reached}
 use Rattle.station.specs.Output.{Output}
 use Rattle.station.specs.Run.{IsRun}
 use Rattle.station.specs.Setting.{setting_of}
-use Rattle.station.specs.Start.{opening}
-use Rattle.station.specs.Text.{session_pieces}
 use Rattle.station.proofs.Casting.{run_shown}
 use Rattle.station.proofs.Fims.{AreShown, fims_none}
-use Rattle.urna_app.specs.Headline.{HoldsShown, KeepsVotes, session_lines}
+use Rattle.urna_app.specs.Headline.{HoldsShown, KeepsVotes, session_of}
 
 -- ---- what is held
 
@@ -39,18 +36,32 @@ pub found_roll : (t : TablesData) (r : RollData) (section : Section) (s : State)
 found_roll t r section s flashes found =
     (hold_encoding t (length r.titles) (bodies_of_both flashes.internal.content flashes.external.content) s found.held).1.state.roll
 
-module _ (t : TablesData) (s : State) (ballots : List Ballot) where
-  holds : (states : List State) (c f : ℕ) (held : State → Type 0) → AreShown (ballot_lines t) s ballots states c f → IsStateOrNext (s ∷ states) c held
-      → HoldsShown (ballot_lines t) s ballots f held
-  holds states c f held shown (u, is, inl same) =
+module _ (t : TablesData) (s : State) (states : List State) (ballots : List Ballot) where
+  holds : (c f : ℕ) (held : State → Type 0) → AreShown (ballot_lines t) s ballots states c f → IsStateOrNext (s ∷ states) c held
+      → HoldsShown (ballot_lines t) s states c ballots f held
+  holds c f held shown (u, is, inl same) =
       let got = shown c u (inl refl) same in
-      record { state = u; is = is; number = got.0; shown = got.1; cast = got.2; has = got.3 }
-  holds states c f held shown (u, is, inr same) =
+      record { state = u; is = is; one = inl same; number = got.0; shown = got.1; cast = got.2; has = got.3 }
+  holds c f held shown (u, is, inr same) =
       let got = shown (c + 1) u (inr refl) same in
-      record { state = u; is = is; number = got.0; shown = got.1; cast = got.2; has = got.3 }
+      record { state = u; is = is; one = inr same; number = got.0; shown = got.1; cast = got.2; has = got.3 }
 
-  holds_first : (f : ℕ) (held : State → Type 0) → f ≡ 0 → held s → HoldsShown (ballot_lines t) s ballots f held
-  holds_first f held none is = record { state = s; is = is; number = 0; shown = inl (sym none); cast = omega arith; has = also_none (ballot_lines t) s }
+  holds_first : (c f : ℕ) (held : State → Type 0) → c ≡ 0 → f ≡ 0 → held s → HoldsShown (ballot_lines t) s states c ballots f held
+  holds_first c f held first none is =
+      record {
+        state = s;
+        is = is;
+        one = inl (ap (λ (k : ℕ). slice_get (s ∷ states) k) first);
+        number = 0;
+        shown = inl (sym none);
+        cast = omega arith;
+        has = also_none (ballot_lines t) s;
+      }
+
+-- nothing is told before the first byte
+commits_none : (pieces : List Piece) → commits_reached pieces 0 ≡ 0
+commits_none [] = refl
+commits_none (piece ∷ pieces) = refl
 
 -- ---- what is left
 
@@ -59,16 +70,18 @@ pub text_cases : (bytes : List ℕ) → (bytes ≡ []) ⊎ (0 < length bytes)
 text_cases [] = inl refl
 text_cases (byte ∷ bytes) = inr (omega arith)
 
-module _ (t : TablesData) (r : RollData) (s : State) (start : Flashes) (lines : List (List ℕ)) (ballots : List Ballot) (left : Left) where
+module _ (t : TablesData) (r : RollData) (s : State) (start : Flashes) (pieces : List Piece) (ballots : List Ballot) (left : Left) where
   -- before the first byte
-  pub kept_silent : left.shown ≡ [] → HeldByBoth t (length r.titles) left.internal left.external s → KeepFrames start left → KeepsVotes t r s start lines ballots left
+  pub kept_silent : left.shown ≡ [] → HeldByBoth t (length r.titles) left.internal left.external s → KeepFrames start left → KeepsVotes t r s start pieces ballots left
   kept_silent none held frames =
       record {
-        rest = concat lines;
-        front = ap (λ (l : List ℕ). l ++ concat lines) (sym none);
+        rest = text_in pieces;
+        front = ap (λ (l : List ℕ). l ++ text_in pieces) (sym none);
         before = λ shown. held;
-        both = holds_first t s ballots (fims_reached lines (length left.shown)) (HeldByBoth t (length r.titles) left.internal left.external)
-            (ap (λ (l : List ℕ). fims_reached lines (length l)) none ∙ fims_none lines) held;
+        both = holds_first t s (commits_in pieces) ballots (commits_reached pieces (length left.shown)) (fims_reached (lines_in pieces) (length left.shown))
+            (HeldByBoth t (length r.titles) left.internal left.external)
+            (ap (λ (l : List ℕ). commits_reached pieces (length l)) none ∙ commits_none pieces)
+            (ap (λ (l : List ℕ). fims_reached (lines_in pieces) (length l)) none ∙ fims_none (lines_in pieces)) held;
         internal = λ some. absurd (omega (arith, ap length none, some));
         external = λ some. absurd (omega (arith, ap length none, some));
         frames = frames;
@@ -77,35 +90,32 @@ module _ (t : TablesData) (r : RollData) (s : State) (start : Flashes) (lines : 
 module _ (t : TablesData) (r : RollData) (s last : State) (es : List Event) (out : List Output) (run : IsRun (setting_of t r.titles) s es last out) (roll : length s.came ≡ length r.titles) (load : Load)
     (voters : load.section.voters ≡ length r.titles) (start : Flashes) (left : Left) where
   abbrev pieces : List Piece
-  pieces = opening t s ++ session_pieces t out
-
-  abbrev lines : List (List ℕ)
-  lines = session_lines t s out
+  pieces = session_of t s out
 
   abbrev Kept : Type 0
-  Kept = KeepsVotes t r s start lines (ballots_of run) left
+  Kept = KeepsVotes t r s start pieces (ballots_of run) left
 
   -- behind it, in a session
   kept_shown : 0 < length left.shown → Follows t (length r.titles) s pieces left → KeepFrames start left → Kept
   kept_shown some follows frames =
       let n : ℕ = length left.shown in
-      let shown = run_shown t r.titles roll run (lines_reached lines n) in
-      let states = commits_in pieces in
+      let shown = run_shown t r.titles roll run (lines_reached (lines_in pieces) n) in
+      let states : List State = commits_in pieces in
       let c = commits_reached pieces n in
-      let f = fims_reached lines n in
+      let f = fims_reached (lines_in pieces) n in
       record {
         rest = follows.rest;
         front = follows.front;
         before = λ none. absurd (omega (arith, ap length none, some));
-        both = holds t s (ballots_of run) states c f (HeldByBoth t (length r.titles) left.internal left.external) shown follows.both;
-        internal = λ _. holds t s (ballots_of run) states c f (HeldAlone t (length r.titles) left.internal) shown follows.internal;
-        external = λ _. holds t s (ballots_of run) states c f (HeldAlone t (length r.titles) left.external) shown follows.external;
+        both = holds t s states (ballots_of run) c f (HeldByBoth t (length r.titles) left.internal left.external) shown follows.both;
+        internal = λ _. holds t s states (ballots_of run) c f (HeldAlone t (length r.titles) left.internal) shown follows.internal;
+        external = λ _. holds t s states (ballots_of run) c f (HeldAlone t (length r.titles) left.external) shown follows.external;
         frames = frames;
       }
 
   pub session_kept : Survives t load s pieces start left → Kept
   session_kept survives = elim (text_cases left.shown) [
-    | inl none ↦ kept_silent t r s start lines (ballots_of run) left none (subst (λ (k : ℕ). HeldByBoth t k left.internal left.external s) voters (survives.0 none)) survives.2
+    | inl none ↦ kept_silent t r s start pieces (ballots_of run) left none (subst (λ (k : ℕ). HeldByBoth t k left.internal left.external s) voters (survives.0 none)) survives.2
     | inr some ↦ kept_shown some (subst (λ (k : ℕ). Follows t k s pieces left) voters (survives.1 some)) survives.2
   ]
 

@@ -13,17 +13,15 @@ use Rattle.election_tables.specs.declared.tables.sections.Section.{Section}
 use Rattle.election_tables.proofs.Determined.{roll_is}
 use Rattle.image_codec.specs.Valid.{ready_state}
 use Rattle.image_codec.proofs.OfTables.{of_tables-ready_state}
-use Rattle.state_store.specs.Calls.{AreFound}
-use Rattle.state_store.specs.Laws.{AreWhole}
 use Rattle.state_store.specs.declared.store.LoadError.{LoadError}
 use Rattle.state_store.specs.declared.store.LoadError.TheVariants as load
 use Rattle.state_store.proofs.Loaded.{rest_found, rest_whole}
 use Rattle.urna_app.specs.Carga.{CargaEnds, HasLoaded, IsSectionAsked, load_no_cabinet, load_no_memory, load_refused, loaded, loaded_line, no_section, not_loaded, not_told}
 use Rattle.urna_app.specs.Documents.{HasDocuments, IsFirstFault}
 use Rattle.urna_app.specs.Command.{Carga, ToLoad, command_of}
-use Rattle.urna_app.specs.Ending.{CommandEnds, carga, confere, emite, totaliza, vota}
+use Rattle.urna_app.specs.Ending.{CommandEnds, carga, confere, emite, ensaio, totaliza, vota}
 use Rattle.urna_app.specs.Errors.{load_status}
-use Rattle.urna_app.specs.Headline.{LoadBeginsDay}
+use Rattle.urna_app.specs.Again.{AreReady, LoadMakesReady}
 use Rattle.urna_app.specs.declared.status.Doc.TheVariants as doc
 use Rattle.urna_app.specs.declared.status.Status.{Status}
 use Rattle.urna_app.specs.declared.status.Status.TheVariants as status
@@ -42,7 +40,7 @@ error_not_done (load.Busy d) is = absurd (cc)
 module _ (files : Files) (names : Carga) (c d : CabinetTold) (told : c.files ≡ Some files) (t : TablesData) (r : RollData) (given : HasDocuments (Some files) names.tables names.roll t r) (m b : Told)
     (start : Flashes) (flashes : b.flashes ≡ Some start) where
   abbrev Begins : Type 0
-  Begins = (section : Section) × IsSectionAsked names t r section × AreWhole start × AreFound t r section (ready_state t (length r.titles)) start
+  Begins = (section : Section) × IsSectionAsked names t r section × AreReady t r section (ready_state t (length r.titles)) start
 
   begins : (section : Section) (between : Told) → IsSectionAsked names t r section → HasLoaded t r section m between → between.flashes ≡ Some start → Begins
   begins section between asked done there =
@@ -51,8 +49,11 @@ module _ (files : Files) (names : Carga) (c d : CabinetTold) (told : c.files ≡
       let of = of_tables-ready_state t (length r.titles) in (
         section,
         asked,
-        rest_whole t r section (ready_state t (length r.titles)) start given.tables.valid roll asked.fits of rest,
-        rest_found t r section (ready_state t (length r.titles)) start given.tables.valid roll asked.fits of rest,
+        record {
+          whole = rest_whole t r section (ready_state t (length r.titles)) start given.tables.valid roll asked.fits of rest;
+          clean = rest.clean;
+          found = rest_found t r section (ready_state t (length r.titles)) start given.tables.valid roll asked.fits of rest;
+        },
       )
 
   carga_begins : (answer : Status) → answer ≡ status.Done → CargaEnds names c d m b answer → Begins
@@ -76,10 +77,11 @@ module _ (files : Files) (names : Carga) (c d : CabinetTold) (told : c.files ≡
   command_begins words is (emite that h) = absurd (cc)
   command_begins words is (confere that h) = absurd (cc)
   command_begins words is (totaliza that h) = absurd (cc)
+  command_begins words is (ensaio that h) = absurd (cc)
   command_begins words is (carga {names = other} that h) =
       let same : other ≡ names = cc in
       carga_begins status.Done refl (subst (λ (x : Carga). CargaEnds x c d m b status.Done) same h)
 
-pub load_begins_day : LoadBeginsDay
-load_begins_day words c d m n ends names files t r is told given start flashes =
+pub load_makes_ready : LoadMakesReady
+load_makes_ready words c d m n ends names files t r is told given start flashes =
     command_begins files names c d told t r given m ends.between start (ap (λ (x : Told). x.flashes) (sym ends.told) ∙ flashes) words is ends.command

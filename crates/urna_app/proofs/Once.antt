@@ -152,7 +152,7 @@ roll_not_fault files name s r (longer h) has = longer_not_taken files doc.Roll n
 roll_not_fault files name s r (bad {bytes} taken h) has =
     bad_not_roll has.bytes s r (subst (λ (b : List ℕ). IsBad doc.Roll b s) (same_bytes files doc.Roll name bytes has.bytes taken has.taken) h) has.read
 
-keys_not_fault : (files : Files) (name : List ℕ) (s : Status) (es : List Event) → IsFault (Some files) name doc.Keys s → HasKeys (Some files) name es → ⊥
+pub keys_not_fault : (files : Files) (name : List ℕ) (s : Status) (es : List Event) → IsFault (Some files) name doc.Keys s → HasKeys (Some files) name es → ⊥
 keys_not_fault files name s es (lacks h) has = lacks_not_taken files doc.Keys name has.bytes h has.taken
 keys_not_fault files name s es (longer h) has = longer_not_taken files doc.Keys name has.bytes h has.taken
 keys_not_fault files name s es (bad {bytes} taken (line {k} h)) has =

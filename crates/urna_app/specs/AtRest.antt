@@ -17,5 +17,5 @@ abbrev pub SameAtRest : Type 0
 SameAtRest = (out : List ℕ) (t : TablesData) (load : Load) (s u : State) → IsStateOf t load.section.voters s → IsStateOf t load.section.voters u
     → s.phase ≡ u.phase → ((place : ℕ) → has_come s.came place ≡ has_come u.came place)
     → ((panel : ℕ) (c : Choice) → panel < length t.panels → count_of c (bag_at s.bags panel) ≡ count_of c (bag_at u.bags panel))
-    → ((d : Dev) → rest load d s ≡ rest load d u)
+    → ((d : Dev) → rest t load d s ≡ rest t load d u)
     × ((opened closed : ℕ) → result_files out t load.section s opened closed ≡ result_files out t load.section u opened closed)

@@ -40,7 +40,7 @@ loaded_line section = codes "CARGA " ++ decimal section.zone ++ codes " " ++ dec
 -- Neither flash was in use, and both are loaded with the section's poll before it begins.
 pub record HasLoaded (t : TablesData) (r : RollData) (section : Section) (old new : Told) : Type 0 where
   pub ran : Runs (λ ops. (rest : List Op) × (ops ≡ both_synced ++ rest) × Loads old rest) old new
-  pub rest : ForSome new.flashes (AreAtRest (load_of t r section) (ready_state t (length r.titles)))
+  pub rest : ForSome new.flashes (AreAtRest t (load_of t r section) (ready_state t (length r.titles)))
   pub fine : IsFaultless old new
 
 -- ---- the endings

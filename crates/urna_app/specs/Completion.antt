@@ -14,7 +14,7 @@ use Rattle.section_intake.specs.Accepted.{File}
 use Rattle.section_intake.specs.declared.verdict.Verdict.{Verdict}
 use Rattle.state_store.specs.Calls.{AreFound, AreFree}
 use Rattle.urna_app.specs.Carga.{IsSectionAsked}
-use Rattle.urna_app.specs.Command.{Carga, Confere, Emite, ToCheck, ToEmit, ToLoad, ToTotal, ToVote, Totaliza, Vota, command_of}
+use Rattle.urna_app.specs.Command.{Carga, Confere, Emite, ToCheck, ToEmit, ToLoad, ToRehearse, ToTotal, ToVote, Totaliza, Vota, command_of}
 use Rattle.urna_app.specs.Documents.{HasDocuments, HasTables, IsTaken}
 use Rattle.urna_app.specs.Ending.{Ends}
 use Rattle.urna_app.specs.Totaliza.{AreTaken, HasOffered, IsListed, refused_count, refused_status}
@@ -131,6 +131,11 @@ CompletesWhereItCan = (words : List (List ℕ)) (c d : CabinetTold) (m n : Told)
     × ((names : Confere) → command_of words ≡ Some (ToCheck names) → CanCheck names (Some files)
     → IsDoneOrMemory s ⊎ ((v : Verdict) × (s ≡ status.ReportRefused v)))
     × ((names : Totaliza) → command_of words ≡ Some (ToTotal names) → CanTotal names (Some files) → IsByVerdicts names (Some files) s ⊎ (s ≡ status.Memory))
+
+-- A rehearsal needs nothing: over any cabinet and machine one in which no count of faults rose is Done, or memory was wanted.
+abbrev pub RehearsalCompletes : Type 0
+RehearsalCompletes = (words : List (List ℕ)) (voters : ℕ) (c d : CabinetTold) (m n : Told) (s : Status) → command_of words ≡ Some (ToRehearse voters)
+    → NothingFailed c d m n → Ends words c d m n s → IsDoneOrMemory s
 
 -- Of any cabinet and machine: where no count rose in a call, also not that of names not found or of files found too long, the status tells
 -- of none.

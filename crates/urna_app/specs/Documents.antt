@@ -9,6 +9,7 @@ use Rattle.election_tables.specs.TablesData.{IsTables, TablesData}
 use Rattle.key_script.specs.Names.{first_bad_name, names_of}
 use Rattle.key_script.specs.Script.{events_of, first_bad}
 use Rattle.key_script.specs.declared.keys.Event.{Event}
+use Rattle.result_files.specs.Reports.{most_report_bytes}
 use Rattle.urna_app.specs.declared.status.Doc.{Doc}
 use Rattle.urna_app.specs.declared.status.Doc.TheVariants as doc
 use Rattle.urna_app.specs.declared.status.Status.{Status}
@@ -19,7 +20,7 @@ abbrev pub limit_of : Doc → ℕ
 limit_of doc.Tables = 4194304
 limit_of doc.Roll = 16384
 limit_of doc.Keys = 16777216
-limit_of doc.Report = 1048576
+limit_of doc.Report = most_report_bytes
 limit_of doc.List = 1048576
 
 -- These are the bytes of the file of that name, where the cabinet tells its files, and they are no more than the document may have.

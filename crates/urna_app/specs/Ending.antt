@@ -4,9 +4,10 @@ use Rattle.urna_outside.specs.Cabinet.{CabinetTold}
 use Rattle.urna_outside.specs.Told.{Told}
 use Rattle.state_store.specs.Calls.{IsUntouched}
 use Rattle.urna_app.specs.Carga.{CargaEnds}
-use Rattle.urna_app.specs.Command.{Carga, Confere, Emite, ToCheck, ToEmit, ToLoad, ToTotal, ToVote, Totaliza, Vota, command_of}
+use Rattle.urna_app.specs.Command.{Carga, Confere, Emite, ToCheck, ToEmit, ToLoad, ToRehearse, ToTotal, ToVote, Totaliza, Vota, command_of}
 use Rattle.urna_app.specs.Confere.{ConfereEnds}
 use Rattle.urna_app.specs.Emite.{EmiteEnds}
+use Rattle.urna_app.specs.Ensaio.{EnsaioEnds}
 use Rattle.urna_app.specs.FaultLines.{Tells, fault_text}
 use Rattle.urna_app.specs.Taking.{HasTaken}
 use Rattle.urna_app.specs.Totaliza.{TotalizaEnds}
@@ -22,6 +23,7 @@ pub data CommandEnds (words : List (List ℕ)) (c d : CabinetTold) (m n : Told) 
   emite : {names : Emite} {s : Status} → command_of words ≡ Some (ToEmit names) → EmiteEnds names c d m n s → CommandEnds words c d m n s
   confere : {names : Confere} {s : Status} → command_of words ≡ Some (ToCheck names) → ConfereEnds names c d m n s → CommandEnds words c d m n s
   totaliza : {names : Totaliza} {s : Status} → command_of words ≡ Some (ToTotal names) → TotalizaEnds names c d m n s → CommandEnds words c d m n s
+  ensaio : {voters : ℕ} {s : Status} → command_of words ≡ Some (ToRehearse voters) → EnsaioEnds voters c d m n s → CommandEnds words c d m n s
 
 -- How a call of the program ends, by what the cabinet and the machine told before and after: as its command, and then the line
 -- that tells a fault was shown, where the status has one.

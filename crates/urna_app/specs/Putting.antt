@@ -8,7 +8,7 @@ use Rattle.election_tables.specs.declared.tables.sections.Section.{Section}
 use Rattle.turnout.specs.declared.phase.Phase.TheVariants as phase
 use Rattle.image_codec.specs.State.{State}
 use Rattle.vote_record.specs.RecordText.{record_text}
-use Rattle.urna_app.specs.Reports.{report_file}
+use Rattle.result_files.specs.Reports.{report_file}
 use Rattle.urna_app.specs.declared.status.Status.{Status}
 use Rattle.urna_app.specs.declared.status.Status.TheVariants as status
 

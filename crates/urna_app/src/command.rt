@@ -1,8 +1,9 @@
 //! The words of a command.
-ghost use Rattle.std.specs.Prelude.{◌≡◌, IfNone, IfSome, None, Some, map, string_bytes};
-ghost use Rattle.urna_app.specs.Command.{carga_of, confere_of, emite_of, named_number, totaliza_of, vota_of};
+ghost use Rattle.std.specs.Prelude.{◌≡◌, ◌≤◌, IfNone, IfSome, None, Some, map, string_bytes};
+ghost use Rattle.election_tables.specs.Limits.{most_voters};
+ghost use Rattle.urna_app.specs.Command.{carga_of, confere_of, emite_of, ensaio_of, named_number, named_voters, totaliza_of, vota_of};
 
-use election_tables::GREATEST_SECTION;
+use election_tables::{GREATEST_SECTION, MOST_VOTERS};
 use urna_base::decimal;
 
 /// The names of the files of `vota`.
@@ -138,6 +139,32 @@ pub(crate) fn totaliza_words(words: &[String]) -> Option<TotalizaNames<'_>>
         tables: tables.as_str(),
         list: list.as_str(),
     })
+}
+
+/// `ensaio N`: the number of voters.
+pub(crate) fn ensaio_words(words: &[String]) -> Option<u32>
+    ensures voters { IfSome result (λ n. ensaio_of (map string_bytes words.now) ≡ Some n) }
+    ensures range { IfSome result (λ n. (1 ≤ n) × (n ≤ most_voters)) }
+    ensures none { IfNone result (ensaio_of (map string_bytes words.now) ≡ None) }
+{
+    let [command, voters] = words else {
+        return None;
+    };
+    if command.as_str() != "ensaio" {
+        return None;
+    }
+    named_voters(voters.as_str())
+}
+
+/// A number of voters: a decimal from 1 to `MOST_VOTERS`.
+fn named_voters(word: &str) -> Option<u32>
+    ensures voters { result ≡ named_voters word.now }
+    ensures range { IfSome result (λ n. (1 ≤ n) × (n ≤ most_voters)) }
+{
+    match decimal(word.as_bytes()) {
+        Some(number) if 1 <= number && number <= MOST_VOTERS => Some(number as u32),
+        _ => None,
+    }
 }
 
 /// A zone or the number of a section: a decimal from 1 to `GREATEST_SECTION`.

@@ -8,6 +8,7 @@ use crate::errors::not_taken;
 use crate::status::{Doc, Status};
 use election_tables::{Roll, Tables};
 use key_script::{Names, Script};
+use result_files::MOST_REPORT_BYTES;
 use std::alloc::Global;
 use urna_outside::Cabinet;
 
@@ -16,8 +17,6 @@ const TABLES_LIMIT: u32 = 4_194_304;
 const ROLL_LIMIT: u32 = 16_384;
 
 const KEYS_LIMIT: u32 = 16_777_216;
-
-const REPORT_LIMIT: u32 = 1_048_576;
 
 const LIST_LIMIT: u32 = 1_048_576;
 
@@ -29,7 +28,7 @@ fn limit(doc: Doc) -> u32
         Doc::Tables => TABLES_LIMIT,
         Doc::Roll => ROLL_LIMIT,
         Doc::Keys => KEYS_LIMIT,
-        Doc::Report => REPORT_LIMIT,
+        Doc::Report => MOST_REPORT_BYTES,
         Doc::List => LIST_LIMIT,
     }
 }

@@ -1,11 +1,13 @@
-//! Laws of endings (`specs/Laws.antt`, `specs/Completion.antt`), of reports (`specs/Reports.antt`), of what is left at rest (`specs/AtRest.antt`), and the
-//! headline (`specs/Headline.antt`).
+//! Laws of endings (`specs/Laws.antt`, `specs/Completion.antt`), of files that are put (`specs/Putting.antt`, `specs/Ensaio.antt`), of what is
+//! left at rest (`specs/AtRest.antt`), and the headline (`specs/Headline.antt`).
+ghost use Rattle.urna_app.specs.Again.{CallsKeepVotes, LoadMakesReady, NextIsSafe};
 ghost use Rattle.urna_app.specs.AtRest.{SameAtRest};
-ghost use Rattle.urna_app.specs.Completion.{CompletesWhereItCan, TellsOfRisenCounts};
-ghost use Rattle.urna_app.specs.Headline.{AllAreCounted, DayKeepsVotes, KeysHaveRun, LoadBeginsDay, VotesAreKept};
+ghost use Rattle.urna_app.specs.Completion.{CompletesWhereItCan, RehearsalCompletes, TellsOfRisenCounts};
+ghost use Rattle.urna_app.specs.Ensaio.{OnlySixChange, SixAreThere};
+ghost use Rattle.urna_app.specs.Headline.{AllAreCounted, KeysHaveRun, VotesAreKept};
 ghost use Rattle.urna_app.specs.Laws.{FoundOnce, OneTotalStatus, RefusedOnce, RefusedOrGiven, TotalEndsSo};
+ghost use Rattle.urna_app.specs.NeverBusy.{LoadIsNotBusy, LoadLeavesFree};
 ghost use Rattle.urna_app.specs.Putting.{BothAreThere};
-ghost use Rattle.urna_app.specs.Reports.{SealedHasReport, SealedHasText, SealedIsAccepted};
 
 /// Where the cabinet tells its files, the words and the files determine whether they are refused, with which status, and which verdict
 /// `confere` gives. So they do the status of `totaliza`, which ends with it unless memory was wanted or the cabinet or the display failed.
@@ -27,10 +29,11 @@ pub fn one_poll()
 }
 
 /// Where the cabinet tells its files and the machine its flashes, a call that has what its command needs, and in which nothing failed,
-/// does all its steps, or memory was wanted; `confere` may refuse the report besides, and `totaliza` some of the listed ones. Over any cabinet and machine a call in which no
-/// count rose tells of none.
+/// does all its steps, or memory was wanted; `confere` may refuse the report besides, and `totaliza` some of the listed ones. Over any
+/// cabinet and machine a rehearsal does so, and a call in which no count rose tells of none.
 pub fn completion()
     ensures told { CompletesWhereItCan }
+    ensures rehearsal { RehearsalCompletes }
     ensures counts { TellsOfRisenCounts }
 {
     one_poll();
@@ -40,27 +43,39 @@ pub fn completion()
 }
 
 /// The headline. Wherever the power stops a call of `vota` behind its two opening syncs, both flashes, and from the first shown byte on
-/// each alone, hold the poll that was found with the ballots whose FIM was shown, and with at most one more; over a day of calls, which
-/// a load begins, with at most one more of each call. Where a call ends with Done they hold all ballots of its run. Each list of keys
-/// has a run.
+/// each alone, hold the poll that was found with the ballots whose FIM was shown, and with at most one more: that poll, or one of the
+/// states that the run commits. Where a call ends with Done they hold all ballots of its run. Each list of keys has a run.
 pub fn votes_are_kept()
     ensures kept { VotesAreKept }
-    ensures day { DayKeepsVotes }
-    ensures load { LoadBeginsDay }
     ensures counted { AllAreCounted }
     ensures run { KeysHaveRun }
 {}
 
-/// Each sealed poll of a section of the tables has a report, the report a text that spells it, and the text a file that is accepted.
-pub fn reports()
-    ensures report { SealedHasReport }
-    ensures text { SealedHasText }
-    ensures accepted { SealedIsAccepted }
+/// Calls of `vota` and `emite` over flashes that a load made ready, one after the other, each of which the power stops anywhere or which
+/// ends: what is left behind them has the ballots whose FIM was shown in any of them, and at most one more of each that was stopped or
+/// that a flash or the display failed. The next call finds such a poll, and the headline holds of it.
+pub fn again_and_again()
+    ensures kept { CallsKeepVotes }
+    ensures next { NextIsSafe }
+    ensures load { LoadMakesReady }
+{}
+
+/// Where neither flash is in use when `carga` has synced both, neither is at any later stop of the call; and where neither is, `carga`
+/// doesn't answer that one is. So a load that is stopped keeps no later load from its work.
+pub fn never_busy()
+    ensures free { LoadLeavesFree }
+    ensures answer { LoadIsNotBusy }
 {}
 
 /// Where both files of results were put, both are in the cabinet, under two names, and all other names are as before.
 pub fn both_files()
     ensures { BothAreThere }
+{}
+
+/// However `ensaio` ends, no name but its six is changed, and where its files were put all six are in the cabinet.
+pub fn six_files()
+    ensures others { OnlySixChange }
+    ensures there { SixAreThere }
 {}
 
 /// Two polls of one load with the same moments, voters and votes leave the same flashes and the same files of results, in whatever order

@@ -2,7 +2,7 @@
 //!
 //! `urna` is the call by which the program does its command. What it says of the files, of the text that is shown and of each
 //! status stands in `specs/Ending.antt`, and by command in `specs/Vota.antt`, `specs/Carga.antt`, `specs/Emite.antt`,
-//! `specs/Confere.antt` and `specs/Totaliza.antt` (docs/RULES.md, "The run"; docs/FORMATS.md, "Statuses").
+//! `specs/Confere.antt`, `specs/Totaliza.antt` and `specs/Ensaio.antt` (docs/RULES.md, "The run"; docs/FORMATS.md, "Statuses").
 #![tactic(auto)]
 
 ghost use Rattle.std.specs.Prelude.{map, string_bytes};
@@ -15,6 +15,7 @@ mod command;
 mod confere;
 mod documents;
 mod emite;
+mod ensaio;
 mod errors;
 mod fault;
 mod laws;
@@ -33,9 +34,10 @@ mod vota;
 mod words;
 
 use carga::carga;
-use command::{carga_words, confere_words, emite_words, totaliza_words, vota_words};
+use command::{carga_words, confere_words, emite_words, ensaio_words, totaliza_words, vota_words};
 use confere::confere;
 use emite::emite;
+use ensaio::ensaio;
 use fault::tell_fault;
 use state_store::DEVICE_SIZE;
 use status::Status;
@@ -56,8 +58,9 @@ const NO_WORDS: u8 = 40;
 /// recovers the poll that the flashes hold, runs the session of the keys over it, and where the poll is sealed then puts its report and
 /// its record as `OUT.bu` and `OUT.rdv`. `emite TABLES ROLL OUT` puts these two files of the sealed poll that the flashes hold, and writes
 /// nothing on a flash. `confere TABLES REPORT` tells whether the file of a report is whole and fits the tables. `totaliza TABLES LIST` tells
-/// that of each report that the list names, and the sums and the seats, or the winner, of each office over those that are accepted. Where
-/// the command was refused, a line tells why.
+/// that of each report that the list names, and the sums and the seats, or the winner, of each office over those that are accepted.
+/// `ensaio N` rehearses a whole election of N voters in memory, puts its files and tells its lines. Where the command was refused, a line
+/// tells why.
 pub fn urna<M: Machine, C: Cabinet>(
     alloc: Global,
     words: &[String],
@@ -99,6 +102,9 @@ fn run_command<M: Machine, C: Cabinet>(
     }
     if let Some(names) = totaliza_words(words) {
         return totaliza(alloc, names, machine, cabinet);
+    }
+    if let Some(voters) = ensaio_words(words) {
+        return ensaio(alloc, voters, machine, cabinet);
     }
     Err(Status::Usage)
 }

@@ -1,5 +1,5 @@
 //! The files of results of a sealed poll: the report in parts, and the record.
-ghost use Rattle.std.specs.Prelude.{◌≡◌, ◌≢◌, ◌++◌, IfOk, IfErr, OnOk, codes, string_bytes};
+ghost use Rattle.std.specs.Prelude.{◌≡◌, ◌≢◌, ◌++◌, IfOk, IfErr, OnOk, string_bytes};
 ghost use Rattle.std.specs.List.{Contains};
 ghost use Rattle.election_tables.specs.TablesData.{IsTables};
 ghost use Rattle.turnout.specs.declared.phase.Phase.TheVariants as phase;
@@ -10,27 +10,23 @@ ghost use Rattle.urna_app.specs.Taking.{status_in};
 
 use crate::status::Status;
 use election_tables::{Section, Tables};
-use hash_chain::make_parts;
 use image_codec::State;
-use poll_report::Report;
-use qr_text::write_fields;
+use result_files::{Results, results_of};
 use std::alloc::Global;
 use turnout::Phase;
 use urna_base::Memory;
 use urna_outside::Cabinet;
-use vote_record::rdv_text;
 
-/// The files of results, made before the first is put, so that want of memory leaves the cabinet as it was.
+/// The files of results with their names, made before the first is put, so that want of memory leaves the cabinet as it was.
 #[derive(Drop)]
-struct Results {
+struct NamedResults {
     report_name: String,
-    report: Vec<u8>,
     record_name: String,
-    record: Vec<u8>,
+    files: Results,
 }
 
 /// The files of the sealed poll of a section, opened and closed at these moments, under the word OUT.
-fn results_of(
+fn named_results(
     alloc: Global,
     out: &str,
     tables: &Tables,
@@ -38,28 +34,17 @@ fn results_of(
     state: &State,
     opened: u64,
     closed: u64,
-) -> Result<Results, Memory>
+) -> Result<NamedResults, Memory>
     requires valid { IsTables tables.now }
     requires section { Contains tables.now.sections section }
     requires state { IsStateOf tables.now section.voters state.now }
     requires sealed { state.now.phase ≡ phase.Sealed opened closed }
     ensures { IfOk result (λ r. entries_of r ≡ result_files out.now tables.now section state.now opened closed) }
 {
-    let report = Report::of(
-        alloc,
-        tables,
-        section,
-        state.votes(),
-        state.turnout(),
-        opened,
-        closed,
-    )?;
-    let fields = write_fields(alloc, &report)?;
-    Ok(Results {
+    Ok(NamedResults {
         report_name: named(alloc, out, ".bu")?,
-        report: make_parts(alloc, &fields)?,
         record_name: named(alloc, out, ".rdv")?,
-        record: rdv_text(alloc, tables, section, state.votes())?,
+        files: results_of(alloc, tables, section, state, opened, closed)?,
     })
 }
 
@@ -73,12 +58,12 @@ fn named(alloc: Global, out: &str, ending: &str) -> Result<String, Memory>
 }
 
 /// Puts both files, the report first.
-fn put_results<C: Cabinet>(cabinet: &mut C, results: &Results) -> Result<(), Status>
+fn put_results<C: Cabinet>(cabinet: &mut C, results: &NamedResults) -> Result<(), Status>
     ensures ok { OnOk result (HavePut (entries_of results.now) (C.told cabinet.old) (C.told cabinet.new)) }
     ensures err { IfErr result (λ s. (s ≡ Status.Cabinet) × StopPutting (entries_of results.now) (C.told cabinet.old) (C.told cabinet.new)) }
 {
-    cabinet.put(results.report_name.as_str(), &results.report)?;
-    cabinet.put(results.record_name.as_str(), &results.record)?;
+    cabinet.put(results.report_name.as_str(), &results.files.report)?;
+    cabinet.put(results.record_name.as_str(), &results.files.record)?;
     Ok(())
 }
 
@@ -100,7 +85,7 @@ pub(crate) fn deliver_sealed<C: Cabinet>(
     ensures put { PutsResults out.now tables.now section state.now (C.told cabinet.old) (C.told cabinet.new) (status_in result) }
     ensures err { IfErr result (λ s. s ≢ Status.Done) }
 {
-    let results = results_of(alloc, out, tables, section, state, opened, closed)?;
+    let results = named_results(alloc, out, tables, section, state, opened, closed)?;
     put_results(cabinet, &results)
 }
 

@@ -9,11 +9,14 @@ use std::test::Fail;
 use urna_base::Memory;
 use urna_outside::{Dev, Recorder, Tear};
 
-/// How many operations a commit has.
-const COMMIT: u32 = 24;
+/// How many operations the commit of an opening has, which changes one page of each slot.
+const OPENING: u32 = 24;
+
+/// And that of a voter, which changes two.
+const COMMIT: u32 = 28;
 
 /// The two syncs with which a session begins.
-const SYNCS: u32 = 2;
+pub(crate) const SYNCS: u32 = 2;
 
 const OPENS: Given = Given {
     keys: Some(b"M ABRE 20261004080000\n"),
@@ -63,7 +66,7 @@ const HELD: [&[u8]; 4] = [
 ];
 
 /// What a power cut leaves after the first operations of a machine's trail.
-fn stopped(
+pub(crate) fn stopped(
     rt: &(impl Abort + AllocGlobal),
     m: &Recorder,
     ops: u32,
@@ -95,7 +98,7 @@ fn tells_each(
     Ok(both && internal && external)
 }
 
-/// What is left where the commit of the first voter is stopped in its fifth operation, the put of the first gate.
+/// What is left where the commit of the first voter is stopped in its sixth operation, the put of the first gate.
 fn stopped_at_gate(
     rt: &(impl Abort + AllocGlobal),
     opened: &Recorder,
@@ -104,7 +107,7 @@ fn stopped_at_gate(
     let (status, voted) = run(rt, FIRST_VOTER, left(rt, opened)?)?;
     assert_eq!(rt; status, Status::Done);
     let quiet = voted.trail_len().saturating_sub(COMMIT + 1);
-    stopped(rt, &voted, quiet.saturating_add(5), tear)
+    stopped(rt, &voted, quiet.saturating_add(6), tear)
 }
 
 /// An open poll, before its first voter.
@@ -188,9 +191,15 @@ fn goes_on_with_one_voter(rt: &(impl Abort + AllocGlobal), images: Images) -> Re
     Ok(())
 }
 
-/// Whether a line tells a new state.
-fn tells(line: &[u8]) -> bool {
-    line == b"FIM".as_slice() || line.starts_with(b"ABERTA ")
+/// How many operations the commit of the state has that a line tells, if it tells one.
+fn commit_before(line: &[u8]) -> Option<u32> {
+    if line == b"FIM".as_slice() {
+        return Some(COMMIT);
+    }
+    if line.starts_with(b"ABERTA ") {
+        return Some(OPENING);
+    }
+    None
 }
 
 /// How many lines that tell a state the first operations of a session show, and whether they show any.
@@ -199,12 +208,11 @@ fn reached(shown: &[u8], ops: u32) -> (usize, bool) {
     let mut commits = 0usize;
     let mut any = false;
     for line in shown.split(|byte| *byte == b'\n') {
-        if tells(line) {
-            at = at.saturating_add(COMMIT);
-        }
+        let commit = commit_before(line);
+        at = at.saturating_add(commit.unwrap_or(0));
         if at < ops && !line.is_empty() {
             any = true;
-            if tells(line) {
+            if commit.is_some() {
                 commits = commits.saturating_add(1);
             }
         }
@@ -283,7 +291,7 @@ fn two_voters(rt: &(impl Abort + AllocGlobal)) -> Result<Recorder, Fail> {
 }
 
 /// What stands in dirty bytes.
-const TEARS: [Tear; 4] = [
+pub(crate) const TEARS: [Tear; 4] = [
     Tear::AsPut,
     Tear::Byte(0),
     Tear::Byte(0x5A),
@@ -316,7 +324,7 @@ M ENCERRA 20261004170000
 };
 
 /// An image with the bytes of another one wherever two tears differ, which is where it is dirty.
-fn filled(
+pub(crate) fn filled(
     rt: &impl AllocGlobal,
     zeros: &[u8],
     ones: &[u8],
@@ -350,8 +358,11 @@ fn a_session_stopped_over_a_later_state(rt: HostRuntime) -> Result<(), Fail> {
     Ok(())
 }
 
-/// Where a write of a body is torn: behind its phase, behind the number who came and behind their marks, in either slot.
-const PLACES: [usize; 6] = [1_026, 1_046, 1_121, 67_074, 67_094, 67_169];
+/// Where a write of a page is torn, in either slot: of page 0 behind the phase, behind the number who came and behind their marks; of page
+/// 1 inside the first counter, behind it and inside the last.
+const PLACES: [usize; 12] = [
+    1_026, 1_046, 1_121, 1_539, 1_540, 1_574, 67_074, 67_094, 67_169, 67_587, 67_588, 67_622,
+];
 
 /// The front of one image and the rest of another.
 fn torn_at(rt: &impl AllocGlobal, new: &[u8], old: &[u8], at: usize) -> Result<Vec<u8>, Memory> {
@@ -365,7 +376,7 @@ fn torn_at(rt: &impl AllocGlobal, new: &[u8], old: &[u8], at: usize) -> Result<V
 
 /// The next operation is stopped where it has put the bytes up to a place.
 #[test]
-fn a_session_stopped_inside_each_body(rt: HostRuntime) -> Result<(), Fail> {
+fn a_session_stopped_inside_each_page(rt: HostRuntime) -> Result<(), Fail> {
     let m = two_voters(&rt)?;
     for ops in SYNCS..m.trail_len() {
         let old = stopped(&rt, &m, ops, Tear::AsPut)?;

@@ -5,4 +5,6 @@ pub(crate) mod given;
 mod lists;
 mod polls;
 mod refused;
+mod rehearsals;
 mod results;
+mod versions;

@@ -24,7 +24,7 @@ course_from_stage d In n P a b run = (
   record { within = in_from_within d In run.0 run.2.within; syncs = run.2.syncs; stops = run.2.stops },
 )
 
-in-append : (In : Dev → ℕ → Type 0) (xs ys : List Op) → AreIn In xs → AreIn In ys → AreIn In (xs ++ ys)
+pub in-append : (In : Dev → ℕ → Type 0) (xs ys : List Op) → AreIn In xs → AreIn In ys → AreIn In (xs ++ ys)
 in-append In [] ys first second = second
 in-append In (x ∷ xs) ys first second = (first.0, in-append In xs ys first.1 second)
 

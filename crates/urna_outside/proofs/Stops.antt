@@ -7,6 +7,11 @@ use Rattle.urna_outside.specs.declared.device.Dev.{Dev}
 use Rattle.urna_outside.proofs.Doing.{after-append, shown_by-append}
 use Rattle.urna_outside.proofs.Keeping.{HasPlaces, within_keeps}
 
+-- all operations are a stop of them
+pub stop_whole : (ops : List Op) → IsStop ops ops
+stop_whole [] = tt
+stop_whole (op ∷ ops) = inl (refl, stop_whole ops)
+
 -- a stop of two runs is one of the first, or the whole first and a stop of the second
 pub stop-append : (xs ys done : List Op) → IsStop (xs ++ ys) done → IsStop xs done ⊎ ((rest : List Op) × (done ≡ xs ++ rest) × IsStop ys rest)
 stop-append xs ys [] stop = inl tt

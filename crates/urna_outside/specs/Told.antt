@@ -53,7 +53,7 @@ pub record Told : Type 0 where
 
 -- a count rose: it is greater now, or stands at its last value
 abbrev pub Rose : ℕ → ℕ → Type 0
-Rose before now = now < 2 ^ 64 - 1 → before < now
+Rose before now = now ≢ 2 ^ 64 - 1 → before < now
 
 -- a count after one more: at its last value it stands
 abbrev pub one_more : ℕ → ℕ

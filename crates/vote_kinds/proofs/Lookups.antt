@@ -1,14 +1,15 @@
 -- Look-ups in the tables, as the lines of the ballot see them
-use Rattle.std.proofs.Common.{◌≡◌, ℕ, ◌+◌, ◌≤◌, ◌||◌, zero, suc, Bool, true, false, cond, List, [], ◌∷◌, map, length, replicate, slice_get, Option, Some, None, option_map, unwrap_or, nat_eq, find, is_some, Bor, option_copied, refl, sym, ap, subst, ◌∙◌, inl, inr, arith}
+use Rattle.std.proofs.Common.{◌≡◌, ℕ, ◌+◌, ◌<◌, ◌≤◌, ◌||◌, zero, suc, Bool, true, false, cond, List, [], ◌∷◌, map, length, replicate, slice_get, Option, Some, None, option_map, unwrap_or, nat_eq, find, is_some, Bor, option_copied, refl, sym, ap, subst, ◌∙◌, inl, inr, arith}
 use Rattle.std.specs.List.{flat_map, list_any, All}
-use Rattle.std.proofs.lemmas.Option.{slice_get_cases}
+use Rattle.std.proofs.lemmas.Option.{slice_get-get_or, slice_get-map, slice_get_cases, unwrap_or-slice_get}
 use Rattle.election_tables.proofs.Kept.{code_digits-range}
 use Rattle.std.specs.Option.{option_map_or}
 use Rattle.std.proofs.lemmas.Bool.Decides.{nat_tests}
 use Rattle.election_tables.specs.declared.office.Office.{Office}
 use Rattle.election_tables.specs.declared.tables.panels.Panel.{Panel}
+use Rattle.election_tables.specs.declared.tables.candidates.Candidate.{Candidate}
 use Rattle.election_tables.specs.declared.tables.candidates.NamedCandidate.{NamedCandidate}
-use Rattle.election_tables.specs.TablesData.{TablesData, IsTables, IsPanel, candidates_at, candidate_name, party_name, places_in, places_of}
+use Rattle.election_tables.specs.TablesData.{TablesData, IsTables, IsPanel, candidates_at, candidate_name, without_name, party_name, places_in, places_of}
 use Rattle.vote_kinds.specs.Ballot.{BallotLine, no_panel, panel_at, line_for, line_of, lines_from, lines_by_panel, ballot_lines}
 
 office_in : (o : Option Panel) (r : Office) → option_map (λ p. p.office) o ≡ Some r → r ≡ (unwrap_or o no_panel).office
@@ -26,6 +27,18 @@ candidates_in (Some p) = refl
 -- the candidates that the tables tell are those of the panel
 pub candidates_known : (t : TablesData) (panel : ℕ) → candidates_at panel t ≡ (panel_at t panel).candidates
 candidates_known t panel = candidates_in (slice_get t.panels panel)
+
+-- what the tables tell of a candidate has its number
+pub candidate_number : (found : Option NamedCandidate) (r : Candidate) → option_map without_name found ≡ Some r → option_map (λ c. c.number) found ≡ Some r.number
+candidate_number None r e = absurd (cc)
+candidate_number (Some c) r e = let same : without_name c ≡ r = cc in ap (λ (d : Candidate). Some d.number) same
+
+-- the number of a candidate that the tables tell stands in its place of the line
+pub candidate_at : (t : TablesData) (panel i : ℕ) (r : Candidate) → option_map without_name (slice_get (candidates_at panel t) i) ≡ Some r
+    → slice_get (line_of t panel).candidates i ≡ Some r.number
+candidate_at t panel i r e =
+    ap (λ (cs : List NamedCandidate). slice_get (map (λ c. c.number) cs) i) (sym (candidates_known t panel))
+    ∙ slice_get-map (λ c. c.number) (candidates_at panel t) i ∙ candidate_number (slice_get (candidates_at panel t) i) r e
 
 same_test : (m n : ℕ) → nat_eq m n ≡ nat_eq n m
 same_test m n = grind (arith, nat_tests)
@@ -118,3 +131,9 @@ line_in_digits t n panels l all k e = elim ((slice_get_cases panels k).1) [
 -- each line of the ballot has two to five digits
 pub line_digits : (t : TablesData) → IsTables t → (n : ℕ) (l : BallotLine) → slice_get (ballot_lines t) n ≡ Some l → (2 ≤ l.digits) × (l.digits ≤ 5)
 line_digits t is n l e = line_in_digits t n t.panels l is.panels n (sym (line_get t n) ∙ e)
+
+-- the line of a panel of the tables
+pub line_found : (t : TablesData) (panel : ℕ) → panel < length t.panels → slice_get (lines_by_panel t) panel ≡ Some (line_of t panel)
+line_found t panel lt =
+    by_panel_get t panel ∙ ap (option_map (line_for t panel)) (slice_get-get_or t.panels panel no_panel lt)
+    ∙ ap (λ (p : Panel). Some (line_for t panel p)) (sym (unwrap_or-slice_get t.panels panel no_panel))

@@ -1,5 +1,5 @@
 -- The lines of a ballot, and the choice that a field stands for
-use Rattle.std.specs.Prelude.{ℕ, ◌+◌, ◌^◌, ◌<◌, ◌≤◌, Bool, true, false, not, ◌&&◌, List, [], ◌∷◌, map, replicate, Option, Some, None, unwrap_or, slice_get, nat_eq, nat_le, ◌==◌, if◌then◌else◌}
+use Rattle.std.specs.Prelude.{ℕ, ◌+◌, ◌^◌, ◌<◌, ◌≤◌, Bool, true, false, not, ◌&&◌, List, [], ◌∷◌, ◌++◌, map, replicate, Option, Some, None, unwrap_or, slice_get, nat_eq, nat_le, ◌==◌, if◌then◌else◌}
 use Rattle.std.specs.List.{flat_map, list_any}
 use Rattle.election_tables.specs.Fields.{first_two}
 use Rattle.election_tables.specs.TablesData.{TablesData, places_in}
@@ -105,3 +105,9 @@ is_choice line (choice.Nominal number) = list_any (nat_eq number) line.candidate
 is_choice line (choice.Party number) = line.proportional && list_any (nat_eq number) line.parties
 is_choice line choice.Blank = true
 is_choice line choice.Null = true
+
+-- the choices of a line in the order of choices: its candidates, in a proportional office the parties, blank and null
+abbrev pub choices_of : BallotLine → List Choice
+choices_of line =
+    map (λ n. choice.Nominal n) line.candidates
+    ++ ((if line.proportional then map (λ n. choice.Party n) line.parties else []) ++ choice.Blank ∷ choice.Null ∷ [])

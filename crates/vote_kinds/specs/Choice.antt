@@ -1,5 +1,6 @@
 -- The order of choices: nominal rising, party rising, blank, null
-use Rattle.std.specs.Prelude.{ℕ, Bool, ◌==◌, ◌&&◌, nat_le, nat_lt, if◌then◌else◌, Option, Some, None}
+use Rattle.std.specs.Prelude.{◌≡◌, ℕ, Bool, false, ◌==◌, ◌&&◌, nat_le, nat_lt, if◌then◌else◌, List, [], ◌∷◌, Option, Some, None}
+use Rattle.std.specs.List.{AllByRecursion}
 use Rattle.vote_kinds.specs.declared.choice.Choice.{Choice}
 use Rattle.vote_kinds.specs.declared.choice.Choice.TheVariants as choice
 
@@ -33,3 +34,8 @@ choice_le a b = if kind_of a == kind_of b then nat_le (number_of a) (number_of b
 -- a is b
 abbrev pub is_same : Choice → Choice → Bool
 is_same a b = kind_of a == kind_of b && number_of a == number_of b
+
+-- each of these choices stands before all later ones, and so none stands twice
+abbrev pub AreRising : List Choice → Type 0
+AreRising [] = Unit {0}
+AreRising (c ∷ choices) = AllByRecursion (λ d. choice_le d c ≡ false) choices × AreRising choices

@@ -1,5 +1,5 @@
 -- Bags of choices: the order in which members come doesn't count
-use Rattle.std.proofs.Common.{◌≡◌, ℕ, zero, suc, ◌+◌, ◌≤◌, ◌<◌, ◌≢◌, Bool, true, false, cond, List, [], ◌∷◌, ◌++◌, length, inl, inr, refl, sym, ap, subst, ◌∙◌, nat_le, nat_lt, arith, ◌==◌}
+use Rattle.std.proofs.Common.{◌≡◌, ℕ, zero, suc, ◌+◌, ◌≤◌, ◌<◌, ◌≢◌, Bool, true, false, cond, List, [], ◌∷◌, ◌++◌, length, replicate, inl, inr, refl, sym, ap, subst, ◌∙◌, nat_le, nat_lt, arith, ◌==◌}
 use Rattle.std.proofs.lemmas.Bool.{cases_Bool}
 use Rattle.std.proofs.lemmas.Bool.Decides.{nat_tests}
 use Rattle.std.proofs.lemmas.List.Sums.{sum_by-cons}
@@ -7,7 +7,8 @@ use Rattle.std.specs.List.{AllByRecursion}
 use Rattle.vote_kinds.specs.declared.choice.Choice.{Choice}
 use Rattle.vote_kinds.specs.declared.choice.Choice.TheVariants as choice
 use Rattle.vote_kinds.specs.Choice.{choice_le, is_same, kind_of, number_of}
-use Rattle.vote_record.specs.Bag.{IsInOrder, count_of, with_choice, bag_at, with_vote}
+use Rattle.vote_kinds.proofs.LineChoices.{same_refl}
+use Rattle.vote_record.specs.Bag.{IsInOrder, count_of, with_choice, with_choices, bag_at, with_vote}
 
 -- the order on two numbers
 abbrev order : ℕ → ℕ → ℕ → ℕ → Bool
@@ -111,9 +112,6 @@ count_of-with_choice c d (e ∷ bag) = elim (cases_Bool (choice_le d e)) [
 pub same_true : (a b : Choice) → is_same a b ≡ true → a ≡ b
 same_true a b h = same_choice a b (grind (arith, nat_tests)) (grind (arith, nat_tests))
 
-same_refl : (a : Choice) → is_same a a ≡ true
-same_refl a = grind (arith, nat_tests)
-
 pub le_refl : (a : Choice) → choice_le a a ≡ true
 le_refl a = grind (arith, nat_tests)
 
@@ -190,6 +188,40 @@ with_choice-last c (d ∷ bag) p all =
           rw t (ap (λ (x : Choice). x ∷ d ∷ bag) e ∙ ap (λ (x : Choice). d ∷ x ∷ bag) (sym e) ∙ sym (ap (λ (t : List Choice). d ∷ t) front) ∙ rest)
       | inr f ↦ rw f rest
     ]
+
+-- So many members more
+
+pub all_append : (P : Choice → Type 0) (front bag : List Choice) → AllByRecursion P front → AllByRecursion P bag → AllByRecursion P (front ++ bag)
+all_append P [] bag p q = q
+all_append P (d ∷ front) bag p q = (p.0, all_append P front bag p.1 q)
+
+pub all_replicate : (P : Choice → Type 0) (n : ℕ) (c : Choice) → P c → AllByRecursion P (replicate n c)
+all_replicate P zero c p = tt
+all_replicate P (suc n) c p = (p, all_replicate P n c p)
+
+pub length-with_choices : (n : ℕ) (c : Choice) (bag : List Choice) → length (with_choices n c bag) ≡ length bag + n
+length-with_choices zero c bag = omega arith
+length-with_choices (suc n) c bag = let more = length-with_choices n c bag in let one = length-with_choice c (with_choices n c bag) in omega arith
+
+pub in_order-with_choices : (n : ℕ) (c : Choice) (bag : List Choice) → IsInOrder bag → IsInOrder (with_choices n c bag)
+in_order-with_choices zero c bag p = p
+in_order-with_choices (suc n) c bag p = in_order-with_choice c (with_choices n c bag) (in_order-with_choices n c bag p)
+
+-- they go to the front of members that stand at or after them
+pub with_choices-front : (n : ℕ) (c : Choice) (bag : List Choice) → AllByRecursion (λ d. choice_le c d ≡ true) bag → with_choices n c bag ≡ replicate n c ++ bag
+with_choices-front zero c bag all = refl
+with_choices-front (suc n) c bag all =
+    ap (with_choice c) (with_choices-front n c bag all)
+    ∙ with_choice-front c (replicate n c ++ bag) (all_append (λ d. choice_le c d ≡ true) (replicate n c) bag (all_replicate (λ d. choice_le c d ≡ true) n c (le_refl c)) all)
+
+with_choice-past : (c : Choice) (front bag : List Choice) → AllByRecursion (λ d. choice_le c d ≡ false) front → with_choice c (front ++ bag) ≡ front ++ with_choice c bag
+with_choice-past c [] bag all = refl
+with_choice-past c (d ∷ front) bag all = rw all.0 (ap (λ (t : List Choice). d ∷ t) (with_choice-past c front bag all.1))
+
+-- and behind members that stand before them
+pub with_choices-past : (n : ℕ) (c : Choice) (front bag : List Choice) → AllByRecursion (λ d. choice_le c d ≡ false) front → with_choices n c (front ++ bag) ≡ front ++ with_choices n c bag
+with_choices-past zero c front bag all = refl
+with_choices-past (suc n) c front bag all = ap (with_choice c) (with_choices-past n c front bag all) ∙ with_choice-past c front (with_choices n c bag) all
 
 -- The bag of one panel
 

@@ -1,6 +1,10 @@
 pub mod Bags
+pub mod Counting
+pub mod Filling
 pub mod Empty
-pub mod Sorted
+mod Sets
+mod StoredCounters
+mod NewCounters
 mod Stored
 mod TextLaws
 mod Votes

@@ -8,8 +8,10 @@ use Rattle.election_tables.specs.declared.office.Kind.TheVariants as kind
 use Rattle.election_tables.specs.declared.tables.panels.Panel.{Panel}
 use Rattle.election_tables.specs.declared.tables.sections.Section.{Section}
 use Rattle.vote_kinds.specs.declared.choice.Choice.TheVariants as choice
+use Rattle.vote_kinds.specs.Ballot.{BallotLine, choices_of}
 use Rattle.vote_kinds.specs.Choice.{choice_le}
-use Rattle.vote_record.specs.Bag.{count_of, with_choice, with_vote}
+use Rattle.vote_record.specs.Bag.{count_of, with_choice, with_choices, with_vote}
+use Rattle.vote_record.specs.Counters.{bag_with, counts_of}
 use Rattle.vote_record.specs.RecordText.{election_words, heading, panel_text, record_text, section_words}
 
 -- nominal rising, party rising, blank, null
@@ -26,8 +28,36 @@ between = refl
 twice : count_of choice.Blank (choice.Nominal 13 ∷ choice.Blank ∷ choice.Blank ∷ []) ≡ 2
 twice = refl
 
+three_more : with_choices 3 choice.Blank (choice.Nominal 13 ∷ choice.Blank ∷ choice.Null ∷ [])
+    ≡ choice.Nominal 13 ∷ choice.Blank ∷ choice.Blank ∷ choice.Blank ∷ choice.Blank ∷ choice.Null ∷ []
+three_more = refl
+
+none_more : with_choices 0 choice.Blank (choice.Null ∷ []) ≡ choice.Null ∷ []
+none_more = refl
+
 second_panel : with_vote 1 choice.Null ((choice.Blank ∷ []) ∷ (choice.Blank ∷ []) ∷ []) ≡ (choice.Blank ∷ []) ∷ (choice.Blank ∷ choice.Null ∷ []) ∷ []
 second_panel = refl
+
+-- ---- the counters
+
+-- a proportional office with two candidates, and a majority office with one, where there are two parties
+abbrev councillor : BallotLine
+councillor = record { panel = 0; code = 13; digits = 5; proportional = true; places = 1; candidates = 13001 ∷ 45001 ∷ []; parties = 13 ∷ 45 ∷ [] }
+
+abbrev one_candidate : BallotLine
+one_candidate = record { panel = 1; code = 11; digits = 2; proportional = false; places = 1; candidates = 13 ∷ []; parties = 13 ∷ 45 ∷ [] }
+
+all_choices : choices_of councillor ≡ choice.Nominal 13001 ∷ choice.Nominal 45001 ∷ choice.Party 13 ∷ choice.Party 45 ∷ choice.Blank ∷ choice.Null ∷ []
+all_choices = refl
+
+no_parties : choices_of one_candidate ≡ choice.Nominal 13 ∷ choice.Blank ∷ choice.Null ∷ []
+no_parties = refl
+
+counted : counts_of (choices_of councillor) (choice.Nominal 13001 ∷ choice.Nominal 13001 ∷ choice.Party 45 ∷ choice.Null ∷ []) ≡ 2 ∷ 0 ∷ 0 ∷ 1 ∷ 0 ∷ 1 ∷ []
+counted = refl
+
+as_bag : bag_with (choices_of councillor) (2 ∷ 0 ∷ 0 ∷ 1 ∷ 0 ∷ 1 ∷ []) ≡ choice.Nominal 13001 ∷ choice.Nominal 13001 ∷ choice.Party 45 ∷ choice.Null ∷ []
+as_bag = refl
 
 -- ---- the text
 

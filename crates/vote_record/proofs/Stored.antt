@@ -1,28 +1,30 @@
 -- The bags of a record as they are stored
 use Rattle.std.proofs.Common.{◌≡◌, ℕ, zero, suc, ◌*◌, ◌<◌, List, [], ◌∷◌, length, get_or, map, slice_set, slice_index, replicate, refl, sym, ap, subst, ◌∙◌, arith}
+use Rattle.std.proofs.lemmas.List.{map-set}
 use Rattle.vote_kinds.specs.declared.choice.Choice.{Choice}
 use Rattle.vote_record.specs.Bag.{with_choice, bag_at, with_vote}
 use Rattle.vote_record.specs.BagData.{BagData}
 use Rattle.vote_record.specs.RdvData.{RdvData, room_at}
+use Rattle.vote_record.proofs.Sets.{map-set_same}
 
 -- what contracts see of stored bags
-abbrev pub members_of : List BagData → List (List Choice)
-members_of bags = map (λ b. b.members) bags
+abbrev pub bags_in : List BagData → List (List Choice)
+bags_in bags = map (λ b. b.members) bags
 
 abbrev pub rooms_of : List BagData → List ℕ
 rooms_of bags = map (λ b. b.room) bags
 
 abbrev pub data_of : List BagData → ℕ → List ℕ → RdvData
-data_of bags voters places = record { bags = members_of bags; voters = voters; places = places }
+data_of bags voters places = record { bags = bags_in bags; voters = voters; places = places }
 
-pub length-members : (bags : List BagData) → length (members_of bags) ≡ length bags
-length-members [] = refl
-length-members (b ∷ bags) = ap suc (length-members bags)
+pub length-bags_in : (bags : List BagData) → length (bags_in bags) ≡ length bags
+length-bags_in [] = refl
+length-bags_in (b ∷ bags) = ap suc (length-bags_in bags)
 
-pub bag_at-members : (bags : List BagData) (panel : ℕ) (d : BagData) → panel < length bags → bag_at (members_of bags) panel ≡ (get_or bags panel d).members
-bag_at-members [] panel d lt = absurd (omega arith)
-bag_at-members (b ∷ bags) zero d lt = refl
-bag_at-members (b ∷ bags) (suc panel) d lt = bag_at-members bags panel d (omega arith)
+pub bag_at-bags_in : (bags : List BagData) (panel : ℕ) (d : BagData) → panel < length bags → bag_at (bags_in bags) panel ≡ (get_or bags panel d).members
+bag_at-bags_in [] panel d lt = absurd (omega arith)
+bag_at-bags_in (b ∷ bags) zero d lt = refl
+bag_at-bags_in (b ∷ bags) (suc panel) d lt = bag_at-bags_in bags panel d (omega arith)
 
 pub room-at : (voters : ℕ) (bags : List BagData) (places : List ℕ) (panel : ℕ) (d : BagData)
     → rooms_of bags ≡ map (λ n. voters * n) places → panel < length bags → (get_or bags panel d).room ≡ voters * slice_index places panel
@@ -33,29 +35,27 @@ room-at voters (b ∷ bags) (n ∷ places) (suc panel) d e lt =
     let rest : rooms_of bags ≡ map (λ m. voters * m) places = cc in
     room-at voters bags places panel d rest (omega arith)
 
--- a bag with one member more in the place of what it was
+-- another bag in the place of one
 
-pub members-set : (c : Choice) (bags : List BagData) (panel : ℕ) (before after : BagData) → panel < length bags
-    → before ≡ get_or bags panel before → after.members ≡ with_choice c before.members
-    → members_of (slice_set bags panel after) ≡ with_vote panel c (members_of bags)
-members-set c [] panel before after lt read more = absurd (omega arith)
-members-set c (b ∷ bags) zero before after lt read more = ap (λ (m : List Choice). m ∷ members_of bags) (more ∙ ap (λ (x : BagData). with_choice c x.members) read)
-members-set c (b ∷ bags) (suc panel) before after lt read more =
-    ap (λ (m : List (List Choice)). b.members ∷ m) (members-set c bags panel before after (omega arith) read more)
+pub bags-set : (bags : List BagData) (panel : ℕ) (after : BagData) → bags_in (slice_set bags panel after) ≡ slice_set (bags_in bags) panel after.members
+bags-set bags panel after = map-set (λ b. b.members) bags panel after
 
 pub rooms-set : (bags : List BagData) (panel : ℕ) (before after : BagData) → panel < length bags
     → before ≡ get_or bags panel before → after.room ≡ before.room → rooms_of (slice_set bags panel after) ≡ rooms_of bags
-rooms-set [] panel before after lt read same = absurd (omega arith)
-rooms-set (b ∷ bags) zero before after lt read same = ap (λ (n : ℕ). n ∷ rooms_of bags) (same ∙ ap (λ (x : BagData). x.room) read)
-rooms-set (b ∷ bags) (suc panel) before after lt read same =
-    ap (λ (n : List ℕ). b.room ∷ n) (rooms-set bags panel before after (omega arith) read same)
+rooms-set bags panel before after lt read same = map-set_same (λ b. b.room) bags panel before after lt read (sym same)
+
+-- one vote more, as one member more of its bag
+pub with_vote-set : (panel : ℕ) (c : Choice) (bags : List (List Choice)) → slice_set bags panel (with_choice c (bag_at bags panel)) ≡ with_vote panel c bags
+with_vote-set panel c [] = refl
+with_vote-set zero c (bag ∷ bags) = refl
+with_vote-set (suc panel) c (bag ∷ bags) = ap (λ (b : List (List Choice)). bag ∷ b) (with_vote-set panel c bags)
 
 -- new bags
 
 abbrev pub empty_bag : ℕ → ℕ → BagData
 empty_bag voters votes = record { members = []; room = voters * votes }
 
-pub no_members : (voters : ℕ) (places : List ℕ) → members_of (map (empty_bag voters) places) ≡ replicate (length places) []
+pub no_members : (voters : ℕ) (places : List ℕ) → bags_in (map (empty_bag voters) places) ≡ replicate (length places) []
 no_members voters [] = refl
 no_members voters (n ∷ places) = ap (λ (m : List (List Choice)). [] ∷ m) (no_members voters places)
 
@@ -69,8 +69,8 @@ pub is_stored : (bags : List BagData) (voters : ℕ) (places : List ℕ) (now : 
     → rooms_of bags ≡ map (λ n. voters * n) places → data_of bags voters places ≡ now → panel < length now.bags → b ≡ get_or bags panel b
     → (bag_at now.bags panel ≡ b.members) × (b.room ≡ room_at now panel)
 is_stored bags voters places now panel b rooms is lt read =
-    let lt' : panel < length (members_of bags) = subst (λ (r : RdvData). panel < length r.bags) (sym is) lt in
-    let n = length-members bags in
-    let same : bag_at (members_of bags) panel ≡ b.members = bag_at-members bags panel b (omega arith) ∙ ap (λ (x : BagData). x.members) (sym read) in
+    let lt' : panel < length (bags_in bags) = subst (λ (r : RdvData). panel < length r.bags) (sym is) lt in
+    let n = length-bags_in bags in
+    let same : bag_at (bags_in bags) panel ≡ b.members = bag_at-bags_in bags panel b (omega arith) ∙ ap (λ (x : BagData). x.members) (sym read) in
     let room : b.room ≡ voters * slice_index places panel = ap (λ (x : BagData). x.room) read ∙ room-at voters bags places panel b rooms (omega arith) in
     (subst (λ (r : RdvData). bag_at r.bags panel ≡ b.members) is same, subst (λ (r : RdvData). b.room ≡ room_at r panel) is room)

@@ -1,15 +1,50 @@
--- What contracts see of one bag, and how it is stored
-use Rattle.std.specs.Prelude.{ℕ, ◌≤◌, ◌<◌, ◌^◌, List, length}
+-- What contracts see of one bag, and the counters that it is stored as
+use Rattle.std.specs.Prelude.{◌≡◌, ℕ, ◌+◌, ◌≤◌, Bool, true, false, List, length, map, take, drop, slice_get}
+use Rattle.std.specs.List.{AllByRecursion}
+use Rattle.std.specs.Option.{option_map_or}
+use Rattle.election_tables.specs.Limits.{most_candidates, most_parties}
 use Rattle.vote_kinds.specs.declared.choice.Choice.{Choice}
-use Rattle.vote_record.specs.Bag.{IsInOrder}
+use Rattle.vote_kinds.specs.Choice.{AreRising, choice_le, is_same}
+use Rattle.vote_record.specs.Counters.{bag_with}
+use Rattle.vote_record.specs.declared.counters.Counter.{Counter}
 
--- the members in the order of choices, and how many of them there is memory for
+-- the members in the order of choices, and how many of them there is room for
 pub record BagData : Type 0 where
   pub members : List Choice
   pub room : ℕ
 
--- so many members in order are within the room of the memory for them
-pub record IsStored (members : List Choice) (room : ℕ) : Type 0 where
-  pub in_order : IsInOrder members
-  pub within : length members ≤ room
-  pub counted : room < 2 ^ 32
+-- a choice's counter without votes
+abbrev pub no_votes : Choice → Counter
+no_votes c = record { choice = c; votes = 0 }
+
+-- which choices are counted
+abbrev pub choices_in : List Counter → List Choice
+choices_in counters = map (λ x. x.choice) counters
+
+-- the bag that is counted
+abbrev pub members_of : List Counter → List Choice
+members_of counters = bag_with (choices_in counters) (map (λ x. x.votes) counters)
+
+-- whether the counter in a place is there, and is that of the choice
+abbrev pub stands_at : Choice → List Counter → ℕ → Bool
+stands_at c counters place = option_map_or (λ x. is_same c x.choice) (slice_get counters place) false
+
+-- The place of a choice among counters, whether it has one or not: the choice stands behind those of all counters before the place, and
+-- at or before those of all others.
+pub record IsPlace (c : Choice) (counters : List Counter) (place : ℕ) : Type 0 where
+  pub within : place ≤ length counters
+  pub before : AllByRecursion (λ x. choice_le c x.choice ≡ false) (take place counters)
+  pub others : AllByRecursion (λ x. choice_le c x.choice ≡ true) (drop place counters)
+
+-- the most choices of a panel: all candidates and parties that tables may have, blank and null
+abbrev pub most_choices : ℕ
+most_choices = most_candidates + most_parties + 2
+
+-- Counters rise by choice, and count `total` members, which are within the room. There is memory for just the most choices of a panel
+-- and, since a member may be a choice of no panel, for one counter more with each member that there is room for.
+pub record AreStored (counters : List Counter) (total room capacity : ℕ) : Type 0 where
+  pub rise : AreRising (choices_in counters)
+  pub counted : total ≡ length (members_of counters)
+  pub within : total ≤ room
+  pub reserved : capacity ≡ most_choices + room
+  pub few : length counters ≤ most_choices + total

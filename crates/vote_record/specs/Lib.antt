@@ -1,4 +1,5 @@
 pub mod Bag
+pub mod Counters
 pub mod BagData
 pub mod RdvData
 pub mod RecordText

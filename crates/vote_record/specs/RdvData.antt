@@ -17,7 +17,7 @@ pub record RdvData : Type 0 where
 abbrev pub empty_record : TablesData → ℕ → RdvData
 empty_record t voters = record { bags = replicate (length t.panels) []; voters = voters; places = places_of t }
 
--- how many votes a panel has memory for: the most that it can have
+-- how many votes a panel has room for: the most that it can have
 abbrev pub room_at : RdvData → ℕ → ℕ
 room_at r panel = r.voters * slice_index r.places panel
 
@@ -29,8 +29,8 @@ with_vote_in panel c r = record { bags = with_vote panel c r.bags; voters = r.vo
 abbrev pub IsVote : TablesData → ℕ → Choice → Type 0
 IsVote t panel c = IsSomeAnd (slice_get (lines_by_panel t) panel) (λ line. is_choice line c ≡ true)
 
--- Each bag has memory for just every vote that its panel can have, and so have the lists of the bags and of the places for what they
--- have. So none is taken later. There are at most 600 voters.
+-- Each bag has room for just every vote that its panel can have, which settles its memory, and the lists of the bags and of the places
+-- have memory for just what they have. So none is taken later. There are at most 600 voters.
 pub record AreReserved (bags : List BagData) (voters : ℕ) (places : List ℕ) (bags_room places_room : ℕ) : Type 0 where
   pub few : voters ≤ most_voters
   pub rooms : map (λ b. b.room) bags ≡ map (λ n. voters * n) places

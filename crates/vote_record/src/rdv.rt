@@ -1,6 +1,8 @@
-ghost use Rattle.std.specs.Prelude.{◌≡◌, ◌<◌, ◌≤◌, length, IfOk, Some, slice_get};
+ghost use Rattle.std.specs.Prelude.{◌≡◌, ◌<◌, ◌≤◌, ◌+◌, length, IfOk, Some, slice_get, slice_set};
 ghost use Rattle.election_tables.specs.Limits.{most_voters};
-ghost use Rattle.vote_record.specs.Bag.{IsInOrder, count_of, bag_at};
+ghost use Rattle.election_tables.specs.TablesData.{TablesData};
+ghost use Rattle.vote_record.specs.Bag.{IsInOrder, count_of, with_choices, bag_at};
+ghost use Rattle.vote_record.specs.Laws.{HasOnlyVotes};
 ghost use Rattle.vote_record.specs.RdvData.{IsVote, empty_record, room_at, with_vote_in};
 
 use crate::bag::Bag;
@@ -10,9 +12,9 @@ use std::marker::Model;
 use urna_base::Memory;
 use vote_kinds::Choice;
 
-/// The digital vote record of a section (docs/RULES.md, "The state of a poll"): for each panel a bag of choices, with the
-/// memory for just all votes that there can be, from the start to the end. A bag keeps no order of its own, so the record
-/// doesn't tell who voted when. Contracts see it as `RdvData`.
+/// The digital vote record of a section (docs/RULES.md, "The state of a poll"): for each panel a bag of choices, with room
+/// for just all votes that there can be, and the memory for it from the start to the end. A bag keeps no order of its own, so
+/// the record doesn't tell who voted when. Contracts see it as `RdvData`.
 #[derive(Debug, Drop)]
 pub struct Rdv {
     bags: Vec<Bag>,
@@ -45,7 +47,7 @@ impl Rdv {
         let mut places = Vec::with_capacity(alloc, panels as usize)?;
         for panel in 0..panels {
             let votes = tables.places(panel);
-            bags.push_reserved(Bag::with_room(alloc, voters * votes)?);
+            bags.push_reserved(Bag::of_panel(alloc, tables, panel, voters * votes)?);
             places.push_reserved(votes);
         }
         Ok(Rdv {
@@ -64,16 +66,40 @@ impl Rdv {
         requires room { length (bag_at self.old.bags panel) < room_at self.old panel }
         ensures { self.new ≡ with_vote_in panel choice self.old }
     {
-        self.bags[panel as usize].add(choice);
+        self.add_votes(tables, panel, 0, choice, 1);
     }
 
-    /// How many votes of a panel, which is one of the record, are this choice; 0 where none is, as for each choice that is
-    /// none of the panel's (`laws::records`).
+    /// So many votes of a choice more in a panel, which may be none. The counter of the choice is looked for in this place of the
+    /// panel's first, as `count_near` does. It takes no memory, as `add`. The caller owes that the
+    /// panel is one of the record, that the choice is one of the panel's, and that with these the panel has no more votes than
+    /// all voters have there.
+    pub fn add_votes(&mut self, tables: &Tables, panel: u32, place: u32, choice: Choice, votes: u32)
+        requires panel { panel < length self.old.bags }
+        requires choice { IsVote tables.now panel choice }
+        requires room { length (bag_at self.old.bags panel) + votes ≤ room_at self.old panel }
+        ensures { self.new ≡ record self.old { bags = slice_set self.old.bags panel (with_choices votes choice (bag_at self.old.bags panel)) } }
+    {
+        self.bags[panel as usize].add(place, choice, votes);
+    }
+
+    /// How many votes of a panel, which is one of the record, are this choice; 0 for a choice that is none of the panel's by
+    /// the tables that the record was made and filled with (`laws::records`).
     pub fn count(&self, panel: u32, choice: Choice) -> u32
+        requires { panel < length self.now.bags }
+        ensures count { result ≡ count_of choice (bag_at self.now.bags panel) }
+        ensures lacking { (t : TablesData) → HasOnlyVotes t self.now → ¬ IsVote t panel choice → result ≡ 0 }
+    {
+        self.bags[panel as usize].count(choice)
+    }
+
+    /// The same number as `count`. It is looked for in this place of the panel's counters first, and where the counter of
+    /// another choice stands there, as `count` does. In a record that was made with tables whose panel has the choice in this
+    /// place, it is found at once; so who goes through all choices of a panel in order asks for each by its place.
+    pub fn count_near(&self, panel: u32, place: u32, choice: Choice) -> u32
         requires { panel < length self.now.bags }
         ensures { result ≡ count_of choice (bag_at self.now.bags panel) }
     {
-        self.bags[panel as usize].count(choice)
+        self.bags[panel as usize].count_near(place, choice)
     }
 
     /// How many votes a panel, which is one of the record, has.

@@ -202,7 +202,7 @@ fn machine(
 {
     let Images { internal, external } = images;
     assert!(rt; internal.len() == DEVICE && external.len() == DEVICE);
-    Recorder::restart(rt.alloc(), internal, external, 512, 1_500_000, failing)
+    Recorder::restart(rt.alloc(), internal, external, 4_096, 1_500_000, failing)
 }
 
 fn place(shelf: &mut Shelf, name: &str, bytes: Option<&[u8]>) -> Result<(), Memory> {

@@ -114,13 +114,14 @@ M LIBERA
 E 13C
 ";
 
-/// What a body of that poll begins with: version and phase, both moments, how many came, the voters' marks, and the one bag.
-const OPENED: &[u8] = b"\x01\x01\x00\x00\x12\x6d\x61\xf3\x73\x80\0\0\0\0\0\0\0\0\0\0\0\x01\x80";
+/// What a body of that poll begins with: version and phase, both moments, how many came, and the voters' marks.
+const OPENED: &[u8] = b"\x02\x01\x00\x00\x12\x6d\x61\xf3\x73\x80\0\0\0\0\0\0\0\0\0\0\0\x01\x80";
 
-const BAG: &[u8] = b"\x01\0\0\0\x01\x01\0\0\0\x0d";
+/// The counters of the one panel: those of both candidates, blank and null.
+const COUNTERS: &[u8] = b"\0\0\0\x01\0\0\0\0\0\0\0\0\0\0\0\0";
 
 #[test]
-fn a_body_holds_the_marks_and_the_bags(rt: HostRuntime) -> Result<(), Fail> {
+fn a_body_holds_the_marks_and_the_counters(rt: HostRuntime) -> Result<(), Fail> {
     let given = Given {
         keys: Some(VOTED),
         ..VOTA
@@ -131,9 +132,11 @@ fn a_body_holds_the_marks_and_the_bags(rt: HostRuntime) -> Result<(), Fail> {
         let content = m.content(dev);
         assert!(rt; content.get(1_024..1_047) == Some(OPENED));
         assert!(rt; content.get(1_047..1_121) == Some([0; 74].as_slice()));
-        assert!(rt; content.get(1_121..1_131) == Some(BAG));
+        assert!(rt; content.get(1_121) == Some(&1));
+        assert!(rt; content.get(1_122..1_536) == Some([0; 414].as_slice()));
+        assert!(rt; content.get(1_536..1_552) == Some(COUNTERS));
         assert!(rt; content.get(67_072..67_095) == Some(OPENED));
-        assert!(rt; content.get(67_169..67_179) == Some(BAG));
+        assert!(rt; content.get(67_584..67_600) == Some(COUNTERS));
     }
     Ok(())
 }

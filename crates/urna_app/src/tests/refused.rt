@@ -76,7 +76,7 @@ fn statuses_and_what_is_shown(rt: HostRuntime) -> Result<(), Fail> {
 
 #[test]
 fn words_that_are_no_command(rt: HostRuntime) -> Result<(), Fail> {
-    let rows: [Given; 8] = [
+    let rows: [Given; 10] = [
         Given { words: &[], ..ON },
         Given {
             words: &["emite", "t", "r"],
@@ -99,7 +99,15 @@ fn words_that_are_no_command(rt: HostRuntime) -> Result<(), Fail> {
             ..ON
         },
         Given {
+            words: &["ensaio"],
+            ..ON
+        },
+        Given {
             words: &["ensaio", "0"],
+            ..ON
+        },
+        Given {
+            words: &["ensaio", "060"],
             ..ON
         },
         Given {

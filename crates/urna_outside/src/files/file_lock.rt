@@ -41,14 +41,19 @@ where
 }
 
 /// Fails where a file of this name is locked, whoever has it locked: a flash that is open under another name is. A link isn't
-/// followed. A file that this run may not open is no flash of it; where an open fails otherwise, nothing is known of the file.
+/// followed. A file that this run may not open is no flash of it; where an open, or the look at the name, fails otherwise, nothing is known
+/// of the file.
 pub(crate) fn check_free<R: Files>(rt: &R, name: &str) -> io::Result<()>
 where
     R::File: FileLock,
 {
     match fs::symlink_metadata(rt, name) {
         Ok(named) if named.is_file() => try_lock_of(rt, name),
-        _ => Ok(()),
+        Ok(_) => Ok(()),
+        Err(error) => match error.kind() {
+            ErrorKind::NotFound => Ok(()),
+            _ => Err(error),
+        },
     }
 }
 

@@ -2,17 +2,11 @@ use Rattle.std.proofs.Common.{◌≡◌, ◌≢◌, ◌⊎◌, inl, inr, ℕ, Li
 use Rattle.urna_outside.specs.Flash.{Op, Put, Sync, Show, Flash, Flashes, flash_of, put, synced, after_one, Stably}
 use Rattle.urna_outside.specs.Confined.{IsInRange}
 use Rattle.urna_outside.specs.declared.device.Dev.{Dev}
-use Rattle.urna_outside.specs.declared.device.Dev.TheVariants.{Internal, External}
+use Rattle.urna_outside.proofs.Frames.{same_or_not}
 use Rattle.urna_outside.proofs.Keeping.{in_image, stays, put_keeps, synced_keeps, flash_same, flash_other}
 use Rattle.gate_slot.specs.Survival.{Misses, LiesOn}
 use Rattle.gate_slot.proofs.Images.{gate_image}
 use Rattle.gate_slot.proofs.law.facts_survive.Goals as goal
-
-same_or_not : (e d : Dev) → (e ≡ d) ⊎ (e ≢ d)
-same_or_not Internal Internal = inl refl
-same_or_not Internal External = inr (λ same. cc)
-same_or_not External Internal = inr (λ same. cc)
-same_or_not External External = inl refl
 
 -- places that the range has not
 abbrev Apart : ℕ → ℕ → ℕ → ℕ → Type 0

@@ -17,4 +17,4 @@ loop-i-preserved c =
     ∙ ap (λ (n : ℕ). c.loop-i.counts ++ filter has_votes (record { number = n; votes = c.count-votes.result } ∷ [])) c.from.ensures
     ∙ ap (λ (l : List Count). l ++ filter has_votes (record { number = c.party-number.result; votes = c.count-votes.result } ∷ [])) c.loop-i.invariant
     ∙ sym (listed_more (λ n. choice.Party n) (bag_at c.args.votes.now.bags c.args.panel) (λ q. q.number) c.args.tables.now.parties c.loop-i.i c.party-number.result c.count-votes.result
-    c.party-number.ensures.party c.count-votes.ensures)
+    c.party-number.ensures.party c.count-votes.ensures.count)

@@ -17,7 +17,7 @@ returns-in_err-show_votes g c =
     let bag = bag_at c.args.votes.now.bags c.args.panel in
     let line = votes_line c.from.result c.count-count.result in
     let rest = lines_rest (party_line bag) xs c.loop-i.i line
-    (party_told bag (slice_get xs c.loop-i.i) c.from.result c.count-count.result (c.party-number.ensures.party ∙ ap (λ (k : ℕ). Some k) (sym c.from.ensures)) (c.count-count.ensures ∙ ap (λ (k : ℕ). count_of (choice.Party k) bag) (sym c.from.ensures))) in
+    (party_told bag (slice_get xs c.loop-i.i) c.from.result c.count-count.result (c.party-number.ensures.party ∙ ap (λ (k : ℕ). Some k) (sym c.from.ensures)) (c.count-count.ensures.count ∙ ap (λ (k : ℕ). count_of (choice.Party k) bag) (sym c.from.ensures))) in
     shows_err c.from_residual.result (party_lines xs bag) (g.M.Machine.told c.args.m.now) (g.M.Machine.told c.show_votes.new.m) c.from_residual.ensures.0
     (cut_within (party_lines (take c.loop-i.i xs) bag) (line ∷ []) rest.0 (party_lines xs bag)
     (g.M.Machine.told c.args.m.now) (g.M.Machine.told c.loop-i.m) (g.M.Machine.told c.show_votes.new.m) rest.1 c.loop-i.invariant c.in_err-show_votes.ensures)
@@ -30,7 +30,7 @@ loop-i-preserved g c =
     shown_to (party_lines (take c.loop-i.i xs) bag) (line ∷ []) _
     (g.M.Machine.told c.args.m.now) (g.M.Machine.told c.loop-i.m) (g.M.Machine.told c.show_votes.new.m)
     (lines_more (party_line bag) xs c.loop-i.i line
-    (party_told bag (slice_get xs c.loop-i.i) c.from.result c.count-count.result (c.party-number.ensures.party ∙ ap (λ (k : ℕ). Some k) (sym c.from.ensures)) (c.count-count.ensures ∙ ap (λ (k : ℕ). count_of (choice.Party k) bag) (sym c.from.ensures))))
+    (party_told bag (slice_get xs c.loop-i.i) c.from.result c.count-count.result (c.party-number.ensures.party ∙ ap (λ (k : ℕ). Some k) (sym c.from.ensures)) (c.count-count.ensures.count ∙ ap (λ (k : ℕ). count_of (choice.Party k) bag) (sym c.from.ensures))))
     c.loop-i.invariant c.in_ok-show_votes.ensures
 
 pub returns : goal.returns

@@ -17,7 +17,7 @@ returns-in_err-show_votes g c =
     let bag = bag_at c.args.votes.now.bags c.args.panel in
     let line = votes_line c.candidate-number.result.number c.count-count.result in
     let rest = lines_rest (candidate_line bag) xs c.loop-i.i line
-    (candidate_told bag (slice_get xs c.loop-i.i) c.candidate-number.result c.count-count.result c.candidate-number.ensures.candidate c.count-count.ensures) in
+    (candidate_told bag (slice_get xs c.loop-i.i) c.candidate-number.result c.count-count.result c.candidate-number.ensures.candidate c.count-count.ensures.count) in
     shows_err c.from_residual.result (candidate_lines xs bag) (g.M.Machine.told c.args.m.now) (g.M.Machine.told c.show_votes.new.m) c.from_residual.ensures.0
     (cut_within (candidate_lines (take c.loop-i.i xs) bag) (line ∷ []) rest.0 (candidate_lines xs bag)
     (g.M.Machine.told c.args.m.now) (g.M.Machine.told c.loop-i.m) (g.M.Machine.told c.show_votes.new.m) rest.1 c.loop-i.invariant c.in_err-show_votes.ensures)
@@ -30,7 +30,7 @@ loop-i-preserved g c =
     shown_to (candidate_lines (take c.loop-i.i xs) bag) (line ∷ []) _
     (g.M.Machine.told c.args.m.now) (g.M.Machine.told c.loop-i.m) (g.M.Machine.told c.show_votes.new.m)
     (lines_more (candidate_line bag) xs c.loop-i.i line
-    (candidate_told bag (slice_get xs c.loop-i.i) c.candidate-number.result c.count-count.result c.candidate-number.ensures.candidate c.count-count.ensures))
+    (candidate_told bag (slice_get xs c.loop-i.i) c.candidate-number.result c.count-count.result c.candidate-number.ensures.candidate c.count-count.ensures.count))
     c.loop-i.invariant c.in_ok-show_votes.ensures
 
 pub returns : goal.returns

@@ -14,7 +14,7 @@ returns-in_err-show_word-2 g c =
     let null = word_line (codes "NULO") c.count-2.result in
     let total = word_line (codes "TOTAL") (length bag) in
     subst (λ (ls : List (List ℕ)). Shows c.from_residual-in_err-show_word-2.result ls (told c.args.m.now) (told c.show_word-2.new.m))
-    (totals_are bag c.count.result c.count-2.result (length bag) c.count.ensures c.count-2.ensures refl)
+    (totals_are bag c.count.result c.count-2.result (length bag) c.count.ensures.count c.count-2.ensures.count refl)
     (shows_err c.from_residual-in_err-show_word-2.result (blank ∷ null ∷ total ∷ []) (told c.args.m.now) (told c.show_word-2.new.m) c.from_residual-in_err-show_word-2.ensures.0
     (cut_within (blank ∷ []) (null ∷ []) (total ∷ []) (blank ∷ null ∷ total ∷ []) (told c.args.m.now) (told c.show_word.new.m) (told c.show_word-2.new.m) refl
     c.in_ok-show_word.ensures c.in_err-show_word-2.ensures))
@@ -27,6 +27,6 @@ returns g c =
     let null = word_line (codes "NULO") c.count-2.result in
     let total = word_line (codes "TOTAL") c.total.result in
     subst (λ (ls : List (List ℕ)). Shows c.show_word-3.result ls (told c.args.m.now) (told c.show_word-3.new.m))
-    (totals_are bag c.count.result c.count-2.result c.total.result c.count.ensures c.count-2.ensures c.total.ensures.total)
+    (totals_are bag c.count.result c.count-2.result c.total.result c.count.ensures.count c.count-2.ensures.count c.total.ensures.total)
     (shows-append c.show_word-3.result (blank ∷ []) (null ∷ total ∷ []) (told c.args.m.now) (told c.show_word.new.m) (told c.show_word-3.new.m) c.in_ok-show_word.ensures
     (shows-append c.show_word-3.result (null ∷ []) (total ∷ []) (told c.show_word.new.m) (told c.show_word-2.new.m) (told c.show_word-3.new.m) c.in_ok-show_word-2.ensures c.show_word-3.ensures))

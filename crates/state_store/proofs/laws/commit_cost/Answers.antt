@@ -1,5 +1,15 @@
 use Rattle.state_store.proofs.Costs.{costs_are_bounded}
+use Rattle.state_store.proofs.PageBound.{ballot_costs_few, opening_costs_one_page, sealing_costs_one_page}
 use Rattle.state_store.proofs.laws.commit_cost.Goals as goal
 
-pub returns : goal.returns
-returns c = costs_are_bounded
+pub returns-clause-session : goal.returns-clause-session
+returns-clause-session c = costs_are_bounded
+
+pub returns-clause-ballot : goal.returns-clause-ballot
+returns-clause-ballot _ = ballot_costs_few
+
+pub returns-clause-opening : goal.returns-clause-opening
+returns-clause-opening _ = opening_costs_one_page
+
+pub returns-clause-sealing : goal.returns-clause-sealing
+returns-clause-sealing _ = sealing_costs_one_page

@@ -6,7 +6,8 @@ use Rattle.gate_slot.proofs.Fronts.{fronts_first, fronts_later}
 use Rattle.gate_slot.proofs.Written.{body_bounded}
 use Rattle.twin_image.specs.Lay.{IsOfBodies}
 use Rattle.twin_image.proofs.Renewing.{twin_bounded}
-use Rattle.twin_image.proofs.Laying.{writes_one, writes-append, writes_weaker, writes_keep, shut_kept, gates_apart, bodies_of_twin, first_body_kept, one_write_keeps}
+use Rattle.twin_image.proofs.Laying.{writes-append, writes_weaker, writes_keep, shut_kept, gates_apart, bodies_of_twin, first_body_kept, one_write_keeps}
+use Rattle.twin_image.proofs.Turning.{writes_one}
 use Rattle.twin_image.proofs.lay.fill_both.Goals as goal
 use Rattle.urna_outside.proofs.Doing.{does-append}
 

@@ -4,7 +4,8 @@ use Rattle.urna_outside.proofs.Faults.{ends_later}
 use Rattle.gate_slot.specs.Slot.{room, publish_ops}
 use Rattle.gate_slot.proofs.Fronts.{fronts_first, fronts_later}
 use Rattle.gate_slot.proofs.Written.{gate_bounded}
-use Rattle.twin_image.proofs.Laying.{writes_one, writes-append, writes_weaker, first_open_kept, second_filled_kept, one_write_keeps}
+use Rattle.twin_image.proofs.Laying.{writes-append, writes_weaker, first_open_kept, second_filled_kept, one_write_keeps}
+use Rattle.twin_image.proofs.Turning.{writes_one}
 use Rattle.twin_image.proofs.lay.publish_both.Goals as goal
 use Rattle.urna_outside.proofs.Doing.{does-append}
 

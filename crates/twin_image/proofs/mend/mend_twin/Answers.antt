@@ -1,8 +1,9 @@
-use Rattle.std.proofs.Common.{◌≤◌, sym, subst, rules}
+use Rattle.std.proofs.Common.{◌≤◌, sym, subst, arith, rules}
 use Rattle.urna_outside.specs.Told.{Sizes, size_of}
 use Rattle.urna_outside.proofs.Faults.{ends_later}
 use Rattle.gate_slot.specs.Slot.{room}
-use Rattle.twin_image.proofs.Mending.{first_mends, mended_first, mended_twin, first_stays_live, mends_both}
+use Rattle.twin_image.proofs.Mending.{first_mends, mended_first, mended_twin, mends_both}
+use Rattle.twin_image.proofs.Renewing.{other_live}
 use Rattle.twin_image.proofs.mend.mend_twin.Goals as goal
 
 pub returns-in_err-first-clause-ran : goal.returns-in_err-first-clause-ran
@@ -24,7 +25,7 @@ returns-clause-twin g c =
     let d = c.args.dev in
     let r = c.requires in
     let fits = subst (λ (s : Sizes). room g.row.SIZE ≤ size_of d s) (sym c.mend.ensures.ran.1.sizes) r.room in
-    let still = first_stays_live d g.row.SIZE c.args.body.now r.body _ _ fits (g.met.M.Machine.sized c.mend.new.m) c.in_ok-first.ensures.live c.mend-2.ensures.ran in
+    let still = other_live d g.row.SIZE 1 3 _ c.args.body.now _ _ (omega arith) r.body fits (g.met.M.Machine.sized c.mend.new.m) c.in_ok-first.ensures.live c.mend-2.ensures.ran in
     λ fs told. record { first = still fs told; second = c.in_ok-second.ensures.live fs told }
 
 pub returns-clause-ran : goal.returns-clause-ran

@@ -68,7 +68,7 @@ returns g c =
     let has : HasLoaded t r c.in-Some.section m b =
     record {
       ran = c.in_ok-_store.ensures.ran;
-      rest = subst (λ (l : Load). ForSome b.flashes (AreAtRest l (ready_state t (length r.titles)))) c.in_ok-_store.ensures.store c.in_ok-_store.ensures.kept.rest;
+      rest = subst (λ (l : Load). ForSome b.flashes (AreAtRest t l (ready_state t (length r.titles)))) c.in_ok-_store.ensures.store c.in_ok-_store.ensures.kept.rest;
       fine = c.in_ok-_store.ensures.fine;
     } in
     told (CargaEnds names x y m n) (loaded_line c.in-Some.section ∷ []) c.tell_line.result b n

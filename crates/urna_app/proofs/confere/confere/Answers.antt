@@ -4,7 +4,7 @@ use Rattle.section_intake.specs.Verdict.{IsVerdict}
 use Rattle.urna_app.specs.Command.{Confere}
 use Rattle.urna_app.specs.Confere.{ConfereEnds, HasVerdict, check_no_memory, check_not_told, checked}
 use Rattle.urna_app.specs.Taking.{HasTaken}
-use Rattle.urna_app.specs.Verdicts.{verdict_line, verdict_status}
+use Rattle.urna_app.specs.Verdicts.{verdict_status}
 use Rattle.urna_app.specs.declared.status.Status.TheVariants as status
 use Rattle.urna_app.proofs.Calls.{taken_as}
 use Rattle.urna_app.proofs.Endings.{check_fault_ends, counts_verdict, passed_on, untouched}

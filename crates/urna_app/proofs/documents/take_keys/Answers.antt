@@ -1,4 +1,3 @@
-use Rattle.std.proofs.Common.{sym}
 use Rattle.std.proofs.lemmas.Result.{err_from_is_err_and}
 use Rattle.urna_app.specs.Documents.{bad, line}
 use Rattle.urna_app.specs.Errors.{line_status}

@@ -1,4 +1,4 @@
-use Rattle.std.proofs.Common.{Option, List, ℕ, subst, sym}
+use Rattle.std.proofs.Common.{Option, subst}
 use Rattle.std.proofs.lemmas.Result.{err_from_is_err_and}
 use Rattle.urna_outside.specs.Cabinet.{Files}
 use Rattle.urna_app.specs.Documents.{IsFault, IsTaken, first_other, first_tables}

@@ -1,4 +1,4 @@
-use Rattle.urna_app.proofs.BothFiles.{both_are_there}
+use Rattle.urna_app.proofs.PutFiles.{both_are_there}
 use Rattle.urna_app.proofs.laws.both_files.Goals as goal
 
 pub returns : goal.returns

@@ -1,7 +1,5 @@
-use Rattle.urna_app.proofs.Days.{day_keeps_votes}
 use Rattle.urna_app.proofs.Headline.{all_are_counted, keys_have_run, votes_are_kept}
-use Rattle.urna_app.proofs.Loads.{load_begins_day}
 use Rattle.urna_app.proofs.laws.votes_are_kept.Goals as goal
 
 pub returns : goal.returns
-returns c = record { kept = votes_are_kept; day = day_keeps_votes; load = load_begins_day; counted = all_are_counted; run = keys_have_run }
+returns c = record { kept = votes_are_kept; counted = all_are_counted; run = keys_have_run }

@@ -85,5 +85,5 @@ returns g c =
     let one_of = subst (λ (l : Load). IsSectionOf t r l.section) (sym end.1) stationed.load.section in
     let state =
     subst (λ (l : Load). IsStateOf t l.section.voters end.0.last) (sym end.1)
-    (subst (λ (last : State). IsStateOf t c.in_ok-station.station.store.load.section.voters last) (sym end.2) stationed.kept.encoding.state) in
+    (subst (λ (last : State). IsStateOf t c.in_ok-station.station.store.load.section.voters last) (sym end.2) stationed.kept.state) in
     session_held z given all end.0 one_of state put

@@ -4,7 +4,8 @@ use Rattle.vote_record.specs.RdvData.{RdvData}
 use Rattle.turnout.specs.declared.phase.Phase.TheVariants as phase
 use Rattle.image_codec.specs.State.{State}
 use Rattle.image_codec.specs.Encoding.{IsEncoding}
-use Rattle.image_codec.specs.Decoded.{decoded, marks_in, turnout_of}
+use Rattle.image_codec.specs.DecodedHead.{marks_in, turnout_of}
+use Rattle.image_codec.specs.Decoded.{decoded}
 use Rattle.image_codec.proofs.Decoding.{none_decoded}
 use Rattle.image_codec.proofs.Loaded.{ready_marks, ready_bags, room_for_all, bags_read, read_encoding}
 use Rattle.image_codec.proofs.Valid.{state_of}
@@ -24,7 +25,7 @@ fill_votes-requires-clause-none c =
 
 pub fill_votes-requires-clause-bags : goal.fill_votes-requires-clause-bags
 fill_votes-requires-clause-bags c =
-    bags_read c.args.tables.now c.voters.result c.args.bytes.now c.in-Some.head c.split_at.result.1.now c.in-Some.ensures.head c.split_at.ensures.back
+    bags_read c.args.tables.now c.voters.result c.args.bytes.now c.in-Some.head c.in-Some.ensures.head
 
 pub fill_votes-requires-clause-room : goal.fill_votes-requires-clause-room
 fill_votes-requires-clause-room c =
@@ -40,8 +41,8 @@ returns-in-Some-clause-loaded c = λ _.
     let places : c.self.inside.votes.places ≡ places_of c.args.tables.now = ap (λ (s : State). s.places) c.self.view_is ∙ c.requires.places in
     let roll : voters ≡ length c.args.self.now.came = c.voters.ensures.count ∙ ap (λ (s : State). length s.came) c.self.view_is in
     subst (λ (n : ℕ). IsEncoding c.args.tables.now n (state_of c.in-Some.head.phase c.fill_turnout.new.turnout c.fill_votes.new.votes) c.args.bytes.now) roll
-    (read_encoding c.args.tables.now voters c.args.bytes.now c.in-Some.head c.split_at.result.1.now c.fill_turnout.new.turnout c.self.inside.votes c.fill_votes.new.votes
-    c.in-Some.ensures.tables c.voters.ensures.few c.in-Some.ensures.head c.split_at.ensures.back marks places c.fill_votes.ensures)
+    (read_encoding c.args.tables.now voters c.args.bytes.now c.in-Some.head c.fill_turnout.new.turnout c.self.inside.votes c.fill_votes.new.votes
+    c.in-Some.ensures.tables c.voters.ensures.few c.in-Some.ensures.head marks places c.fill_votes.ensures)
 
 pub invariant_of-self : goal.invariant_of-self
 invariant_of-self c =
@@ -49,8 +50,8 @@ invariant_of-self c =
     let marks : c.fill_turnout.new.turnout ≡ marks_in voters (turnout_of c.args.bytes.now) =
     c.fill_turnout.ensures ∙ ap (λ (n : ℕ). marks_in n (turnout_of c.args.bytes.now)) (sym c.voters.ensures.count) in
     let places : c.self.inside.votes.places ≡ places_of c.args.tables.now = ap (λ (s : State). s.places) c.self.view_is ∙ c.requires.places in
-    let of = read_encoding c.args.tables.now voters c.args.bytes.now c.in-Some.head c.split_at.result.1.now c.fill_turnout.new.turnout c.self.inside.votes c.fill_votes.new.votes
-    c.in-Some.ensures.tables c.voters.ensures.few c.in-Some.ensures.head c.split_at.ensures.back marks places c.fill_votes.ensures in
+    let of = read_encoding c.args.tables.now voters c.args.bytes.now c.in-Some.head c.fill_turnout.new.turnout c.self.inside.votes c.fill_votes.new.votes
+    c.in-Some.ensures.tables c.voters.ensures.few c.in-Some.ensures.head marks places c.fill_votes.ensures in
     (of.state.valid, ap (λ (r : RdvData). r.voters) c.fill_votes.ensures ∙ c.self.invariant.1 ∙ sym (of.state.roll ∙ c.voters.ensures.count))
 
 pub returns-in-None-clause-none : goal.returns-in-None-clause-none

@@ -4,7 +4,8 @@ use Rattle.std.proofs.lemmas.List.{take_all}
 use Rattle.vote_kinds.specs.Ballot.{line_of}
 use Rattle.section_intake.specs.Kept.{tallies_of}
 use Rattle.section_intake.specs.declared.tallies.Tally.{Tally}
-use Rattle.section_intake.proofs.TallyLaws.{candidate_at, candidate_count, candidates_rise, next_number, numbers_rise}
+use Rattle.vote_kinds.proofs.Lookups.{candidate_at}
+use Rattle.section_intake.proofs.TallyLaws.{candidate_count, candidates_rise, next_number, numbers_rise}
 use Rattle.section_intake.proofs.tallies.Tallies.of_candidates.Goals as goal
 
 pub loop-i-preserved : goal.loop-i-preserved

@@ -46,18 +46,16 @@ returns-in-Ok-lay-clause-kept g c =
     let into = c.encode_into.new.into in
     let ready : State = ready_state t (length r.titles) in
     let long : c.in-Ok.room.next.len ≡ length into = search rules in
-    let written : body ≡ encode ready =
-    c.deref.ensures.value ∙ refilled c.in-Ok.room.next.len into (drop (length into) c.in-Ok.room.next.items) long ∙ c.encode_into.ensures ∙ ap encode c.in-Ok.ensures ∙ ap (λ (n : ℕ). encode (ready_state t n)) c.len.ensures.count in
+    let written : body ≡ encode t ready =
+    c.deref.ensures.value ∙ refilled c.in-Ok.room.next.len into (drop (length into) c.in-Ok.room.next.items) long ∙ c.encode_into.ensures ∙ ap (encode t) c.in-Ok.ensures ∙ ap (λ (n : ℕ). encode t (ready_state t n)) c.len.ensures.count in
     let moved = c.in-Ok-lay.ensures.body in
     let level = c.in-Ok-lay.ensures.level in
     let voters : load.section.voters ≡ length r.titles = ap (λ (l : Load). l.section.voters) c.of-load.ensures ∙ c.requires.section.voters in
     record {
-      encoding = record {
-        state = subst (λ (n : ℕ). IsStateOf t n ready) (sym voters) (of_tables-ready_state t (length r.titles));
-        same = moved ∙ written;
-      };
+      state = subst (λ (n : ℕ). IsStateOf t n ready) (sym voters) (of_tables-ready_state t (length r.titles));
+      body = moved ∙ written;
       rest = λ fs told.
-          laid_rests load ready c.header-internal.result c.header-external.result body fs c.header-internal.ensures c.header-external.ensures written (c.in-Ok-lay.ensures.laid fs told) (subst (λ (b : List ℕ). IsLevel body_size b fs) moved (level.flashes fs told));
+          laid_rests t load ready c.header-internal.result c.header-external.result body fs c.header-internal.ensures c.header-external.ensures written (c.in-Ok-lay.ensures.laid fs told) (subst (λ (b : List ℕ). IsLevel body_size b fs) moved (level.flashes fs told));
     }
 
 pub returns-in-Ok-lay-clause-ran : goal.returns-in-Ok-lay-clause-ran
@@ -67,7 +65,7 @@ returns-in-Ok-lay-clause-ran g c =
     let into = c.encode_into.new.into in
     let long : c.in-Ok.room.next.len ≡ length into = search rules in
     let fresh : get_or body 1 0 ≡ 0 =
-    ap (λ (l : List ℕ). get_or l 1 0) (c.deref.ensures.value ∙ refilled c.in-Ok.room.next.len into (drop (length into) c.in-Ok.room.next.items) long ∙ c.encode_into.ensures ∙ ap encode c.in-Ok.ensures) ∙ ready_unused t c.len.result in
+    ap (λ (l : List ℕ). get_or l 1 0) (c.deref.ensures.value ∙ refilled c.in-Ok.room.next.len into (drop (length into) c.in-Ok.room.next.items) long ∙ c.encode_into.ensures ∙ ap (encode t) c.in-Ok.ensures) ∙ ready_unused t c.len.result in
     let synced = c.in_default-sync_both.ensures.synced in
     loaded c.header-internal.result c.header-external.result body fresh (g.M.Machine.told c.args.m.now) (g.M.Machine.told c.sync_both.new.m) (g.M.Machine.told c.test_free.new.m) (g.M.Machine.told c.lay.new.m)
     synced.does c.test_free.ensures.done c.in_ok-test_free.ensures.free c.lay.ensures.ran
@@ -79,7 +77,7 @@ returns-clause-fails g c =
     let into = c.encode_into.new.into in
     let long : c.in-Ok.room.next.len ≡ length into = search rules in
     let fresh : get_or body 1 0 ≡ 0 =
-    ap (λ (l : List ℕ). get_or l 1 0) (c.deref.ensures.value ∙ refilled c.in-Ok.room.next.len into (drop (length into) c.in-Ok.room.next.items) long ∙ c.encode_into.ensures ∙ ap encode c.in-Ok.ensures) ∙ ready_unused t c.len.result in
+    ap (λ (l : List ℕ). get_or l 1 0) (c.deref.ensures.value ∙ refilled c.in-Ok.room.next.len into (drop (length into) c.in-Ok.room.next.items) long ∙ c.encode_into.ensures ∙ ap (encode t) c.in-Ok.ensures) ∙ ready_unused t c.len.result in
     let synced = c.in_default-sync_both.ensures.synced in
     let tested = c.in_ok-test_free.ensures in
     fails_laying c.header-internal.result c.header-external.result body fresh (g.M.Machine.told c.args.m.now) (g.M.Machine.told c.sync_both.new.m) (g.M.Machine.told c.test_free.new.m) (g.M.Machine.told c.lay.new.m)
@@ -91,7 +89,7 @@ returns-in_default-clause-order g c =
     let load = load_of t c.args.roll.now c.args.section in
     let ready = ready_state t (length c.args.roll.now.titles) in
     let a = g.M.Machine.told c.args.m.now in
-    load_not_begun load ready a a (does_nothing a)
+    load_not_begun t load ready a a (does_nothing a)
 
 pub returns-in-Err-clause-order : goal.returns-in-Err-clause-order
 returns-in-Err-clause-order g c =
@@ -99,7 +97,7 @@ returns-in-Err-clause-order g c =
     let load = load_of t c.args.roll.now c.args.section in
     let ready = ready_state t (length c.args.roll.now.titles) in
     let a = g.M.Machine.told c.args.m.now in
-    load_syncing load ready a (g.M.Machine.told c.sync_both.new.m) c.in-Err.ensures.ran
+    load_syncing t load ready a (g.M.Machine.told c.sync_both.new.m) c.in-Err.ensures.ran
 
 pub returns-in_err-test_free-clause-order : goal.returns-in_err-test_free-clause-order
 returns-in_err-test_free-clause-order g c =
@@ -107,7 +105,7 @@ returns-in_err-test_free-clause-order g c =
     let load = load_of t c.args.roll.now c.args.section in
     let ready = ready_state t (length c.args.roll.now.titles) in
     let a = g.M.Machine.told c.args.m.now in
-    let cut = load_not_tested load ready a (g.M.Machine.told c.sync_both.new.m) (g.M.Machine.told c.test_free.new.m) c.in_default-sync_both.ensures.synced.does c.test_free.ensures.done in
+    let cut = load_not_tested t load ready a (g.M.Machine.told c.sync_both.new.m) (g.M.Machine.told c.test_free.new.m) c.in_default-sync_both.ensures.synced.does c.test_free.ensures.done in
     search rules
 
 pub returns-in-Ok-lay-clause-order : goal.returns-in-Ok-lay-clause-order
@@ -120,11 +118,11 @@ returns-in-Ok-lay-clause-order g c =
     let body = c.deref.result.now in
     let into = c.encode_into.new.into in
     let long : c.in-Ok.room.next.len ≡ length into = search rules in
-    let written : body ≡ encode ready =
-    c.deref.ensures.value ∙ refilled c.in-Ok.room.next.len into (drop (length into) c.in-Ok.room.next.items) long ∙ c.encode_into.ensures ∙ ap encode c.in-Ok.ensures ∙ ap (λ (n : ℕ). encode (ready_state t n)) c.len.ensures.count in
+    let written : body ≡ encode t ready =
+    c.deref.ensures.value ∙ refilled c.in-Ok.room.next.len into (drop (length into) c.in-Ok.room.next.items) long ∙ c.encode_into.ensures ∙ ap (encode t) c.in-Ok.ensures ∙ ap (λ (n : ℕ). encode t (ready_state t n)) c.len.ensures.count in
     let internal_is = c.header-internal.ensures ∙ ap (λ (l : Load). header l Internal) load_is in
     let external_is = c.header-external.ensures ∙ ap (λ (l : Load). header l External) load_is in
-    load_done load ready a (g.M.Machine.told c.sync_both.new.m) (g.M.Machine.told c.test_free.new.m) c.in_default-sync_both.ensures.synced.does c.test_free.ensures.done
+    load_done t load ready a (g.M.Machine.told c.sync_both.new.m) (g.M.Machine.told c.test_free.new.m) c.in_default-sync_both.ensures.synced.does c.test_free.ensures.done
     (g.M.Machine.told c.lay.new.m) c.header-internal.result c.header-external.result body internal_is external_is written c.in-Ok-lay.ensures.exact
 
 pub returns-clause-order : goal.returns-clause-order
@@ -137,9 +135,9 @@ returns-clause-order g c =
     let body = c.deref.result.now in
     let into = c.encode_into.new.into in
     let long : c.in-Ok.room.next.len ≡ length into = search rules in
-    let written : body ≡ encode ready =
-    c.deref.ensures.value ∙ refilled c.in-Ok.room.next.len into (drop (length into) c.in-Ok.room.next.items) long ∙ c.encode_into.ensures ∙ ap encode c.in-Ok.ensures ∙ ap (λ (n : ℕ). encode (ready_state t n)) c.len.ensures.count in
+    let written : body ≡ encode t ready =
+    c.deref.ensures.value ∙ refilled c.in-Ok.room.next.len into (drop (length into) c.in-Ok.room.next.items) long ∙ c.encode_into.ensures ∙ ap (encode t) c.in-Ok.ensures ∙ ap (λ (n : ℕ). encode t (ready_state t n)) c.len.ensures.count in
     let internal_is = c.header-internal.ensures ∙ ap (λ (l : Load). header l Internal) load_is in
     let external_is = c.header-external.ensures ∙ ap (λ (l : Load). header l External) load_is in
-    load_cut load ready a (g.M.Machine.told c.sync_both.new.m) (g.M.Machine.told c.test_free.new.m) c.in_default-sync_both.ensures.synced.does c.test_free.ensures.done
+    load_cut t load ready a (g.M.Machine.told c.sync_both.new.m) (g.M.Machine.told c.test_free.new.m) c.in_default-sync_both.ensures.synced.does c.test_free.ensures.done
     (g.M.Machine.told c.lay.new.m) c.header-internal.result c.header-external.result body internal_is external_is written c.in-Err-lay.ensures.cut

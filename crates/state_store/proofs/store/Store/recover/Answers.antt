@@ -1,4 +1,5 @@
 use Rattle.std.proofs.Common.{◌≡◌, ℕ, List, [], ◌++◌, length, sym, ap, subst, ◌∙◌, arith, rules}
+use Rattle.std.specs.Option.{ForSome}
 use Rattle.urna_outside.specs.Flash.{Op}
 use Rattle.urna_outside.specs.Told.{Runs}
 use Rattle.urna_outside.proofs.Doing.{then_told}
@@ -10,13 +11,13 @@ use Rattle.twin_image.specs.Found.{found_body}
 use Rattle.twin_image.specs.Level.{IsLevel, body_of}
 use Rattle.twin_image.specs.Slots.{AreClean}
 use Rattle.image_codec.specs.Layout.{body_size}
-use Rattle.state_store.specs.Calls.{Recovers, both_synced}
+use Rattle.state_store.specs.Calls.{IsBroughtUp, Recovers, both_synced}
 use Rattle.state_store.specs.Held.{AreLoaded}
 use Rattle.state_store.specs.Load.{load_of}
 use Rattle.state_store.specs.Store.{AreDevices, Keeps, StoreData}
 use Rattle.state_store.specs.declared.load.Load.{Load}
 use Rattle.state_store.proofs.Ready.{ready_places}
-use Rattle.state_store.proofs.Recovering.{clean_after, fails_finding, fails_healing, found_encoding, found_known, healed_exactly, ranked_state, recovered, rests_healed}
+use Rattle.state_store.proofs.Recovering.{brought_named, clean_after, fails_changing, fails_finding, fails_healing, found_encoding, found_known, ranked_state, recovered, recovered_exactly, rests_brought}
 use Rattle.state_store.proofs.Standing.{roomy}
 use Rattle.state_store.proofs.store.Store.recover.Goals as goal
 
@@ -45,6 +46,44 @@ returns-in-Err-heal-clause-fails g c =
     fails_healing t r c.in_ok-section.section found.tables found.roll.count.1 s.0 body s.1 (g.M.Machine.told c.args.m.now) (g.M.Machine.told c.sync_both.new.m) (g.M.Machine.told c.find.new.m) (g.M.Machine.told c.heal.new.m)
     synced.does found.done found.loaded found.held c.heal.ensures.ran c.in-Err-heal.dev found.section (faultless_trans _ _ _ synced.fine found.fine) c.in-Err-heal.ensures.fails
 
+pub bring_up-requires-clause-encoding : goal.bring_up-requires-clause-encoding
+bring_up-requires-clause-encoding g c =
+    let t = c.args.tables.now in
+    let r = c.args.roll.now in
+    let synced = c.in_default-sync_both.ensures.synced in
+    let found = c.in_ok-section.ensures in
+    let section = c.in_ok-section.section in
+    let body = found_body c.in_ok-section.found in
+    let s = c.load-loaded.new.self in
+    let body_is : body_of c.in-Ok-heal.level ≡ body = c.in-Ok-heal.ensures.body in
+    let places : length c.in-Ok.room.state.came ≡ length r.titles = ready_places t c.len.result c.in-Ok.room.state c.in-Ok.ensures ∙ c.len.ensures.count in
+    let read : IsEncoding t (length r.titles) s body =
+    subst (λ (b : List ℕ). IsEncoding t (length r.titles) s b) (c.body.ensures ∙ body_is) (subst (λ (n : ℕ). IsEncoding t n s c.body.result.now) places (c.load-loaded.ensures.loaded c.if-prove.false)) in
+    subst (λ (n : ℕ). IsEncoding t n s (body_of c.in-Ok-heal.level)) (sym read.state.roll) (subst (λ (l : List ℕ). IsEncoding t (length r.titles) s l) (sym body_is) read)
+
+pub returns-in-Err-bring_up-clause-fails : goal.returns-in-Err-bring_up-clause-fails
+returns-in-Err-bring_up-clause-fails g c =
+    let t = c.args.tables.now in
+    let r = c.args.roll.now in
+    let synced = c.in_default-sync_both.ensures.synced in
+    let found = c.in_ok-section.ensures in
+    let section = c.in_ok-section.section in
+    let body = found_body c.in_ok-section.found in
+    let s = c.load-loaded.new.self in
+    let body_is : body_of c.in-Ok-heal.level ≡ body = c.in-Ok-heal.ensures.body in
+    let places : length c.in-Ok.room.state.came ≡ length r.titles = ready_places t c.len.result c.in-Ok.room.state c.in-Ok.ensures ∙ c.len.ensures.count in
+    let read : IsEncoding t (length r.titles) s body =
+    subst (λ (b : List ℕ). IsEncoding t (length r.titles) s b) (c.body.ensures ∙ body_is) (subst (λ (n : ℕ). IsEncoding t n s c.body.result.now) places (c.load-loaded.ensures.loaded c.if-prove.false)) in
+    let known = found_known t r section found.tables found.roll found.section s body read in
+    let a = g.M.Machine.told c.args.m.now in
+    let b = g.M.Machine.told c.sync_both.new.m in
+    let mid = g.M.Machine.told c.find.new.m in
+    let healed = g.M.Machine.told c.heal.new.m in
+    let end = g.M.Machine.told c.bring_up.new.m in
+    let second = brought_named t r section found.tables found.roll found.section s body read healed end c.bring_up.ensures.ran in
+    let fine = faultless_trans _ _ _ (faultless_trans _ _ _ synced.fine found.fine) c.in-Ok-heal.ensures.fails in
+    fails_changing t r section found.tables found.roll.count.1 s body known a b mid healed synced.does found.done found.loaded found.held c.heal.ensures.ran end second c.in-Err-bring_up.dev found.section fine c.in-Err-bring_up.ensures.fails
+
 pub returns-clause-kept : goal.returns-clause-kept
 returns-clause-kept g c =
     let t = c.args.tables.now in
@@ -54,21 +93,28 @@ returns-clause-kept g c =
     let section = c.in_ok-section.section in
     let body = found_body c.in_ok-section.found in
     let s = c.load-loaded.new.self in
-    let mid = g.M.Machine.told c.find.new.m in
-    let end = g.M.Machine.told c.heal.new.m in
     let body_is : body_of c.in-Ok-heal.level ≡ body = c.in-Ok-heal.ensures.body in
     let places : length c.in-Ok.room.state.came ≡ length r.titles = ready_places t c.len.result c.in-Ok.room.state c.in-Ok.ensures ∙ c.len.ensures.count in
     let read : IsEncoding t (length r.titles) s body =
     subst (λ (b : List ℕ). IsEncoding t (length r.titles) s b) (c.body.ensures ∙ body_is) (subst (λ (n : ℕ). IsEncoding t n s c.body.result.now) places (c.load-loaded.ensures.loaded c.if-prove.false)) in
+    let known = found_known t r section found.tables found.roll found.section s body read in
+    let a = g.M.Machine.told c.args.m.now in
+    let b = g.M.Machine.told c.sync_both.new.m in
+    let mid = g.M.Machine.told c.find.new.m in
+    let healed = g.M.Machine.told c.heal.new.m in
+    let end = g.M.Machine.told c.bring_up.new.m in
+    let second = brought_named t r section found.tables found.roll found.section s body read healed end c.bring_up.ensures.ran in
     let devices = subst AreDevices (sym (found.done.sizes ∙ synced.does.sizes)) c.requires.devices in
-    let loaded = then_told [] (g.M.Machine.told c.sync_both.new.m) mid (λ fs. AreLoaded t r section fs.internal.content fs.external.content) found.done found.loaded in
-    let level = c.in-Ok-heal.ensures.level in
-    let store : StoreData = record { load = load_of t r section; body = body_of c.in-Ok-heal.level } in
+    let loaded = then_told [] b mid (λ fs. AreLoaded t r section fs.internal.content fs.external.content) found.done found.loaded in
+    let brought = c.in-Ok-bring_up.ensures.body in
+    let level = c.in-Ok-bring_up.ensures.level in
+    let store : StoreData = record { load = load_of t r section; body = body_of c.in-Ok-bring_up.level } in
     let keeps : Keeps t end store s = record {
-      encoding = subst (IsEncoding t section.voters s) (sym body_is) (found_encoding t r section found.tables found.roll found.section s body read);
-      rest = rests_healed t r section found.tables found.roll found.section s body read mid end devices (g.met.M.Machine.sized c.find.new.m) (g.met.M.Machine.sized c.heal.new.m) loaded c.heal.ensures.ran (λ fs told. subst (λ (b : List ℕ). IsLevel body_size b fs) body_is (level.flashes fs told));
+      state = (found_encoding t r section found.tables found.roll found.section s body read).state;
+      body = brought;
+      rest = rests_brought t r section found.tables found.roll found.section s body read mid healed end devices (g.met.M.Machine.sized c.find.new.m) (g.met.M.Machine.sized c.heal.new.m) (g.met.M.Machine.sized c.bring_up.new.m) loaded c.heal.ensures.ran second (λ fs told. subst (λ (l : List ℕ). IsLevel body_size l fs) brought (level.flashes fs told));
     } in
-    subst (λ (load : Load). let there : StoreData = record { load = load; body = body_of c.in-Ok-heal.level } in Keeps t end there s) (sym c.of-load.ensures) keeps
+    subst (λ (load : Load). let there : StoreData = record { load = load; body = body_of c.in-Ok-bring_up.level } in Keeps t end there s) (sym c.of-load.ensures) keeps
 
 pub returns-clause-ran : goal.returns-clause-ran
 returns-clause-ran g c =
@@ -79,26 +125,41 @@ returns-clause-ran g c =
     let section = c.in_ok-section.section in
     let body = found_body c.in_ok-section.found in
     let s = c.load-loaded.new.self in
-    let start = g.M.Machine.told c.args.m.now in
     let body_is : body_of c.in-Ok-heal.level ≡ body = c.in-Ok-heal.ensures.body in
     let places : length c.in-Ok.room.state.came ≡ length r.titles = ready_places t c.len.result c.in-Ok.room.state c.in-Ok.ensures ∙ c.len.ensures.count in
     let read : IsEncoding t (length r.titles) s body =
     subst (λ (b : List ℕ). IsEncoding t (length r.titles) s b) (c.body.ensures ∙ body_is) (subst (λ (n : ℕ). IsEncoding t n s c.body.result.now) places (c.load-loaded.ensures.loaded c.if-prove.false)) in
     let known = found_known t r section found.tables found.roll found.section s body read in
-    let ran = recovered t r section found.tables found.roll.count.1 s body known start (g.M.Machine.told c.sync_both.new.m) (g.M.Machine.told c.find.new.m) (g.M.Machine.told c.heal.new.m) synced.does found.done found.loaded found.held c.heal.ensures.ran in
-    subst (λ (u : Section). Runs (λ ops. (rest : List Op) × (ops ≡ both_synced ++ rest) × Recovers t r u s start rest) start (g.M.Machine.told c.heal.new.m)) (sym (ap (λ (l : Load). l.section) c.of-load.ensures)) ran
+    let a = g.M.Machine.told c.args.m.now in
+    let b = g.M.Machine.told c.sync_both.new.m in
+    let mid = g.M.Machine.told c.find.new.m in
+    let healed = g.M.Machine.told c.heal.new.m in
+    let end = g.M.Machine.told c.bring_up.new.m in
+    let second = brought_named t r section found.tables found.roll found.section s body read healed end c.bring_up.ensures.ran in
+    let ran = recovered t r section found.tables found.roll.count.1 s body known a b mid healed synced.does found.done found.loaded found.held c.heal.ensures.ran end second in
+    subst (λ (u : Section). Runs (λ ops. (rest : List Op) × (ops ≡ both_synced ++ rest) × Recovers t r u s a rest) a end) (sym (ap (λ (l : Load). l.section) c.of-load.ensures)) ran
 
 pub returns-clause-exact : goal.returns-clause-exact
 returns-clause-exact g c =
     let t = c.args.tables.now in
     let r = c.args.roll.now in
+    let synced = c.in_default-sync_both.ensures.synced in
     let found = c.in_ok-section.ensures in
+    let section = c.in_ok-section.section in
     let body = found_body c.in_ok-section.found in
     let s = c.load-loaded.new.self in
     let body_is : body_of c.in-Ok-heal.level ≡ body = c.in-Ok-heal.ensures.body in
-    let read : IsEncoding t (length c.in-Ok.room.state.came) s body =
-    subst (IsEncoding t (length c.in-Ok.room.state.came) s) (c.body.ensures ∙ body_is) (c.load-loaded.ensures.loaded c.if-prove.false) in
-    healed_exactly s body (g.M.Machine.told c.args.m.now) (g.M.Machine.told c.sync_both.new.m) (g.M.Machine.told c.find.new.m) (g.M.Machine.told c.heal.new.m) read.same c.in_default-sync_both.ensures.synced.does found.done c.in-Ok-heal.ensures.exact
+    let places : length c.in-Ok.room.state.came ≡ length r.titles = ready_places t c.len.result c.in-Ok.room.state c.in-Ok.ensures ∙ c.len.ensures.count in
+    let read : IsEncoding t (length r.titles) s body =
+    subst (λ (b : List ℕ). IsEncoding t (length r.titles) s b) (c.body.ensures ∙ body_is) (subst (λ (n : ℕ). IsEncoding t n s c.body.result.now) places (c.load-loaded.ensures.loaded c.if-prove.false)) in
+    let known = found_known t r section found.tables found.roll found.section s body read in
+    let a = g.M.Machine.told c.args.m.now in
+    let b = g.M.Machine.told c.sync_both.new.m in
+    let mid = g.M.Machine.told c.find.new.m in
+    let healed = g.M.Machine.told c.heal.new.m in
+    let end = g.M.Machine.told c.bring_up.new.m in
+    let more = subst (λ (l : List ℕ). ForSome healed.flashes (λ start. Runs (IsBroughtUp t s l) healed end)) body_is c.in-Ok-bring_up.ensures.exact in
+    recovered_exactly t r section found.tables found.roll.count.1 s body known a b mid healed end synced.does found.done found.held c.in-Ok-heal.ensures.exact more
 
 pub prove-unreachable-requires : goal.prove-unreachable-requires
 prove-unreachable-requires g c =

@@ -35,7 +35,7 @@ loop-event-init g c =
       devices = c.requires.devices;
       put =
           put_nothing c.args.tables.now c.args.self.store.load c.args.self.standing.state (g.M.Machine.told c.args.m.now)
-          (stored c.args.tables.now c.args.roll.now c.args.self.store.load c.args.self.standing.state is.load is.kept.encoding.state) is.kept.rest;
+          (stored c.args.tables.now c.args.roll.now c.args.self.store.load c.args.self.standing.state is.load is.kept.state) is.kept.rest;
     }
 
 -- an event more is done

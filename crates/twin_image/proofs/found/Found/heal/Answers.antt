@@ -7,8 +7,9 @@ use Rattle.gate_slot.specs.Slot.{room}
 use Rattle.twin_image.specs.Level.{IsLevel}
 use Rattle.twin_image.specs.Slots.{HaveRoom}
 use Rattle.twin_image.specs.Twin.{IsTwin}
-use Rattle.twin_image.proofs.Committing.{internal_differs, external_differs, level_of}
-use Rattle.twin_image.proofs.Healing.{other_stays, healed_internal, healed, both_idle, heals_all}
+use Rattle.twin_image.proofs.Committing.{level_of, other_kept}
+use Rattle.twin_image.proofs.Healing.{healed_internal, healed, both_idle, heals_all}
+use Rattle.twin_image.proofs.Renewing.{twin_bounded}
 use Rattle.twin_image.proofs.found.Found.heal.Goals as goal
 
 pub mend_twin-requires : goal.mend_twin-requires
@@ -31,7 +32,7 @@ mend_twin-requires-2 g c =
     let bytes = sym c.deref-2.ensures.value in
     let run = c.mend_twin.ensures.ran in
     let fits = subst (λ (z : Sizes). room g.row.SIZE ≤ size_of External z) (sym run.1.sizes) (c.requires.room External) in
-    let still = other_stays Internal External g.row.SIZE 6 _ IsClean _ _ external_differs (c.requires.room Internal) (g.met.M.Machine.sized c.args.m.now) run (λ fs told. c.requires.clean fs told External) in
+    let still = other_kept Internal _ 6 _ IsClean _ _ (twin_bounded g.row.SIZE _ (c.requires.room Internal)) (g.met.M.Machine.sized c.args.m.now) run (λ fs told. c.requires.clean fs told External) in
     (omega arith, (fits, (still, (subst (λ (l : List ℕ). length l ≡ g.row.SIZE) bytes c.args.self.whole, search rules))))
 
 pub returns-in_err-external-clause-ran : goal.returns-in_err-external-clause-ran
@@ -61,7 +62,7 @@ returns-clause-level g c =
     let twin_2 = rw c.deref-2.ensures.value at c.in_ok-external.ensures.twin in
     let clean = c.in_ok-internal.ensures.clean in
     let fits = subst (HaveRoom g.row.SIZE) (sym run.1.sizes) c.requires.room in
-    let still = other_stays External Internal g.row.SIZE 6 _ (λ f. IsTwin g.row.SIZE body f × IsClean f) _ _ internal_differs (fits External) (g.met.M.Machine.sized c.mend_twin.new.m) run_2 (λ fs told. (twin fs told, clean fs told)) in
+    let still = other_kept External _ 6 _ (λ f. IsTwin g.row.SIZE body f × IsClean f) _ _ (twin_bounded g.row.SIZE _ (fits External)) (g.met.M.Machine.sized c.mend_twin.new.m) run_2 (λ fs told. (twin fs told, clean fs told)) in
     let is = sym c.of.ensures.body in
     record {
       internal = rw c.of.ensures.internal c.in_ok-internal.ensures.pair;

@@ -1,4 +1,4 @@
-use Rattle.std.proofs.Common.{◌≡◌, ◌≤◌, ℕ, List, length, sym, ap, ◌∙◌, subst, arith, rules}
+use Rattle.std.proofs.Common.{◌≡◌, ◌<◌, ◌≤◌, ℕ, List, length, sym, ap, ◌∙◌, subst, arith, rules}
 use Rattle.urna_outside.specs.Flash.{IsClean, flash_of}
 use Rattle.std.specs.Option.{ForSome}
 use Rattle.urna_outside.specs.Told.{Runs, Sizes, size_of}
@@ -13,9 +13,9 @@ use Rattle.twin_image.specs.Lay.{header_for, lay_ops, load_ops}
 use Rattle.twin_image.specs.Level.{IsLevel}
 use Rattle.twin_image.specs.Slots.{HaveRoom}
 use Rattle.twin_image.specs.Twin.{IsTwin}
-use Rattle.twin_image.proofs.Committing.{internal_differs, external_differs, level_of}
+use Rattle.twin_image.proofs.Committing.{level_of, other_kept}
 use Rattle.twin_image.proofs.Framing.{on_both}
-use Rattle.twin_image.proofs.Loading.{other_kept, loaded_content, loads_internal, loads, loads_all, loads_cut}
+use Rattle.twin_image.proofs.Loading.{loaded_content, loads_internal, loads, loads_all, loads_cut}
 use Rattle.twin_image.proofs.twin.Twin.lay.Goals as goal
 
 pub lay_on-requires : goal.lay_on-requires
@@ -32,7 +32,7 @@ lay_on-requires-2 g c =
     let full : room g.row.SIZE ≤ size_of Internal (g.M.Machine.told c.args.m.now).sizes = omega (arith, c.requires.full Internal) in
     let fits : room g.row.SIZE ≤ size_of External (g.M.Machine.told c.args.m.now).sizes = omega (arith, c.requires.full External) in
     let later = subst (λ (z : Sizes). room g.row.SIZE ≤ size_of External z) (sym c.lay_on.ensures.ran.1.sizes) fits in
-    let clean = other_kept Internal External g.row.SIZE 7 _ IsClean _ _ external_differs full (g.met.M.Machine.sized c.args.m.now) c.lay_on.ensures.ran (λ fs told. c.requires.clean fs told External) in
+    let clean = other_kept Internal (λ k. k < room g.row.SIZE) 7 _ IsClean _ _ (λ k is. omega (arith, full)) (g.met.M.Machine.sized c.args.m.now) c.lay_on.ensures.ran (λ fs told. c.requires.clean fs told External) in
     (omega arith, (later, (clean, (c.requires.external, c.requires.body))))
 
 pub returns-in_err-external-clause-ran : goal.returns-in_err-external-clause-ran
@@ -56,7 +56,7 @@ returns-clause-level g c =
     let later = subst (HaveRoom g.row.SIZE) (sym c.lay_on.ensures.ran.1.sizes) fits in
     let twin = c.in_ok-internal.ensures.twin in
     let clean = c.in_ok-internal.ensures.clean in
-    let still = other_kept External Internal g.row.SIZE 7 _ (λ f. IsTwin g.row.SIZE body f × IsClean f) _ _ internal_differs (later External) (g.met.M.Machine.sized c.lay_on.new.m) c.lay_on-2.ensures.ran (λ fs told. (twin fs told, clean fs told)) in
+    let still = other_kept External (λ k. k < room g.row.SIZE) 7 _ (λ f. IsTwin g.row.SIZE body f × IsClean f) _ _ (λ k is. omega (arith, later External)) (g.met.M.Machine.sized c.lay_on.new.m) c.lay_on-2.ensures.ran (λ fs told. (twin fs told, clean fs told)) in
     let is = sym (c.of.ensures.body ∙ c.copy_from_slice.ensures.items) in
     record {
       internal = rw c.of.ensures.internal c.in_ok-internal.ensures.pair;
@@ -74,7 +74,7 @@ returns-clause-laid g c =
     let later = subst (HaveRoom g.row.SIZE) (sym c.lay_on.ensures.ran.1.sizes) fits in
     let twin = c.in_ok-internal.ensures.twin in
     let frame = c.in_ok-internal.ensures.frame in
-    let still = other_kept External Internal g.row.SIZE 7 _ (λ f. FrameStands g.row.SIZE c.args.internal.now f × IsTwin g.row.SIZE body f) _ _ internal_differs (later External) (g.met.M.Machine.sized c.lay_on.new.m) c.lay_on-2.ensures.ran (λ fs told. (frame fs told, twin fs told)) in
+    let still = other_kept External (λ k. k < room g.row.SIZE) 7 _ (λ f. FrameStands g.row.SIZE c.args.internal.now f × IsTwin g.row.SIZE body f) _ _ (λ k is. omega (arith, later External)) (g.met.M.Machine.sized c.lay_on.new.m) c.lay_on-2.ensures.ran (λ fs told. (frame fs told, twin fs told)) in
     let same = c.lay_on-2.ensures.ran.1.sizes ∙ c.lay_on.ensures.ran.1.sizes in
     λ fs told.
     let full : (d : Dev) → length (flash_of d fs).content ≡ room g.row.SIZE =

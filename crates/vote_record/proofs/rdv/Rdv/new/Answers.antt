@@ -18,7 +18,7 @@ loop-panel-preserved c =
     record {
       places = c.push_reserved-in-loop-panel.ensures.items ∙ ap (λ (l : List ℕ). l ++ c.places-votes.result ∷ []) c.loop-panel.invariant.places ∙ more;
       bags = c.push_reserved.ensures.items
-          ∙ ap (λ (b : BagData). c.loop-panel.bags.items ++ b ∷ []) c.in_ok-with_room.ensures
+          ∙ ap (λ (b : BagData). c.loop-panel.bags.items ++ b ∷ []) c.in_ok-of_panel.ensures
           ∙ ap (λ (l : List BagData). l ++ empty_bag voters c.places-votes.result ∷ []) c.loop-panel.invariant.bags
           ∙ sym (map-append (empty_bag voters) (take panel all) (c.places-votes.result ∷ []))
           ∙ ap (map (empty_bag voters)) more;

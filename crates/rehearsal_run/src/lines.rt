@@ -1,0 +1,194 @@
+//! The ten lines that tell a rehearsal (docs/FORMATS.md, "The rehearsal").
+ghost use Rattle.std.specs.Prelude.{◌≡◌, ◌+◌, ◌*◌, ◌<◌, ◌≤◌, ◌^◌, ℕ, List, [], ◌∷◌, ◌++◌, length, sum_by, IfOk};
+ghost use Rattle.std.specs.Fmt.{decimal};
+ghost use Rattle.poll_report.specs.declared.report.Report.{Report};
+ghost use Rattle.qr_text.specs.Spelling.{report_text};
+ghost use Rattle.urna_base.specs.Words.{pieces};
+ghost use Rattle.hash_chain.specs.Cut.{cut};
+ghost use Rattle.section_intake.specs.Intake.{IsIntakeFor, accepted_files};
+ghost use Rattle.section_intake.specs.Sums.{AreReportsOf};
+ghost use Rattle.totals.specs.Contest.{votes_in};
+ghost use Rattle.totals.specs.Lines.{total_of};
+ghost use Rattle.rehearsal.specs.Tables.{generated_tables};
+ghost use Rattle.rehearsal_run.specs.Lines.{TellRehearsal, elected_line, mayor_line, parties_in, quotient_line, seats_line, seats_words, suspended_among, votes_line};
+
+use election_tables::Tables;
+use seat_remainders::{MajorityOutcome, Outcome, distribute, majority};
+use section_intake::Intake;
+use std::alloc::Global;
+use totals::{PanelVotes, contest_of, entries_of, number_line, pair_line, push_numbered};
+use urna_base::{LineBuffer, Memory};
+
+/// The panel of the councillors.
+const COUNCILLOR: u32 = 0;
+
+/// The panel of the mayor.
+const MAYOR: u32 = 1;
+
+/// The lines of a poll of `n` voters of whom so many came, whose report has so many parts and alone is accepted.
+pub(crate) fn rehearsal_lines(
+    alloc: Global,
+    n: u32,
+    tables: &Tables,
+    intake: &Intake,
+    came: u32,
+    parts: u64,
+) -> Result<Vec<LineBuffer>, Memory>
+    requires made { IsIntakeFor tables.now intake.now }
+    requires tables { (digest : List ℕ) × (tables.now ≡ generated_tables n digest) }
+    requires few { came ≤ n }
+    ensures { (r : Report) → AreReportsOf (accepted_files intake.now) (r ∷ []) → r.able ≡ n → r.came ≡ came
+        → length (cut (pieces (report_text r))) ≡ parts → IfOk result (λ lines. TellRehearsal n tables.now r lines.items) }
+{
+    let contest = contest_of(alloc, tables, intake, COUNCILLOR)?;
+    let outcome = distribute(alloc, &contest)?;
+    seat_remainders::laws::seats();
+    let mayors = entries_of(alloc, tables, intake, MAYOR)?;
+    let mut lines = Vec::new(alloc);
+    lines.push(number_line(b"ENSAIO ", u64::from(n)))?;
+    lines.push(number_line(b"COMP ", u64::from(came)))?;
+    lines.push(number_line(b"FALT ", u64::from(n - came)))?;
+    lines.push(number_line(b"SUSPENSOS ", u64::from(suspended_among(n))))?;
+    lines.push(votes_line(13, votes_of(alloc, tables, intake, COUNCILLOR)?))?;
+    lines.push(quotient_line(&outcome))?;
+    lines.push(elected_line(&outcome))?;
+    lines.push(votes_line(11, votes_of(alloc, tables, intake, MAYOR)?))?;
+    lines.push(mayor_line(majority(mayors.as_slice(), true)))?;
+    lines.push(number_line(b"PARTES ", parts))?;
+    Ok(lines)
+}
+
+/// The votes of a panel.
+fn votes_of(
+    alloc: Global,
+    tables: &Tables,
+    intake: &Intake,
+    panel: u32,
+) -> Result<PanelVotes, Memory>
+    requires panel { panel < length tables.now.panels }
+    requires made { IsIntakeFor tables.now intake.now }
+    ensures votes { IfOk result (λ votes. (reports : List Report) → AreReportsOf (accepted_files intake.now) reports → votes ≡ votes_in reports panel) }
+    ensures few { IfOk result (λ votes. total_of votes < 10 ^ 8) }
+{
+    let entries = entries_of(alloc, tables, intake, panel)?;
+    Ok(PanelVotes::of(tables, intake, panel, entries.as_slice()))
+}
+
+/// How many of `n` voters the clerk suspends.
+fn suspended_among(n: u32) -> u32
+    ensures { result ≡ suspended_among n }
+{
+    let mut count = 0;
+    for place in 0..n {
+        if place % 80 == 7 {
+            count += 1;
+        }
+    }
+    count
+}
+
+/// The votes of an office. The caller owes that they are fewer than 10^8.
+fn votes_line(code: u8, votes: PanelVotes) -> LineBuffer
+    requires { total_of votes < 10 ^ 8 }
+    ensures { result ≡ votes_line code votes }
+{
+    let mut line = LineBuffer::new();
+    push_numbered(&mut line, b"CARGO ", u64::from(code));
+    push_numbered(&mut line, b" VALIDOS ", votes.valid());
+    push_numbered(&mut line, b" BRANCOS ", votes.blank);
+    push_numbered(&mut line, b" NULOS ", votes.null_votes);
+    line.push_text(b"\n");
+    line
+}
+
+/// The electoral quotient of the councillors, or why there are no seats.
+fn quotient_line(outcome: &Outcome) -> LineBuffer
+    ensures { result ≡ quotient_line outcome.now }
+{
+    match outcome {
+        Outcome::Seats(seats) => seats_line(seats.quotient, seats.vacant),
+        Outcome::NoQuotient { valid, seats } => {
+            pair_line(b"CARGO 13 SEM QUOCIENTE ", *valid, u64::from(*seats))
+        }
+        Outcome::Over { first, seats } => {
+            pair_line(b"CARGO 13 QUOCIENTE EXCEDIDO ", *first, u64::from(*seats))
+        }
+    }
+}
+
+/// The electoral quotient, and how many of the 9 seats stay vacant.
+fn seats_line(quotient: u64, vacant: u32) -> LineBuffer
+    ensures { result ≡ seats_line quotient vacant }
+{
+    two_numbers(
+        b"CARGO 13 QUOCIENTE ",
+        quotient,
+        b" VAGAS 9 VACANTES ",
+        u64::from(vacant),
+    )
+}
+
+/// A line of two words, each with a number.
+fn two_numbers(word: &[u8], number: u64, other_word: &[u8], other: u64) -> LineBuffer
+    requires few { length word.now ≤ 40 }
+    requires other_few { length other_word.now ≤ 40 }
+    ensures { result ≡ word.now ++ (decimal number ++ (other_word.now ++ (decimal other ++ 10 ∷ []))) }
+{
+    let mut line = LineBuffer::new();
+    push_numbered(&mut line, word, number);
+    push_numbered(&mut line, other_word, other);
+    line.push_text(b"\n");
+    line
+}
+
+/// The parties with seats. The caller owes that these are 9 seats at most, so that they fit a line.
+fn elected_line(outcome: &Outcome) -> LineBuffer
+    requires { sum_by (λ p. p.seats) (parties_in outcome.now) ≤ 9 }
+    ensures { result ≡ elected_line outcome.now }
+{
+    let mut line = LineBuffer::new();
+    line.push_text(b"CARGO 13 ELEITOS");
+    if let Outcome::Seats(seats) = outcome {
+        for i in 0..seats.parties.len() {
+            let party = seats.parties.get(i);
+            push_seats(&mut line, party.number, party.seats);
+        }
+    }
+    line.push_text(b"\n");
+    line
+}
+
+/// Appends a party and its seats, if it has any.
+#[tactic(auto, using(crate::proofs::LineLaws::seat_lengths))]
+fn push_seats(line: &mut LineBuffer, party: u8, seats: u32)
+    requires few { seats ≤ 9 }
+    requires room { length line.old + 6 * seats ≤ 127 }
+    ensures text { line.new ≡ line.old ++ seats_words party seats }
+    ensures short { length line.new ≤ length line.old + 6 * seats }
+{
+    if seats > 0 {
+        line.push_text(b" ");
+        line.push_decimal(u64::from(party));
+        line.push_text(b":");
+        line.push_decimal(u64::from(seats));
+    }
+}
+
+/// What comes of the office of mayor.
+fn mayor_line(outcome: MajorityOutcome) -> LineBuffer
+    ensures { result ≡ mayor_line outcome }
+{
+    match outcome {
+        MajorityOutcome::Elected(number) => number_line(b"CARGO 11 ELEITO ", u64::from(number)),
+        MajorityOutcome::Runoff(first, second) => pair_line(
+            b"CARGO 11 SEGUNDO TURNO ",
+            u64::from(first),
+            u64::from(second),
+        ),
+        MajorityOutcome::Nobody => {
+            let mut line = LineBuffer::new();
+            line.push_text(b"CARGO 11 NINGUEM\n");
+            line
+        }
+    }
+}

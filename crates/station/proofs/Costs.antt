@@ -1,0 +1,28 @@
+-- What the commits of a history put
+use Rattle.std.proofs.Common.{ℕ, suc, ◌+◌, ◌*◌, ◌≤◌, List, length, arith}
+use Rattle.std.specs.List.{AllByRecursion}
+use Rattle.election_tables.specs.Limits.{most_voters}
+use Rattle.election_tables.specs.TablesData.{IsTables, TablesData}
+use Rattle.image_codec.specs.Encoding.{IsStateOf}
+use Rattle.image_codec.specs.State.{State}
+use Rattle.state_store.specs.Cost.{ballot_bytes, bytes_along, commit_bytes}
+use Rattle.state_store.proofs.PageBound.{ballot_costs_few, opening_costs_one_page, sealing_costs_one_page}
+use Rattle.station.specs.Setting.{setting_of}
+use Rattle.station.specs.States.{opening, voter, seal, IsHistory, IsNext, same, then}
+
+next_costs : (t : TablesData) (titles : List ℕ) {s u : State} → IsTables t → length titles ≤ most_voters → IsStateOf t (length titles) s
+    → IsNext (setting_of t titles) s u → commit_bytes t s u ≤ ballot_bytes t
+next_costs t titles {s} tables few of (opening m ready) = let here = opening_costs_one_page t s m in omega arith
+next_costs t titles {s} tables few of (voter place choices may ballot) = ballot_costs_few t (length titles) s place choices tables few of ballot
+next_costs t titles {s} tables few of (seal m polling at) = let here = sealing_costs_one_page t s m in omega arith
+
+one_more : (first rest each n : ℕ) → first ≤ each → rest ≤ n * each → first + rest ≤ suc n * each
+one_more first rest each n a b = omega arith
+
+pub history_costs : (t : TablesData) (titles : List ℕ) {s last : State} {states : List State} → IsTables t → length titles ≤ most_voters → IsStateOf t (length titles) s
+    → AllByRecursion (IsStateOf t (length titles)) states → IsHistory (setting_of t titles) s states last → bytes_along t s states ≤ length states * ballot_bytes t
+history_costs t titles tables few of all same = omega arith
+history_costs t titles {s} tables few of all (then {u = u} {states = states} next more) =
+    one_more (commit_bytes t s u) (bytes_along t u states) (ballot_bytes t) (length states)
+    (next_costs t titles tables few of next)
+    (history_costs t titles tables few all.0 all.1 more)

@@ -1,0 +1,27 @@
+use Rattle.std.proofs.Common.{List, length, sym, ap, subst, ◌∙◌, arith}
+use Rattle.vote_kinds.specs.declared.choice.Choice.{Choice}
+use Rattle.vote_kinds.specs.Ballot.{choices_of, line_of}
+use Rattle.vote_kinds.specs.Choice.{AreRising}
+use Rattle.vote_kinds.proofs.LineChoices.{line_of_rises}
+use Rattle.vote_record.specs.BagData.{BagData, choices_in, members_of}
+use Rattle.vote_record.proofs.NewCounters.{choices_in_new, no_members}
+use Rattle.vote_record.proofs.bag.Bag.of_panel.Goals as goal
+
+pub invariant_of-result : goal.invariant_of-result
+invariant_of-result c =
+    let t = c.args.tables.now in
+    let choices : List Choice = choices_of (line_of t c.args.panel) in
+    let none = ap (λ (m : List Choice). length m) (ap members_of c.in_ok-counters.ensures.places ∙ no_members choices) in
+    record {
+      rise = subst AreRising (sym (ap choices_in c.in_ok-counters.ensures.places ∙ choices_in_new choices)) (line_of_rises t c.args.panel c.new_counters.ensures.tables);
+      counted = sym none;
+      within = omega arith;
+      reserved = c.in_ok-counters.ensures.memory;
+      few = omega (arith, c.in_ok-counters.ensures.few);
+    }
+
+pub returns : goal.returns
+returns c =
+    let choices : List Choice = choices_of (line_of c.args.tables.now c.args.panel) in
+    let bag_of : List Choice → BagData = λ members. record { members = members; room = c.args.room } in
+    ap bag_of (ap members_of c.in_ok-counters.ensures.places ∙ no_members choices)
