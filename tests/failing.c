@@ -1,94 +1,255 @@
-/* For tests/crash-trial: makes the n-th write to a flash file or the n-th sync fail, with only half of the bytes of a write put.
-   URNA_FAIL is `write N` or `sync N`, counted from 1 over files whose names end in `.flash`; or `new-write N` or `new-sync N`, over
-   those whose names end in `.new`, or `new-kill N`, where the process is killed in such a write; or `named-kill N`, where it is
-   killed as soon as the n-th of these has its own name. */
+/* For tests/crash-trial and tests/hostile: makes one call of a program go another way than it would, and tells the calls of the program.
+
+   URNA_FAIL is `CALL ENDING N HOW`: of the calls of this kind over files whose names end so, counted from 1, the n-th one goes HOW. CALL is
+   write, read, sync, open, rename, link, unlink, stat, seek, lock, dup or memory; ENDING may be `*`, which is any file. Standard output is
+   the file `display`. HOW is the number of an error, with which the call does nothing and fails, and behind a `+` each further one too;
+   `half`, where half of the bytes of a write are put and it fails; `short`, where half of the bytes of a write or a read are moved and it
+   says so; `end`, where none are and it says so; or `kill`, where the process is killed in the middle of a write, and right behind any
+   other call.
+
+   URNA_TELL names a file that gets a line `CALL NAME AT ANSWER` for each call, and behind that of a write the bytes that it put: AT is the
+   place of a write, and ANSWER how many bytes were moved, or what another call answered. Before the line of a call that went another way
+   stands a line `fault`. */
 #define _GNU_SOURCE
-#include <dlfcn.h>
 #include <errno.h>
+#include <fcntl.h>
 #include <signal.h>
+#include <stdarg.h>
 #include <stdio.h>
 #include <stdlib.h>
 #include <string.h>
+#include <sys/file.h>
+#include <sys/stat.h>
+#include <sys/syscall.h>
 #include <unistd.h>
 
-/* Whether the name of an open file ends so. */
-static int ends_in(int file, const char *ending) {
-    char link[64], name[4096];
+#define NAME 4096
+
+void *__libc_malloc(size_t);
+void *__libc_calloc(size_t, size_t);
+void *__libc_realloc(void *, size_t);
+void *__libc_memalign(size_t, size_t);
+
+static struct {
+    char call[16], ending[64], how[16];
+    long number;
+} asked;
+static long calls;
+static int told = -1, begun;
+
+/* Reads what is asked for, before the program begins. What is told goes to a descriptor above those that a program has. */
+__attribute__((constructor)) static void begin(void) {
+    const char *fail = getenv("URNA_FAIL"), *tell = getenv("URNA_TELL");
+    if (fail && sscanf(fail, "%15s %63s %ld %15s", asked.call, asked.ending, &asked.number, asked.how) != 4) {
+        abort();
+    }
+    int file = tell ? open(tell, O_WRONLY | O_APPEND | O_CREAT | O_CLOEXEC, 0600) : -1;
+    if (file >= 0) {
+        told = fcntl(file, F_DUPFD_CLOEXEC, 200);
+        close(file);
+    }
+    begun = 1;
+}
+
+/* The last part of a path. */
+static const char *last_part(const char *path) {
+    const char *slash = strrchr(path, '/');
+    return slash && slash[1] ? slash + 1 : path;
+}
+
+static int ends_in(const char *name, const char *ending) {
+    size_t length = strlen(name), size = strlen(ending);
+    return strcmp(ending, "*") == 0 || (length >= size && strcmp(name + length - size, ending) == 0);
+}
+
+/* The name under which an open file was opened. */
+static const char *name_of(int file, char *path) {
+    static const char removed[] = " (deleted)";
+    char link[64];
+    if (file == STDOUT_FILENO) {
+        return "display";
+    }
     snprintf(link, sizeof link, "/proc/self/fd/%d", file);
-    ssize_t length = readlink(link, name, sizeof name), size = strlen(ending);
-    return length > size && memcmp(name + length - size, ending, size) == 0;
+    ssize_t length = readlink(link, path, NAME - 1);
+    path[length < 0 ? 0 : length] = 0;
+    if (ends_in(path, removed)) {
+        path[length - (sizeof removed - 1)] = 0;
+    }
+    return last_part(path);
 }
 
-static int is_flash(int file) {
-    return ends_in(file, ".flash");
+/* Tells a call that was made, and the bytes that it put. */
+static void tell(const char *call, const char *name, long at, long count, const void *bytes) {
+    char line[NAME + 64];
+    int error = errno;
+    if (told >= 0) {
+        int length = snprintf(line, sizeof line, "%s %s %ld %ld\n", call, name, at, count);
+        syscall(SYS_write, told, line, length);
+        if (bytes && count > 0) {
+            syscall(SYS_write, told, bytes, count);
+        }
+    }
+    errno = error;
 }
 
-static int is_new(int file) {
-    return ends_in(file, ".new");
+/* How this call goes, where it goes another way than it would. */
+static const char *other_way(const char *call, const char *name) {
+    if (!begun || strcmp(call, asked.call) != 0 || !ends_in(name, asked.ending)) {
+        return NULL;
+    }
+    calls += 1;
+    if (calls < asked.number || (calls > asked.number && *asked.how != '+')) {
+        return NULL;
+    }
+    tell("fault", "-", 0, 0, NULL);
+    return asked.how;
 }
 
-/* Whether this call of the kind is the one that fails. */
-static int fails(const char *kind, long *calls) {
-    const char *asked = getenv("URNA_FAIL");
-    size_t length = strlen(kind);
-    if (!asked || strncmp(asked, kind, length) != 0) {
+static int is(const char *how, const char *word) {
+    return how && strcmp(how, word) == 0;
+}
+
+/* Whether the call does nothing and fails. */
+static int is_error(const char *how) {
+    return how && (*how == '+' || ('0' <= *how && *how <= '9'));
+}
+
+/* How many bytes are moved where so many are asked for. */
+static size_t moved(const char *how, size_t count) {
+    if (is_error(how) || is(how, "end")) {
         return 0;
     }
-    *calls += 1;
-    return *calls == atol(asked + length);
+    return is(how, "short") ? (count + 1) / 2 : how ? count / 2 : count;
 }
 
-static ssize_t (*real_write)(int, const void *, size_t);
-static int (*real_fsync)(int);
-static int (*real_fdatasync)(int);
-static int (*real_rename)(const char *, const char *);
-static long writes, syncs, new_writes, new_syncs, new_kills, named_kills;
+/* The answer of a call that failed, or was made. */
+static long answer(const char *how, long made) {
+    if (is(how, "kill")) {
+        raise(SIGKILL);
+    }
+    if (is_error(how) || is(how, "half")) {
+        errno = is(how, "half") ? EIO : atoi(how);
+        return -1;
+    }
+    return made;
+}
 
 ssize_t write(int file, const void *bytes, size_t count) {
-    if (!real_write) {
-        real_write = (ssize_t (*)(int, const void *, size_t))dlsym(RTLD_NEXT, "write");
+    char path[NAME];
+    const char *name = name_of(file, path), *how = other_way("write", name);
+    long at = syscall(SYS_lseek, file, 0L, SEEK_CUR);
+    long made = is_error(how) ? -1 : syscall(SYS_write, file, bytes, moved(how, count));
+    if (begun) {
+        tell("write", name, at, made, bytes);
     }
-    if (is_new(file) && fails("new-kill ", &new_kills)) {
-        real_write(file, bytes, count / 2);
-        raise(SIGKILL);
-    }
-    if ((is_flash(file) && fails("write ", &writes)) || (is_new(file) && fails("new-write ", &new_writes))) {
-        real_write(file, bytes, count / 2);
-        errno = EIO;
-        return -1;
-    }
-    return real_write(file, bytes, count);
+    return answer(how, made);
 }
 
-int rename(const char *from, const char *to) {
-    if (!real_rename) {
-        real_rename = (int (*)(const char *, const char *))dlsym(RTLD_NEXT, "rename");
-    }
-    int answer = real_rename(from, to);
-    if (fails("named-kill ", &named_kills)) {
-        raise(SIGKILL);
-    }
-    return answer;
+ssize_t read(int file, void *bytes, size_t count) {
+    char path[NAME];
+    const char *name = name_of(file, path), *how = other_way("read", name);
+    long made = is_error(how) ? -1 : syscall(SYS_read, file, bytes, moved(how, count));
+    tell("read", name, 0, made, NULL);
+    return answer(how, made);
 }
 
-static int sync_or_fail(int file, int (*sync)(int)) {
-    if ((is_flash(file) && fails("sync ", &syncs)) || (is_new(file) && fails("new-sync ", &new_syncs))) {
-        errno = EIO;
-        return -1;
-    }
-    return sync(file);
+/* A call over a file that moves no bytes. */
+static long made_over(const char *call, const char *name, const long *words) {
+    const char *how = other_way(call, name);
+    long made = is_error(how) ? -1 : syscall(words[0], words[1], words[2], words[3], words[4], words[5]);
+    tell(call, name, 0, made, NULL);
+    return answer(how, made);
+}
+
+static long made_over_open(const char *call, int file, const long *words) {
+    char path[NAME];
+    return made_over(call, name_of(file, path), words);
 }
 
 int fsync(int file) {
-    if (!real_fsync) {
-        real_fsync = (int (*)(int))dlsym(RTLD_NEXT, "fsync");
-    }
-    return sync_or_fail(file, real_fsync);
+    return made_over_open("sync", file, (long[6]){SYS_fsync, file});
 }
 
 int fdatasync(int file) {
-    if (!real_fdatasync) {
-        real_fdatasync = (int (*)(int))dlsym(RTLD_NEXT, "fdatasync");
+    return made_over_open("sync", file, (long[6]){SYS_fdatasync, file});
+}
+
+off_t lseek(int file, off_t at, int whence) {
+    return made_over_open("seek", file, (long[6]){SYS_lseek, file, at, whence});
+}
+
+int flock(int file, int how) {
+    return made_over_open("lock", file, (long[6]){SYS_flock, file, how});
+}
+
+int fcntl(int file, int command, ...) {
+    va_list rest;
+    va_start(rest, command);
+    long value = va_arg(rest, long);
+    va_end(rest);
+    if (!begun || (command != F_DUPFD && command != F_DUPFD_CLOEXEC)) {
+        return syscall(SYS_fcntl, file, command, value);
     }
-    return sync_or_fail(file, real_fdatasync);
+    return made_over_open("dup", file, (long[6]){SYS_fcntl, file, command, value});
+}
+
+int open(const char *path, int flags, ...) {
+    va_list rest;
+    va_start(rest, flags);
+    long mode = flags & O_CREAT ? va_arg(rest, int) : 0;
+    va_end(rest);
+    return made_over("open", last_part(path), (long[6]){SYS_openat, AT_FDCWD, (long)path, flags, mode});
+}
+
+int statx(int folder, const char *path, int flags, unsigned mask, struct statx *into) {
+    long words[6] = {SYS_statx, folder, (long)path, flags, mask, (long)into};
+    return *path ? made_over("stat", last_part(path), words) : made_over_open("stat", folder, words);
+}
+
+int rename(const char *from, const char *to) {
+    return made_over("rename", last_part(from), (long[6]){SYS_renameat, AT_FDCWD, (long)from, AT_FDCWD, (long)to});
+}
+
+int link(const char *from, const char *to) {
+    return made_over("link", last_part(from), (long[6]){SYS_linkat, AT_FDCWD, (long)from, AT_FDCWD, (long)to, 0});
+}
+
+int unlink(const char *path) {
+    return made_over("unlink", last_part(path), (long[6]){SYS_unlinkat, AT_FDCWD, (long)path, 0});
+}
+
+/* Whether memory is refused. */
+static int is_refused(void) {
+    const char *how = other_way("memory", "-");
+    if (begun) {
+        tell("memory", "-", 0, 0, NULL);
+    }
+    if (how) {
+        errno = ENOMEM;
+    }
+    return how != NULL;
+}
+
+void *malloc(size_t count) {
+    return is_refused() ? NULL : __libc_malloc(count);
+}
+
+void *calloc(size_t items, size_t count) {
+    return is_refused() ? NULL : __libc_calloc(items, count);
+}
+
+void *realloc(void *old, size_t count) {
+    return is_refused() ? NULL : __libc_realloc(old, count);
+}
+
+void *aligned_alloc(size_t alignment, size_t count) {
+    return is_refused() ? NULL : __libc_memalign(alignment, count);
+}
+
+int posix_memalign(void **into, size_t alignment, size_t count) {
+    void *made = is_refused() ? NULL : __libc_memalign(alignment, count);
+    if (made) {
+        *into = made;
+    }
+    return made ? 0 : ENOMEM;
 }

@@ -1,0 +1,79 @@
+"""What the trials of this folder share: commands that end by themselves, files, and what is wanted."""
+
+import os
+import shutil
+import subprocess
+
+CARGA = ["carga", "tables", "roll", "1", "42"]
+VOTA = ["vota", "tables", "roll", "keys", "o"]
+EMITE = ["emite", "tables", "roll", "p"]
+
+
+class Violation(Exception):
+    pass
+
+
+def want(holds, what):
+    if not holds:
+        raise Violation(what)
+
+
+def started(program, words, name="urna", closed=(), env=None):
+    """A command, under this name and with these descriptors closed, which ends by itself."""
+
+    def close():
+        for descriptor in closed:
+            os.close(descriptor)
+
+    streams = {"stdin": subprocess.DEVNULL, "stdout": subprocess.PIPE}
+    return subprocess.Popen([name, *words], executable=program, preexec_fn=close, env=env, **streams)
+
+
+def answer(run):
+    """What a command shows up to its end, which comes within a minute."""
+    try:
+        return run.communicate(timeout=60)[0].decode()
+    except subprocess.TimeoutExpired:
+        run.kill()
+        raise Violation(f"{run.args} did not end")
+
+
+def ended(program, words, **how):
+    """The status of a command, and what it showed."""
+    run = started(program, words, **how)
+    shown = answer(run)
+    return run.returncode, shown
+
+
+def want_run(found, status, shown, what):
+    want(found == (status, shown), f"{what}: ended with {found[0]} and showed {found[1][:200]!r}")
+
+
+def content(name):
+    with open(name, "rb") as file:
+        return file.read()
+
+
+def place(names, contents):
+    """Each file with this content, or absent where there is none."""
+    for name, data in zip(names, contents):
+        if os.path.exists(name):
+            os.remove(name)
+        if data is not None:
+            with open(name, "wb") as file:
+                file.write(data)
+
+
+def compiled(folder):
+    """The library of failing.c, where there is a C compiler."""
+    source = os.path.join(os.path.dirname(os.path.abspath(__file__)), "failing.c")
+    made = os.path.join(folder, "failing.so")
+    compiler = shutil.which("cc")
+    if not compiler or subprocess.run([compiler, "-shared", "-fPIC", "-O1", "-o", made, source]).returncode != 0:
+        return None
+    return made
+
+
+def failing(library, fail):
+    """The environment in which a call goes another way (tests/failing.c)."""
+    return {**os.environ, "LD_PRELOAD": library, "URNA_FAIL": fail}

@@ -1,0 +1,231 @@
+"""Calls of the system that fail, or do less than they were asked for: the status is that of the port, what was shown is a front of what
+is shown else, and what the flashes hold is what the display tells, or one more."""
+
+import itertools
+from errno import EACCES, EAGAIN, EINTR, EIO, EMFILE, ENOENT, ENOMEM, ENOSPC
+from typing import NamedTuple
+
+import memory
+from commands import CARGA, EMITE, VOTA, want
+from held import allowed, flashes_in, want_held, with_flashes
+from polls import FLASHES, LENGTH, Day
+from runs import Ended
+
+# The ways in which each kind of call may go. Those of the first table the program gets over.
+HARMLESS = {"write": ["short", EINTR], "read": ["short", EINTR], "sync": [EINTR], "open": [EINTR], "lock": [EINTR]}
+FAULTS = {
+    "write": ["half", "end", EIO, ENOSPC, f"+{EIO}", f"+{ENOSPC}"],
+    "read": ["end", EIO, f"+{EIO}"],
+    "sync": [EIO, ENOSPC, f"+{EIO}"],
+    "open": [EIO, EACCES, EMFILE, ENOENT, ENOMEM, f"+{EIO}"],
+    "rename": [EIO, ENOSPC, EACCES],
+    "link": [EIO, ENOSPC],
+    "unlink": [EIO],
+    "stat": [EIO],
+    "seek": [EIO],
+    "lock": [EIO, EAGAIN],
+    "dup": [EMFILE],
+}
+# The documents of all commands, and the results, which a put replaces.
+DOCUMENTS = ("tables", "roll", "keys", "list", "a.bu", "b.bu", "c.bu")
+RESULTS = ("o.bu", "o.rdv", "p.bu", "p.rdv", *(f"ensaio.{end}" for end in ("toml", "rol", "teclas", "flash", "bu", "rdv")))
+
+
+class Case(NamedTuple):
+    """A command over files, and how it ends with no fault. Of a session also its day, and the states from which and to which it goes."""
+
+    words: list
+    files: dict
+    usual: Ended
+    day: Day = None
+    state: int = 0
+    last: int = 0
+
+
+def case(runs, words, files, day=None, state=0, last=0):
+    return Case(words, files, runs.run(files, words, tells=True), day, state, last)
+
+
+def session(runs, day, state, last, version=2, old=()):
+    """A session from a state of a day to another one, over flashes at rest, with these old results."""
+    files = with_flashes(day, day.keys(state, last), day.flashes(version, state))
+    return case(runs, VOTA, {**files, **dict.fromkeys(old, b"old")}, day, state, last)
+
+
+def life(runs):
+    """The commands of the day of one voter."""
+    day = Day(1)
+    yield case(runs, CARGA, day.documents(""))
+    yield session(runs, day, 0, day.last)
+    yield case(runs, EMITE, with_flashes(day, "", day.flashes(2, day.last)))
+
+
+def drawn_session(runs, draw):
+    day = Day(draw.randint(1, 4))
+    state = draw.randrange(day.last + 1)
+    old = draw.choice([(), ("o.bu", "o.rdv")])
+    return session(runs, day, state, draw.randint(state, day.last), draw.choice([1, 2, 2]), old)
+
+
+def drawn_load(runs, draw):
+    """A load over flashes that are missing, blank, with no slot open or loaded before, and over what a cut run left."""
+    day = Day(draw.randint(1, 4))
+    files = day.documents("")
+    for device, name in enumerate(FLASHES):
+        flash = draw.choice([None, bytes(LENGTH), day.frame(device), day.flash(device, 1, 0), day.flash(device, 2, 0)])
+        files.update({name: flash} if flash else {})
+        files.update({f"{name}.new": b"left"} if draw.random() < 0.3 else {})
+    return case(runs, CARGA, files)
+
+
+def drawn_case(runs, draw):
+    kind = draw.choice(["session"] * 5 + ["load", "load", "emite", "ensaio", "listed"])
+    if kind == "session":
+        return drawn_session(runs, draw)
+    if kind == "load":
+        return drawn_load(runs, draw)
+    if kind == "emite":
+        day = Day(draw.randint(1, 4))
+        files = with_flashes(day, "", day.flashes(draw.choice((1, 2)), day.last))
+        return case(runs, EMITE, {**files, **dict.fromkeys(draw.choice([(), ("p.bu", "p.rdv")]), b"old")})
+    if kind == "ensaio":
+        return case(runs, memory.ENSAIO, dict.fromkeys(draw.choice([(), RESULTS[4:]]), b"old"))
+    return case(runs, draw.choice((memory.TOTALIZA, memory.CONFERE)), memory.listed_reports())
+
+
+def is_harmless(case, other, how):
+    """Whether the program gets over a call that went so. A flash that is missing is missing either way."""
+    is_missing = other.kind == "open" and other.name in FLASHES and other.name not in case.files
+    return how in HARMLESS.get(other.kind, []) or (is_missing and how == ENOENT)
+
+
+def statuses(case, other, how):
+    """The statuses with which a command may end where this call went so."""
+    usual = {case.usual.status}
+    if is_harmless(case, other, how):
+        return usual
+    if other.name == "display":
+        return {23}
+    for status, name in zip((21, 22), FLASHES):
+        if other.name in (name, f"{name}.new"):
+            return {status}
+    if other.name in (".", "folder"):
+        return {"carga": {21, 22}, "ensaio": {20}}.get(case.words[0], {20, 21, 22})
+    if other.kind == "open" and other.name in DOCUMENTS and how in (ENOENT, ENOMEM):
+        return {12} if how == ENOENT else {1}
+    # The name of a result that can't be looked at counts as free, and so does a file of it that is gone or another user's.
+    is_free = other.kind == "stat" or (other.kind == "open" and how in (ENOENT, EACCES))
+    return {20} | usual if other.name in RESULTS and is_free else {20}
+
+
+def is_front(case, ended, other):
+    """Whether a front of the usual text was shown, in whole lines where the display did not fail."""
+    shown, _, told = ended.shown.partition(b"ERRO ") if ended.status == 12 else (ended.shown, b"", b"")
+    in_lines = other.name == "display" or not shown or shown.endswith(b"\n")
+    return in_lines and case.usual.shown.startswith(shown) and (not told or told.startswith(b"FALTA "))
+
+
+def goes_on(ended, other):
+    """Whether something is written to a flash or shown, or a flash is synced, behind a port that failed."""
+    behind = itertools.dropwhile(lambda call: call is not other, ended.calls)
+    next(behind)
+    return any(call.kind in ("write", "sync") and call.name in (*FLASHES, "display") for call in behind)
+
+
+def want_files(case, ended, what):
+    """Each file is the old one, or as the command leaves it; the flashes are told by what they hold, and what a cut put left is removed
+    by the next one."""
+    for name in set(case.files) | set(ended.files):
+        if name in FLASHES or name.endswith(".new"):
+            continue
+        left = ended.files.get(name)
+        want(left in (case.files.get(name), case.usual.files.get(name)), f"{what}: {name} is neither the old nor the new one")
+    if case.words[0] not in ("vota", "carga"):
+        for name in FLASHES:
+            want(ended.files.get(name) == case.files.get(name), f"{what}: {name} was written")
+
+
+def want_rest_of(runs, case, ended, what):
+    """The flashes hold what was shown, or one more, and the rest of the keys leave what the session leaves."""
+    flashes = flashes_in(ended.files, what)
+    states = allowed(case.usual.shown, ended.shown, case.state, case.last)
+    state = want_held(runs, case.day, flashes, states, bool(ended.shown), what)
+    rest = case.day.documents(case.day.keys(state, case.last))
+    again = runs.run({**ended.files, **rest}, case.words)
+    left = {**again.files, "keys": case.files["keys"]}
+    want(again.status == 0 and left == case.usual.files, f"{what}: the rest of the session {again.told()}, or left other files")
+
+
+def without(files, names):
+    return {name: what for name, what in files.items() if name not in names}
+
+
+def want_same(runs, case, ended, what):
+    """The files are those that the command leaves. The other name of a flash may have been left, until the next making, or removed."""
+    others = [f"{name}.new" for name in FLASHES]
+    want(without(ended.files, others) == without(case.usual.files, others), f"{what}: again it left other files")
+    left = [name for name in FLASHES if f"{name}.new" in ended.files]
+    if case.words[0] == "carga" and left:
+        made = runs.run(without(ended.files, left), CARGA)
+        want(made.files == without(case.usual.files, others), f"{what}: a making left other files")
+
+
+def want_over(runs, case, ended, what):
+    """What holds behind a fault, and that the command goes on from there."""
+    want_files(case, ended, what)
+    if case.words[0] == "vota":
+        return want_rest_of(runs, case, ended, what)
+    again = runs.run(ended.files, case.words)
+    want((again.status, again.shown) == (case.usual.status, case.usual.shown), f"{what}: again it {again.told()}")
+    want_same(runs, case, again, what)
+
+
+def try_fault(runs, case, fail, how):
+    """Lets a call go another way. Answers whether there was such a call."""
+    ended = runs.run(case.files, case.words, fail=f"{fail} {how}")
+    other = ended.other
+    if not other:
+        return False
+    what = f"{' '.join(case.words)} with URNA_FAIL='{fail} {how}' ({other.kind} {other.name})"
+    want(ended.status in statuses(case, other, how) and is_front(case, ended, other), f"{what}: {ended.told()}")
+    if ended.status == case.usual.status:
+        same = (ended.shown, ended.files) == (case.usual.shown, case.usual.files)
+        want(same, f"{what}: {ended.told()}, or left other files than usual")
+    else:
+        # A file that isn't there has its line.
+        want(ended.status == 12 or not goes_on(ended, other), f"{what}: it went on behind the fault")
+        want_over(runs, case, ended, what)
+    return True
+
+
+def drawn_way(draw, kind):
+    """How a call of a kind goes, and over which files: a document that ends early is another document."""
+    how = draw.choice(HARMLESS.get(kind, []) + FAULTS[kind])
+    return how, [".flash"] if (kind, how) == ("read", "end") else ["*", ".flash", ".new", "display"]
+
+
+def in_turn(runs, drawn):
+    """Each call of the day of one voter, each going in a drawn way."""
+    for case in life(runs):
+        for kind in FAULTS:
+            for number in range(1, 1 + sum(call.kind == kind for call in case.usual.calls)):
+                how, endings = drawn_way(drawn(f"{case.words[0]} {kind} {number}"), kind)
+                if try_fault(runs, case, f"{kind} {endings[0]} {number}", how):
+                    yield "failing calls"
+
+
+def drawn_fault(runs, draw):
+    """A drawn call of a drawn command, of those over some files. Answers whether there was such a call."""
+    case, kind = drawn_case(runs, draw), draw.choice(["write", "write", "read", "sync", "sync", *FAULTS])
+    how, endings = drawn_way(draw, kind)
+    ending = draw.choice(endings)
+    count = sum(call.kind == kind and (ending == "*" or call.name.endswith(ending)) for call in case.usual.calls)
+    return count > 0 and try_fault(runs, case, f"{kind} {ending} {draw.randint(1, count)}", how)
+
+
+def trials(runs, drawn):
+    """Each call of the day of one voter in turn, and then drawn ones of other commands."""
+    yield from in_turn(runs, drawn)
+    for number in itertools.count():
+        if drawn_fault(runs, drawn(number)):
+            yield "failing calls"

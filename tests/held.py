@@ -1,0 +1,60 @@
+"""What flashes hold of a day (tests/polls.py), as `vota` with no keys tells it: over both, and over each alone."""
+
+from commands import VOTA, want
+from polls import COMMIT_LINES, FLASHES
+
+
+def begun(text, count):
+    """How many of a session's lines that stand for a commit begin in the first bytes of its text."""
+    at, lines = 0, 0
+    for line in text.splitlines(keepends=True):
+        lines += line.decode().startswith(COMMIT_LINES) and at < count
+        at += len(line)
+    return lines
+
+
+def allowed(text, shown, state, last):
+    """The states of which flashes hold one, where a session from a state to another has this text, and so much of it was shown."""
+    if not shown:
+        return {state}
+    told = state + begun(text, len(shown))
+    return {told, min(told + 1, last)}
+
+
+def with_flashes(day, keys, flashes):
+    """The files of a poll."""
+    return {**day.documents(keys), **dict(zip(FLASHES, flashes))}
+
+
+def flashes_in(files, what):
+    """Both flashes of a folder."""
+    found = [files.get(name) for name in FLASHES]
+    want(all(isinstance(flash, bytes) for flash in found), f"{what}: a flash is gone")
+    return found
+
+
+def held(runs, day, flashes, what):
+    """The state that these flashes hold. They are at rest with it behind the call."""
+    ended = runs.run(with_flashes(day, "", flashes), VOTA)
+    line = ended.shown.decode(errors="replace")
+    is_opening = line.startswith("URNA ") and line.endswith("\n") and line[5:-1] in day.states
+    want(ended.status == 0 and is_opening, f"{what}: vota with no keys {ended.told()}")
+    state = day.states.index(line[5:-1])
+    at_rest = flashes_in(ended.files, what) == day.flashes(2, state)
+    want(at_rest, f"{what}: the flashes are not at rest with {day.states[state]!r}")
+    return state
+
+
+def want_held(runs, day, flashes, states, alone, what):
+    """Both flashes hold one of these states, and so does each alone where that is asked: the other one has no slot open then. Answers what
+    both hold."""
+    tried = {"both flashes": list(flashes)}
+    if alone:
+        tried["the internal flash alone"] = [flashes[0], day.frame(1)]
+        tried["the external flash alone"] = [day.frame(0), flashes[1]]
+    told = " or ".join(day.states[it] for it in sorted(states))
+    found = []
+    for name, images in tried.items():
+        found.append(held(runs, day, images, f"{what}, {name}"))
+        want(found[-1] in states, f"{what}, {name}: {day.states[found[-1]]} is held, and not {told}")
+    return found[0]
