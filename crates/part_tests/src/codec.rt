@@ -5,6 +5,7 @@ ghost use Rattle.election_tables.specs.Limits.{most_voters};
 use election_tables::Tables;
 use image_codec::{State, decode, encode_into, rank_of};
 use std::alloc::Global;
+use std::process::Abort;
 use std::test::Fail;
 use turnout::Phase;
 use urna_base::{Memory, moment_ok};
@@ -127,25 +128,37 @@ fn read(alloc: Global, tables: &Tables, voters: u32, body: &[u8]) -> Result<Opti
     }
 }
 
-#[test]
-fn polls_are_read(rt: HostRuntime) -> Result<(), Fail> {
+/// A body of that many voters is of a state that tells this.
+fn check_read(
+    rt: &(impl Abort + AllocGlobal),
+    voters: u32,
+    body: &[u8],
+    want: Told,
+) -> Result<(), Fail>
+    requires { voters ≤ most_voters }
+{
     let tables = Tables::read(rt.alloc(), TABLES)?;
+    assert_eq!(rt; read(rt.alloc(), &tables, voters, body)?, Some(want));
+    Ok(())
+}
+
+#[test]
+fn a_sealed_poll_is_read(rt: HostRuntime) -> Result<(), Fail> {
     let sealed = Phase::Sealed {
         opened: OPENED,
         closed: CLOSED,
     };
+    let told = (4, sealed, [true, false, true], [0, 1, 1]);
+    check_read(&rt, 3, &body_of(rt.alloc(), &SEALED, &VOTES)?, told)?;
+    check_read(&rt, 3, &counted(rt.alloc(), &SEALED, &COUNTERS)?, told)
+}
+
+#[test]
+fn an_open_poll_is_read(rt: HostRuntime) -> Result<(), Fail> {
     let polling = Phase::Polling { opened: OPENED };
-    let first = body_of(rt.alloc(), &SEALED, &VOTES)?;
-    let second = counted(rt.alloc(), &SEALED, &COUNTERS)?;
-    let told = Some((4, sealed, [true, false, true], [0, 1, 1]));
-    assert_eq!(rt; read(rt.alloc(), &tables, 3, &first)?, told);
-    assert_eq!(rt; read(rt.alloc(), &tables, 3, &second)?, told);
-    let first = body_of(rt.alloc(), &POLLING, &VOTE)?;
-    let second = counted(rt.alloc(), &POLLING, &COUNTER)?;
-    let told = Some((2, polling, [true, false, false], [1, 0, 0]));
-    assert_eq!(rt; read(rt.alloc(), &tables, 1, &first)?, told);
-    assert_eq!(rt; read(rt.alloc(), &tables, 1, &second)?, told);
-    Ok(())
+    let told = (2, polling, [true, false, false], [1, 0, 0]);
+    check_read(&rt, 1, &body_of(rt.alloc(), &POLLING, &VOTE)?, told)?;
+    check_read(&rt, 1, &counted(rt.alloc(), &POLLING, &COUNTER)?, told)
 }
 
 /// Whether the sealed poll of a body is written in version 2, over whatever stands there.
@@ -158,14 +171,16 @@ fn is_written(alloc: Global, tables: &Tables, body: &[u8]) -> Result<bool, Memor
     Ok(written.as_slice() == counted(alloc, &SEALED, &COUNTERS)?.as_slice())
 }
 
+fn check_written(rt: &(impl Abort + AllocGlobal), body: &[u8]) -> Result<(), Fail> {
+    let tables = Tables::read(rt.alloc(), TABLES)?;
+    assert!(rt; is_written(rt.alloc(), &tables, body)?);
+    Ok(())
+}
+
 #[test]
 fn a_sealed_poll_of_either_version_is_written_in_version_2(rt: HostRuntime) -> Result<(), Fail> {
-    let tables = Tables::read(rt.alloc(), TABLES)?;
-    let first = body_of(rt.alloc(), &SEALED, &VOTES)?;
-    assert!(rt; is_written(rt.alloc(), &tables, &first)?);
-    let second = counted(rt.alloc(), &SEALED, &COUNTERS)?;
-    assert!(rt; is_written(rt.alloc(), &tables, &second)?);
-    Ok(())
+    check_written(&rt, &body_of(rt.alloc(), &SEALED, &VOTES)?)?;
+    check_written(&rt, &counted(rt.alloc(), &SEALED, &COUNTERS)?)
 }
 
 #[test]
@@ -315,6 +330,13 @@ fn a_body_is_of_its_roll_and_a_ready_one_has_no_moments(rt: HostRuntime) -> Resu
         ],
         [Some(4), None, Some(0), None]
     );
+    Ok(())
+}
+
+#[test]
+fn so_is_a_body_of_version_2(rt: HostRuntime) -> Result<(), Fail> {
+    let tables = Tables::read(rt.alloc(), TABLES)?;
+    let opened = [1, 0, 0, 0, 18, 109, 97, 243, 115, 128];
     assert_eq!(rt;
         [
             rank_counted(rt.alloc(), &tables, 3, &SEALED, &COUNTERS)?,
@@ -327,18 +349,19 @@ fn a_body_is_of_its_roll_and_a_ready_one_has_no_moments(rt: HostRuntime) -> Resu
     Ok(())
 }
 
+/// A ready state refuses a body that is too short, and takes on the sealed poll of this one.
+fn check_load(rt: &(impl Abort + AllocGlobal), body: &[u8]) -> Result<(), Fail> {
+    let tables = Tables::read(rt.alloc(), TABLES)?;
+    let mut state = State::ready(rt.alloc(), &tables, 3)?;
+    let short = state.load(&tables, &SEALED);
+    assert!(rt; !short && state.rank() == 0);
+    let whole = state.load(&tables, body);
+    assert!(rt; whole && state.rank() == 4 && state.turnout().len() == 2);
+    Ok(())
+}
+
 #[test]
 fn a_ready_state_takes_on_a_sealed_one(rt: HostRuntime) -> Result<(), Fail> {
-    let tables = Tables::read(rt.alloc(), TABLES)?;
-    for body in [
-        body_of(rt.alloc(), &SEALED, &VOTES)?,
-        counted(rt.alloc(), &SEALED, &COUNTERS)?,
-    ] {
-        let mut state = State::ready(rt.alloc(), &tables, 3)?;
-        let short = state.load(&tables, &SEALED);
-        assert!(rt; !short && state.rank() == 0);
-        let whole = state.load(&tables, &body);
-        assert!(rt; whole && state.rank() == 4 && state.turnout().len() == 2);
-    }
-    Ok(())
+    check_load(&rt, &body_of(rt.alloc(), &SEALED, &VOTES)?)?;
+    check_load(&rt, &counted(rt.alloc(), &SEALED, &COUNTERS)?)
 }

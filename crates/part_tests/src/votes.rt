@@ -35,25 +35,6 @@ fn has_votes(votes: &Rdv, kept: [Choice; 6]) -> bool
 }
 
 #[test]
-fn counts_votes_of_a_choice_together(rt: HostRuntime) -> Result<(), Fail> {
-    let tables = Tables::read(rt.alloc(), TABLES)?;
-    assert!(rt; tables.panels() == 1);
-    let mut votes = Rdv::new(rt.alloc(), &tables, 6)?;
-    assert!(rt; votes.total(0) == 0 && is_choice(&tables, 0, Choice::Party(45)));
-    votes.add_votes(&tables, 0, 3, Choice::Party(45), 4);
-    // the choices of the panel in order: 13001, 45001, 13, 45, blank, null
-    let found = [
-        votes.count_near(0, 3, Choice::Party(45)),
-        votes.count_near(0, 0, Choice::Party(45)),
-        votes.count_near(0, 9, Choice::Party(45)),
-        votes.count_near(0, 3, Choice::Party(13)),
-    ];
-    assert_eq!(rt; found, [4, 4, 4, 0]);
-    assert_eq!(rt; votes.vote(0, 3), Choice::Party(45));
-    Ok(())
-}
-
-#[test]
 fn tells_votes_in_the_order_of_choices(rt: HostRuntime) -> Result<(), Fail> {
     let tables = Tables::read(rt.alloc(), TABLES)?;
     assert!(rt; tables.panels() == 1);
