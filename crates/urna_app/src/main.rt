@@ -11,8 +11,12 @@ ghost use Rattle.urna_app.specs.Ending.{CommandEnds, Ends};
 ghost use Rattle.urna_app.specs.Taking.{status_in};
 
 mod carga;
+#[cfg(test)]
+mod chains;
 mod command;
 mod confere;
+#[cfg(test)]
+mod cuts;
 mod documents;
 mod emite;
 mod ensaio;

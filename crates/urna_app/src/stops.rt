@@ -1,15 +1,15 @@
-//! Power cuts: sessions that are stopped after each operation, and that go on from what is left.
-ghost use Rattle.std.specs.Prelude.{◌≤◌, length};
-ghost use Rattle.urna_outside.specs.Recorder.{trail_of};
-
+//! Power cuts: sessions and loads that are stopped after each operation or at a fault, and what is left of them.
+use crate::cuts::{cut, fills, torn};
 use crate::status::Status;
-use crate::tests::given::{Given, Images, LOAD, ON, alone, copied, left, loaded, run, run_failing};
+use crate::tests::given::{
+    Given, IN_ORDER, Images, LOAD, ON, alone, copied, left, loaded, run, run_failing,
+};
 use std::process::Abort;
 use std::test::Fail;
 use urna_base::Memory;
 use urna_outside::{Dev, Recorder, Tear};
 
-/// How many operations the commit of an opening has, which changes one page of each slot.
+/// How many operations the commit of an opening or of a closing has, which changes one page of each slot.
 const OPENING: u32 = 24;
 
 /// And that of a voter, which changes two.
@@ -40,47 +40,24 @@ TELA 1
 TELA 13 CANDIDATO CARLA
 ";
 
-/// An opening and two voters, which have three commits.
-const TWO_VOTERS: Given = Given {
-    keys: Some(
-        b"M ABRE 20261004080000
-M TITULO 010000000001
-M LIBERA
-E 45C
-E 13C
-M TITULO 010000000002
-M LIBERA
-E BC
-E 45C
-",
-    ),
+/// An opening, three voters and the closing, which have five commits.
+pub(crate) const SESSION: Given = Given {
+    keys: Some(IN_ORDER),
     ..ON
 };
 
 /// What `vota` shows first where so many commits of that session are held.
-const HELD: [&[u8]; 4] = [
+pub(crate) const HELD: [&[u8]; 6] = [
     b"URNA PRONTA 0\n",
     b"URNA ABERTA 0\n",
     b"URNA ABERTA 1\n",
     b"URNA ABERTA 2\n",
+    b"URNA ABERTA 3\n",
+    b"URNA LACRADA 3\n",
 ];
 
-/// What a power cut leaves after the first operations of a machine's trail.
-pub(crate) fn stopped(
-    rt: &(impl Abort + AllocGlobal),
-    m: &Recorder,
-    ops: u32,
-    tear: Tear,
-) -> Result<Images, Fail> {
-    assert!(rt; ops <= m.trail_len());
-    Ok(Images {
-        internal: m.stop(rt.alloc(), Dev::Internal, ops, tear)?,
-        external: m.stop(rt.alloc(), Dev::External, ops, tear)?,
-    })
-}
-
 /// What `vota` without keys shows over some images.
-fn told(rt: &(impl Abort + AllocGlobal), images: Images) -> Result<Vec<u8>, Fail> {
+pub(crate) fn told(rt: &(impl Abort + AllocGlobal), images: Images) -> Result<Vec<u8>, Fail> {
     let (status, m) = run(rt, ON, images)?;
     assert_eq!(rt; status, Status::Done);
     Ok(m.shown().to_vec(rt.alloc())?)
@@ -107,12 +84,13 @@ fn stopped_at_gate(
     let (status, voted) = run(rt, FIRST_VOTER, left(rt, opened)?)?;
     assert_eq!(rt; status, Status::Done);
     let quiet = voted.trail_len().saturating_sub(COMMIT + 1);
-    stopped(rt, &voted, quiet.saturating_add(6), tear)
+    torn(rt, &voted, quiet.saturating_add(6), tear)
 }
 
 /// An open poll, before its first voter.
 fn opened(rt: &(impl Abort + AllocGlobal)) -> Result<Recorder, Fail> {
-    let (_, m) = run(rt, OPENS, loaded(rt, LOAD)?)?;
+    let (status, m) = run(rt, OPENS, loaded(rt, LOAD)?)?;
+    assert_eq!(rt; status, Status::Done);
     Ok(m)
 }
 
@@ -136,11 +114,16 @@ fn is_healed(healed: &Recorder, before: &Recorder) -> bool {
 }
 
 /// Whether the open poll without a voter is told wherever a recovery is stopped.
-fn tells_it_at_each_stop(rt: &(impl Abort + AllocGlobal), healed: &Recorder) -> Result<bool, Fail> {
-    for ops in SYNCS..healed.trail_len() {
-        let images = stopped(rt, healed, ops, Tear::Byte(0x5A))?;
-        if told(rt, images)?.as_slice() != HELD[1] {
-            return Ok(false);
+fn tells_it_at_each_stop(
+    rt: &(impl Abort + AllocGlobal),
+    healed: &Recorder,
+    later: &Images,
+) -> Result<bool, Fail> {
+    for ops in 0..=healed.trail_len() {
+        for fill in fills(later) {
+            if told(rt, cut(rt, healed, ops, fill)?)?.as_slice() != HELD[1] {
+                return Ok(false);
+            }
         }
     }
     Ok(true)
@@ -151,7 +134,8 @@ fn a_torn_gate_is_written_back_once(rt: HostRuntime) -> Result<(), Fail> {
     let m = opened(&rt)?;
     let (status, healed) = run(&rt, ON, stopped_at_gate(&rt, &m, Tear::Byte(0x7E))?)?;
     assert!(rt; status == Status::Done && is_healed(&healed, &m));
-    assert!(rt; tells_it_at_each_stop(&rt, &healed)?);
+    let (_, sealed) = session(&rt)?;
+    assert!(rt; tells_it_at_each_stop(&rt, &healed, &sealed)?);
     let (_, again) = run(&rt, ON, left(&rt, &healed)?)?;
     assert_eq!(rt; again.trail_len(), SYNCS + 1);
     Ok(())
@@ -191,12 +175,12 @@ fn goes_on_with_one_voter(rt: &(impl Abort + AllocGlobal), images: Images) -> Re
     Ok(())
 }
 
-/// How many operations the commit of the state has that a line tells, if it tells one.
-fn commit_before(line: &[u8]) -> Option<u32> {
-    if line == b"FIM".as_slice() {
+/// How many operations the commit of the state has that a line, which may be cut off, tells, if it tells one.
+pub(crate) fn commit_before(line: &[u8]) -> Option<u32> {
+    if line.starts_with(b"F") {
         return Some(COMMIT);
     }
-    if line.starts_with(b"ABERTA ") {
+    if line.starts_with(b"ABERTA ") || line.starts_with(b"ENCERRADA ") {
         return Some(OPENING);
     }
     None
@@ -221,6 +205,18 @@ fn reached(shown: &[u8], ops: u32) -> (usize, bool) {
     (commits, any)
 }
 
+/// How many operations a session has that shows these lines.
+fn operations(shown: &[u8]) -> u32 {
+    let mut count = SYNCS;
+    for line in shown.split(|byte| *byte == b'\n') {
+        if !line.is_empty() {
+            let commit = commit_before(line).unwrap_or(0);
+            count = count.saturating_add(commit).saturating_add(1);
+        }
+    }
+    count
+}
+
 /// Whether `vota` tells over these images the state of that number, or the next.
 fn tells_one_of(
     rt: &(impl Abort + AllocGlobal),
@@ -233,30 +229,8 @@ fn tells_one_of(
     Ok(Some(line.as_slice()) == one || Some(line.as_slice()) == next)
 }
 
-/// Each call of a session fails once. Its port is answered then, and what is shown is a front of the session's text.
-/// One that always answers want of memory is refused here.
-#[test]
-fn each_call_of_a_session_fails_once(rt: HostRuntime) -> Result<(), Fail> {
-    let (done, whole) = run(&rt, TWO_VOTERS, loaded(&rt, LOAD)?)?;
-    assert_eq!(&rt; done, Status::Done);
-    for call in 0..1_000 {
-        let (status, m) = run_failing(&rt, TWO_VOTERS, loaded(&rt, LOAD)?, &[call])?;
-        if status == Status::Done {
-            assert_eq!(&rt; m.shown(), whole.shown());
-            return Ok(());
-        }
-        let is_port = matches!(
-            status,
-            Status::InternalFlash | Status::ExternalFlash | Status::Display
-        );
-        assert!(&rt; is_port, "call {call}: {status:?}");
-        assert!(&rt; whole.shown().starts_with(m.shown()), "call {call}");
-    }
-    panic!(&rt; "a call always failed");
-}
-
-/// What is left after some operations of a session: both flashes, and each alone where something is shown, tell the
-/// state that was shown last, or the next.
+/// What is left after some operations of a session: where nothing is shown both flashes tell the state from which it began, and else
+/// both, and each alone, the state that was shown last, or the next.
 fn check_left(
     rt: &(impl Abort + AllocGlobal),
     images: Images,
@@ -264,96 +238,123 @@ fn check_left(
     ops: u32,
 ) -> Result<(), Fail> {
     let (commits, any) = reached(shown, ops);
+    if !any {
+        assert!(rt; told(rt, images)?.as_slice() == HELD[0], "after {ops}");
+        return Ok(());
+    }
+    let internal = alone(copied(rt, &images)?, Dev::Internal);
     assert!(rt;
-        tells_one_of(rt, copied(rt, &images)?, commits)?,
-        "both after {ops}"
+        tells_one_of(rt, internal, commits)?,
+        "internal after {ops}"
     );
-    if any {
-        let internal = alone(copied(rt, &images)?, Dev::Internal);
-        assert!(rt;
-            tells_one_of(rt, internal, commits)?,
-            "internal after {ops}"
-        );
-        let external = alone(images, Dev::External);
-        assert!(rt;
-            tells_one_of(rt, external, commits)?,
-            "external after {ops}"
-        );
+    let external = alone(copied(rt, &images)?, Dev::External);
+    assert!(rt;
+        tells_one_of(rt, external, commits)?,
+        "external after {ops}"
+    );
+    assert!(rt; tells_one_of(rt, images, commits)?, "both after {ops}");
+    Ok(())
+}
+
+/// The same over each way to fill dirty bytes.
+fn check_stop(
+    rt: &(impl Abort + AllocGlobal),
+    m: &Recorder,
+    ops: u32,
+    later: &Images,
+) -> Result<(), Fail> {
+    for fill in fills(later) {
+        check_left(rt, cut(rt, m, ops, fill)?, m.shown(), ops)?;
     }
     Ok(())
 }
 
-/// A session of an opening and two voters.
-fn two_voters(rt: &(impl Abort + AllocGlobal)) -> Result<Recorder, Fail> {
-    let (status, m) = run(rt, TWO_VOTERS, loaded(rt, LOAD)?)?;
+/// The whole session, and the sealed poll that it leaves.
+pub(crate) fn session(rt: &(impl Abort + AllocGlobal)) -> Result<(Recorder, Images), Fail> {
+    let (status, m) = run(rt, SESSION, loaded(rt, LOAD)?)?;
     assert_eq!(rt; status, Status::Done);
-    Ok(m)
+    let sealed = left(rt, &m)?;
+    Ok((m, sealed))
 }
-
-/// What stands in dirty bytes.
-pub(crate) const TEARS: [Tear; 4] = [
-    Tear::AsPut,
-    Tear::Byte(0),
-    Tear::Byte(0x5A),
-    Tear::Byte(0xA5),
-];
 
 /// A session is stopped after each operation. One that commits but once at its end, or shows FIM after one flash, is refused here.
 #[test]
-fn one_commit_at_the_end_is_seen_at_the_stops(rt: HostRuntime) -> Result<(), Fail> {
-    let m = two_voters(&rt)?;
-    for ops in SYNCS..=m.trail_len() {
-        for tear in TEARS {
-            check_left(&rt, stopped(&rt, &m, ops, tear)?, m.shown(), ops)?;
-        }
+fn each_stop_of_a_session(rt: HostRuntime) -> Result<(), Fail> {
+    let (m, sealed) = session(&rt)?;
+    assert_eq!(&rt; m.trail_len(), operations(m.shown()));
+    for ops in 0..=m.trail_len() {
+        check_stop(&rt, &m, ops, &sealed)?;
     }
     Ok(())
 }
 
-/// The third voter comes, and the poll is sealed, in a state of greater rank than each of that session.
-const SEALED: Given = Given {
-    keys: Some(
-        b"M TITULO 010000000003
-M LIBERA
-E 13001C
-E 99C
-M ENCERRA 20261004170000
-",
-    ),
-    ..ON
-};
-
-/// An image with the bytes of another one wherever two tears differ, which is where it is dirty.
-pub(crate) fn filled(
-    rt: &impl AllocGlobal,
-    zeros: &[u8],
-    ones: &[u8],
-    other: &[u8],
-) -> Result<Vec<u8>, Memory> {
-    let bytes = zeros.iter().zip(ones.iter()).zip(other.iter());
-    Ok(
-        bytes
-            .map(|((zero, one), byte)| if zero == one { *zero } else { *byte })
-            .collect(rt.alloc())?,
+/// Whether a status is that of a flash or of the display that failed.
+pub(crate) fn is_of_port(status: Status) -> bool {
+    matches!(
+        status,
+        Status::InternalFlash | Status::ExternalFlash | Status::Display
     )
 }
 
-/// Dirty bytes are those of flashes at rest with a state of greater rank.
+/// Whether nothing more is done where the next call fails too: so there is none.
+fn is_last_call(rt: &(impl Abort + AllocGlobal), m: &Recorder, call: u32) -> Result<bool, Fail> {
+    let failing = [call, call.saturating_add(1)];
+    let (_, twice) = run_failing(rt, SESSION, loaded(rt, LOAD)?, &failing)?;
+    Ok(
+        twice.trail_len() == m.trail_len()
+            && twice.shown() == m.shown()
+            && twice.content(Dev::Internal) == m.content(Dev::Internal)
+            && twice.content(Dev::External) == m.content(Dev::External),
+    )
+}
+
+/// A call of a session failed: its port is answered, the display's where a line is cut off, what is shown is a front of the session's
+/// text, and what is left is as after a stop.
+fn check_fault(
+    rt: &(impl Abort + AllocGlobal),
+    whole: &Recorder,
+    m: &Recorder,
+    status: Status,
+    later: &Images,
+) -> Result<(), Fail> {
+    let is_cut = m.shown().last().is_some_and(|byte| *byte != b'\n');
+    assert!(rt;
+        is_of_port(status) && (status == Status::Display) == is_cut,
+        "{status:?}"
+    );
+    assert!(rt; whole.shown().starts_with(m.shown()));
+    check_stop(rt, m, m.trail_len(), later)
+}
+
+/// Each call of a session fails once, and is the last. One that always answers want of memory is refused here.
 #[test]
-fn a_session_stopped_over_a_later_state(rt: HostRuntime) -> Result<(), Fail> {
-    let m = two_voters(&rt)?;
-    let (status, sealed) = run(&rt, SEALED, left(&rt, &m)?)?;
+fn each_call_of_a_session_fails_once(rt: HostRuntime) -> Result<(), Fail> {
+    let (whole, sealed) = session(&rt)?;
+    for call in 0..1_000 {
+        let (status, m) = run_failing(&rt, SESSION, loaded(&rt, LOAD)?, &[call])?;
+        if status == Status::Done {
+            assert_eq!(&rt; m.shown(), whole.shown());
+            assert!(&rt; call >= whole.trail_len(), "call {call}");
+            return Ok(());
+        }
+        check_fault(&rt, &whole, &m, status, &sealed)?;
+        assert!(&rt; is_last_call(&rt, &m, call)?, "call {call}");
+    }
+    panic!(&rt; "a call always failed");
+}
+
+/// A load over loaded flashes is stopped after each operation. The next one never finds a flash in use, and loads both.
+#[test]
+fn each_stop_of_a_load(rt: HostRuntime) -> Result<(), Fail> {
+    let ready = loaded(&rt, LOAD)?;
+    let (status, m) = run(&rt, LOAD, copied(&rt, &ready)?)?;
     assert_eq!(&rt; status, Status::Done);
-    for ops in SYNCS..=m.trail_len() {
-        let zeros = stopped(&rt, &m, ops, Tear::Byte(0))?;
-        let ones = stopped(&rt, &m, ops, Tear::Byte(1))?;
-        let internal = sealed.content(Dev::Internal);
-        let external = sealed.content(Dev::External);
-        let images = Images {
-            internal: filled(&rt, &zeros.internal, &ones.internal, internal)?,
-            external: filled(&rt, &zeros.external, &ones.external, external)?,
-        };
-        check_left(&rt, images, m.shown(), ops)?;
+    let (_, sealed) = session(&rt)?;
+    for ops in 0..=m.trail_len() {
+        for fill in fills(&sealed) {
+            let (status, _) = run(&rt, LOAD, cut(&rt, &m, ops, fill)?)?;
+            assert!(rt; status == Status::Done, "after {ops}: {status:?}");
+        }
     }
     Ok(())
 }
@@ -377,10 +378,10 @@ fn torn_at(rt: &impl AllocGlobal, new: &[u8], old: &[u8], at: usize) -> Result<V
 /// The next operation is stopped where it has put the bytes up to a place.
 #[test]
 fn a_session_stopped_inside_each_page(rt: HostRuntime) -> Result<(), Fail> {
-    let m = two_voters(&rt)?;
+    let (m, _) = session(&rt)?;
     for ops in SYNCS..m.trail_len() {
-        let old = stopped(&rt, &m, ops, Tear::AsPut)?;
-        let new = stopped(&rt, &m, ops.saturating_add(1), Tear::AsPut)?;
+        let old = torn(&rt, &m, ops, Tear::AsPut)?;
+        let new = torn(&rt, &m, ops.saturating_add(1), Tear::AsPut)?;
         for at in PLACES {
             let images = Images {
                 internal: torn_at(&rt, &new.internal, &old.internal, at)?,

@@ -1,5 +1,6 @@
 //! Commands one after another over machines in memory, each started again on what the last one left.
 
+mod changes;
 mod confere;
 pub(crate) mod given;
 mod lists;

@@ -35,7 +35,7 @@ const OTHER_FIELD: &[u8] =
     1B3CD6458461BF28759F78558BB563ECC855B7D3EC1F0A547D8B4848C8D0F254\n";
 
 /// The check of a report by tables of two offices.
-const CONFERE: Given = Given {
+pub(super) const CONFERE: Given = Given {
     words: &["confere", "t", "b"],
     report: Some(REPORT),
     ..LOAD

@@ -27,7 +27,7 @@ candidato = [
 secao = [{zona = 1, secao = 42, eleitores = 1}]
 "#;
 
-const ROLL: &[u8] = b"010000000001\n";
+pub(super) const ROLL: &[u8] = b"010000000001\n";
 
 /// Two offices and three voters.
 pub(crate) const TWO_OFFICES: &[u8] = br#"
@@ -53,7 +53,7 @@ secao = [{zona = 1, secao = 42, eleitores = 3}]
 
 pub(crate) const THREE_VOTERS: &[u8] = b"010000000001\n010000000002\n010000000003\n";
 
-const VISIT: &[u8] = b"M ABRE 20261004080000
+pub(super) const VISIT: &[u8] = b"M ABRE 20261004080000
 M TITULO 010000000001
 M LIBERA
 E 13C
@@ -85,6 +85,23 @@ NULO 0
 TOTAL 1
 ";
 
+/// A poll of three voters and three ballots, from its opening to its closing.
+pub(crate) const IN_ORDER: &[u8] = b"M ABRE 20261004080000
+M TITULO 010000000001
+M LIBERA
+E 45C
+E 13C
+M TITULO 010000000002
+M LIBERA
+E BC
+E 45C
+M TITULO 010000000003
+M LIBERA
+E 13001C
+E 99C
+M ENCERRA 20261004170000
+";
+
 /// The bytes of a device.
 const DEVICE: usize = 132_608;
 
@@ -103,12 +120,12 @@ pub(crate) struct Images {
 pub(crate) struct Given<'a> {
     pub words: &'static [&'static str],
     pub tables: Option<&'a [u8]>,
-    pub roll: Option<&'static [u8]>,
+    pub roll: Option<&'a [u8]>,
     pub keys: Option<&'a [u8]>,
     pub report: Option<&'a [u8]>,
     pub list: Option<&'a [u8]>,
-    pub failing: &'static [u32],
-    pub failing_takes: &'static [u32],
+    pub failing: &'a [u32],
+    pub failing_takes: &'a [u32],
 }
 
 pub(crate) const CARGA: Given = Given {
@@ -263,7 +280,16 @@ pub(super) fn run_on(
 
 /// The files that a command is given.
 pub(super) fn shelf_of(rt: &impl AllocGlobal, given: Given<'_>) -> Result<Shelf, Memory> {
-    let mut shelf = Shelf::new(rt.alloc(), 32_768, given.failing_takes)?;
+    shelf_failing(rt, given, given.failing_takes)
+}
+
+/// The same where the calls of these numbers fail.
+pub(super) fn shelf_failing(
+    rt: &impl AllocGlobal,
+    given: Given<'_>,
+    failing: &[u32],
+) -> Result<Shelf, Memory> {
+    let mut shelf = Shelf::new(rt.alloc(), 32_768, failing)?;
     place(&mut shelf, "t", given.tables)?;
     place(&mut shelf, "r", given.roll)?;
     place(&mut shelf, "k", given.keys)?;

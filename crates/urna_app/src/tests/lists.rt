@@ -54,7 +54,7 @@ const REPORTS: [(&str, &[u8]); 5] = [
 ];
 
 /// The totals over a report, its copy and one that is spoiled.
-const TOTALIZA: Given = Given {
+pub(super) const TOTALIZA: Given = Given {
     words: &["totaliza", "t", "l"],
     roll: None,
     report: Some(REPORT),

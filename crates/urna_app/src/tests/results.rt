@@ -1,8 +1,8 @@
 //! Files of results, which `vota` and `emite` put.
 use super::confere::REPORT;
 use super::given::{
-    CARGA, Given, Images, LOAD, NO_KEYS, ON, Row, VISIT_SHOWN, VOTA, alone, copied, left, loaded,
-    run, run_on, shelf_of, step_on,
+    CARGA, Given, IN_ORDER, Images, LOAD, NO_KEYS, ON, Row, VISIT_SHOWN, VOTA, alone, copied, left,
+    loaded, run, run_on, shelf_failing, shelf_of, step_on,
 };
 use crate::status::{Doc, Status};
 use std::process::Abort;
@@ -165,6 +165,47 @@ fn voted(
     Ok((shelf, left(rt, &m)?))
 }
 
+/// A command over these flashes, of which this call of the cabinet fails, ends so and leaves those.
+fn check_cabinet(
+    rt: &(impl Abort + AllocGlobal),
+    given: Given<'_>,
+    call: u32,
+    want: Status,
+    before: &Images,
+    after: &Images,
+) -> Result<(), Fail> {
+    let mut shelf = shelf_failing(rt, given, &[call])?;
+    let (status, m) = run_on(rt, given, &mut shelf, copied(rt, before)?, &[])?;
+    assert_eq!(rt; status, want);
+    assert_eq!(rt; m.content(Dev::Internal), after.internal.as_slice());
+    assert_eq!(rt; m.content(Dev::External), after.external.as_slice());
+    Ok(())
+}
+
+/// Each take and each put fails in turn: three takes before the session and two puts behind it. There is no sixth call.
+#[test]
+fn each_call_of_the_cabinet_in_a_session_fails(rt: HostRuntime) -> Result<(), Fail> {
+    let ready = loaded(&rt, CARGA)?;
+    let sealed = sealed(&rt)?;
+    for call in 0..3 {
+        check_cabinet(&rt, VOTA, call, Status::Cabinet, &ready, &ready)?;
+    }
+    for call in 3..5 {
+        check_cabinet(&rt, VOTA, call, Status::Cabinet, &ready, &sealed)?;
+    }
+    check_cabinet(&rt, VOTA, 5, Status::Done, &ready, &sealed)
+}
+
+/// So do those of `emite`, two takes and two puts. There is no fifth.
+#[test]
+fn each_call_of_the_cabinet_in_emite_fails(rt: HostRuntime) -> Result<(), Fail> {
+    let sealed = sealed(&rt)?;
+    for call in 0..4 {
+        check_cabinet(&rt, EMITE, call, Status::Cabinet, &sealed, &sealed)?;
+    }
+    check_cabinet(&rt, EMITE, 4, Status::Done, &sealed, &sealed)
+}
+
 /// The session that seals a poll puts its files, and so does one that finds it sealed.
 #[test]
 fn a_session_puts_the_results_of_a_sealed_poll(rt: HostRuntime) -> Result<(), Fail> {
@@ -261,24 +302,7 @@ fn results_and_a_port_that_fails(rt: HostRuntime) -> Result<(), Fail> {
     Ok(())
 }
 
-/// Three voters, and three ballots.
-const IN_ORDER: &[u8] = b"M ABRE 20261004080000
-M TITULO 010000000001
-M LIBERA
-E 45C
-E 13C
-M TITULO 010000000002
-M LIBERA
-E BC
-E 45C
-M TITULO 010000000003
-M LIBERA
-E 13001C
-E 99C
-M ENCERRA 20261004170000
-";
-
-/// The same ballots, by other voters.
+/// The ballots of the session in order, by other voters.
 const IN_ANOTHER_ORDER: &[u8] = b"M ABRE 20261004080000
 M TITULO 010000000003
 M LIBERA

@@ -2,12 +2,13 @@
 use super::given::{
     CARGA, Given, Images, NO_KEYS, VOTA, alone, copied, left, loaded, run, run_on, shelf_of, step,
 };
+use crate::cuts::{cut, fills};
 use crate::status::Status;
-use crate::stops::{SYNCS, TEARS, filled, stopped};
+use crate::stops::SYNCS;
 use std::process::Abort;
 use std::test::Fail;
 use urna_base::Memory;
-use urna_outside::{Dev, Recorder, Tear};
+use urna_outside::{Dev, Recorder};
 
 /// A poll that was opened, whose one voter came and chose 13.
 const VOTED: Given = Given {
@@ -145,26 +146,18 @@ fn holds_the_voter(rt: &(impl Abort + AllocGlobal), images: Images) -> Result<bo
     Ok(alone && tells_the_voter(rt, images)?)
 }
 
-/// The change of version is stopped at each operation, over each tear, and over the bytes of the sealed poll.
+/// The change of version is stopped after each operation.
 #[test]
 fn no_stop_of_that_change_loses_a_voter(rt: HostRuntime) -> Result<(), Fail> {
     let (_, sealed) = run(&rt, VOTA, loaded(&rt, CARGA)?)?;
+    let sealed = left(&rt, &sealed)?;
     let (_, voted) = run(&rt, VOTED, loaded(&rt, CARGA)?)?;
     let (_, m) = run(&rt, NO_KEYS, older(&rt, &voted, OPEN_HEAD)?)?;
-    for ops in SYNCS..m.trail_len() {
-        for tear in TEARS {
-            let images = stopped(&rt, &m, ops, tear)?;
+    for ops in 0..=m.trail_len() {
+        for fill in fills(&sealed) {
+            let images = cut(&rt, &m, ops, fill)?;
             assert!(rt; holds_the_voter(&rt, images)?, "after {ops}");
         }
-        let zeros = stopped(&rt, &m, ops, Tear::Byte(0))?;
-        let ones = stopped(&rt, &m, ops, Tear::Byte(1))?;
-        let internal = sealed.content(Dev::Internal);
-        let external = sealed.content(Dev::External);
-        let images = Images {
-            internal: filled(&rt, &zeros.internal, &ones.internal, internal)?,
-            external: filled(&rt, &zeros.external, &ones.external, external)?,
-        };
-        assert!(rt; holds_the_voter(&rt, images)?, "after {ops}, over the seal");
     }
     Ok(())
 }

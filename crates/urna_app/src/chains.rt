@@ -1,0 +1,107 @@
+//! Calls one after another, each of which fails at an operation that a seed draws, with a power cut behind it.
+use crate::cuts::{cut, fills};
+use crate::status::Status;
+use crate::stops::{HELD, SESSION, commit_before, is_of_port, session, told};
+use crate::tests::given::{Given, Images, LOAD, copied, left, loaded, run, run_failing};
+use std::process::Abort;
+use std::test::Fail;
+
+const EMITE: Given = Given {
+    words: &["emite", "t", "r", "o"],
+    ..LOAD
+};
+
+/// How many chains there are, and how many calls each has.
+const CHAINS: u64 = 60;
+
+const CALLS: u32 = 4;
+
+/// Numbers that a seed draws, by a linear congruential generator.
+#[derive(Clone, Copy)]
+struct Draws {
+    state: u64,
+}
+
+impl Draws {
+    /// A number below the given one, which isn't 0.
+    fn below(&mut self, many: u32) -> u32 {
+        self.state = self
+            .state
+            .wrapping_mul(6_364_136_223_846_793_005)
+            .wrapping_add(1_442_695_040_888_963_407);
+        let drawn = u32::try_from(self.state >> 32).unwrap_or(0);
+        drawn.checked_rem(many).unwrap_or(0)
+    }
+}
+
+/// How many lines that tell a state were begun.
+fn states_begun(shown: &[u8]) -> usize {
+    shown
+        .split(|byte| *byte == b'\n')
+        .filter(|line| commit_before(line).is_some())
+        .count()
+}
+
+/// Which state of the session both images hold, by what `vota` tells.
+fn place_held(rt: &(impl Abort + AllocGlobal), images: &Images) -> Result<Option<usize>, Fail> {
+    let line = told(rt, copied(rt, images)?)?;
+    Ok(HELD.iter().position(|held| *held == line.as_slice()))
+}
+
+/// A command over some images fails at one of its operations: how many lines that tell a state it began, and what a power cut then leaves.
+fn stopped_call(
+    rt: &(impl Abort + AllocGlobal),
+    drawn: &mut Draws,
+    given: Given<'_>,
+    images: Images,
+    later: &Images,
+) -> Result<(usize, Images), Fail> {
+    let (_, whole) = run(rt, given, copied(rt, &images)?)?;
+    let call = drawn.below(whole.trail_len());
+    let (status, m) = run_failing(rt, given, images, &[call])?;
+    assert!(rt;
+        is_of_port(status) || status == Status::NotSealed,
+        "{status:?}"
+    );
+    let way = drawn.below(5) as usize;
+    let Some(fill) = fills(later).get(way).copied() else {
+        panic!(rt; "no such way");
+    };
+    Ok((states_begun(m.shown()), cut(rt, &m, m.trail_len(), fill)?))
+}
+
+/// Behind each call both flashes hold the state whose line it began last, or, of a session, the next; where it began none, the state that it
+/// found.
+fn check_chain(rt: &(impl Abort + AllocGlobal), seed: u64, later: &Images) -> Result<Images, Fail> {
+    let mut drawn = Draws { state: seed };
+    let mut images = loaded(rt, LOAD)?;
+    let mut held = 0usize;
+    for _ in 0..CALLS {
+        let is_session = drawn.below(4) > 0;
+        let given = if is_session { SESSION } else { EMITE };
+        let (begun, next) = stopped_call(rt, &mut drawn, given, images, later)?;
+        let Some(place) = place_held(rt, &next)? else {
+            panic!(rt; "seed {seed}: no poll of the section");
+        };
+        let least = held.saturating_add(begun);
+        let most = least.saturating_add(usize::from(is_session));
+        assert!(rt; least <= place && place <= most, "seed {seed}");
+        held = place;
+        images = next;
+    }
+    Ok(images)
+}
+
+/// And a session behind them all takes the voters who are left, and seals the poll.
+#[test]
+fn voters_are_kept_by_calls_that_are_stopped(rt: HostRuntime) -> Result<(), Fail> {
+    let (_, sealed) = session(&rt)?;
+    for seed in 0..CHAINS {
+        let images = check_chain(&rt, seed, &sealed)?;
+        let (status, m) = run(&rt, SESSION, images)?;
+        assert_eq!(&rt; status, Status::Done);
+        let line = told(&rt, left(&rt, &m)?)?;
+        assert!(&rt; line.as_slice() == HELD[5], "seed {seed}");
+    }
+    Ok(())
+}
