@@ -161,9 +161,12 @@ def changed(text, at, way, draw):
 
 
 def try_change(runs, draw, name, files, tries, at, way):
+    """Whether there was something to try: a byte may be as it is made already."""
     text = changed(files[name], at, way, draw)
-    if text != files[name]:
-        tries(runs, {**files, name: text}, f"{name} with byte {at} {way}")
+    if text == files[name]:
+        return False
+    tries(runs, {**files, name: text}, f"{name} with byte {at} {way}")
+    return True
 
 
 def try_flashes(runs, draw):
@@ -188,5 +191,5 @@ def trials(runs, drawn):
             if number % 10 == 9:
                 try_flashes(runs, draw)
                 yield "changed flashes"
-            try_change(runs, draw, *change)
-            yield "changed inputs"
+            if try_change(runs, draw, *change):
+                yield "changed inputs"

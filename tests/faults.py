@@ -113,8 +113,8 @@ def statuses(case, other, how):
         return {"carga": {21, 22}, "ensaio": {20}}.get(case.words[0], {20, 21, 22})
     if other.kind == "open" and other.name in DOCUMENTS and how in (ENOENT, ENOMEM):
         return {12} if how == ENOENT else {1}
-    # The name of a result that can't be looked at counts as free, and so does a file of it that is gone or another user's.
-    is_free = other.kind == "stat" or (other.kind == "open" and how in (ENOENT, EACCES))
+    # A result that is gone, or that this user may not open, is no flash, and is replaced.
+    is_free = how == ENOENT and other.kind == "stat" or how in (ENOENT, EACCES) and other.kind == "open"
     return {20} | usual if other.name in RESULTS and is_free else {20}
 
 

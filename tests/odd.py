@@ -85,7 +85,8 @@ def no_display(runs, draw):
 
 
 def closed_display(runs, draw):
-    """The reader of a pipe goes away behind a drawn number of bytes of a long session."""
+    """The reader of a pipe goes away behind a drawn number of bytes of a long session. A line to a pipe goes whole or not at all: one that
+    is cut off is tried on full disks and by short writes."""
     day = Day(draw.randint(30, 50))
     case = faults.session(runs, day, 0, day.last)
     closes = draw.randint(1, len(case.usual.shown))
