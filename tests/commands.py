@@ -19,13 +19,13 @@ def want(holds, what):
 
 
 def started(program, words, name="urna", closed=(), env=None):
-    """A command, under this name and with these descriptors closed, which ends by itself."""
+    """A command, under this name and with these descriptors closed, which ends by itself. No line of it is read ahead of those asked for."""
 
     def close():
         for descriptor in closed:
             os.close(descriptor)
 
-    streams = {"stdin": subprocess.DEVNULL, "stdout": subprocess.PIPE}
+    streams = {"stdin": subprocess.DEVNULL, "stdout": subprocess.PIPE, "bufsize": 0}
     return subprocess.Popen([name, *words], executable=program, preexec_fn=close, env=env, **streams)
 
 
