@@ -1,12 +1,13 @@
 -- The bytes of the turnout: a bit for each place
-use Rattle.std.proofs.Common.{◌≡◌, ℕ, zero, suc, ◌+◌, ◌-◌, ◌*◌, ◌/◌, ◌%◌, ◌^◌, ◌<◌, ◌≤◌, Bool, true, false, not, cond, ◌==◌, List, [], ◌∷◌, length, get_or, map, inl, inr, refl, sym, ap, ◌∙◌, arith}
+use Rattle.std.proofs.Common.{◌≡◌, ℕ, zero, suc, ◌+◌, ◌-◌, ◌*◌, ◌/◌, ◌%◌, ◌^◌, ◌<◌, ◌≤◌, Bool, true, false, not, cond, ◌==◌, List, [], ◌∷◌, ◌++◌, length, get_or, map, slice_set, inl, inr, refl, sym, ap, ◌∙◌, arith}
 use Rattle.std.specs.Int.{bit_at}
 use Rattle.std.specs.List.{list_all, range_with_len}
-use Rattle.std.proofs.lemmas.Bool.{cases_lt, and_from, and_parts, not-true}
+use Rattle.std.proofs.lemmas.Bool.{cases_eq, cases_lt, and_from, and_parts, not-true}
 use Rattle.std.proofs.lemmas.Bool.Decides.{nat_tests}
-use Rattle.std.proofs.lemmas.List.{get_or_past}
-use Rattle.std.proofs.lemmas.List.FromFn.{fill_by_all, get_or-map-range_with_len}
+use Rattle.std.proofs.lemmas.List.{get_or_past, get_or-set_other, get_or-set_same, length-append}
+use Rattle.std.proofs.lemmas.List.FromFn.{fill_by_all, get_or-map-range_with_len, length-map-range_with_len, map-range_with_len_more}
 use Rattle.std.proofs.Math.Nat.{pow-suc}
+use Rattle.std.proofs.Math.Pow.{pow_mono}
 use Rattle.std.proofs.lemmas.Nat.Bits.{bit_at_cat_low, bit_at_cat_high, same_from_bits_below}
 use Rattle.std.proofs.lemmas.Option.{unwrap_or-slice_get}
 use Rattle.election_tables.specs.Limits.{most_voters}
@@ -36,6 +37,20 @@ unfolding one_if
 one_bit true = refl
 one_bit false = refl
 
+-- one bit more behind the others
+number_doubled : (bit : Bool) (n rest more last : ℕ) → more ≡ 2 * rest + last → cond bit (2 ^ suc n) 0 + more ≡ 2 * (cond bit (2 ^ n) 0 + rest) + last
+number_doubled true n rest more last e = omega (arith, pow-suc 2 n)
+number_doubled false n rest more last e = omega arith
+
+number_push : (bits : List Bool) (last : Bool) → number_of_bits (bits ++ last ∷ []) ≡ 2 * number_of_bits bits + one_if last
+unfolding one_if
+number_push [] true = refl
+number_push [] false = refl
+number_push (bit ∷ bits) last =
+    let long : length (bits ++ last ∷ []) ≡ suc (length bits) = omega (arith, length-append bits (last ∷ [])) in
+    ap (λ (n : ℕ). cond bit (2 ^ n) 0 + number_of_bits (bits ++ last ∷ [])) long
+    ∙ number_doubled bit (length bits) (number_of_bits bits) (number_of_bits (bits ++ last ∷ [])) (one_if last) (number_push bits last)
+
 -- each bit, the last of which has the value 1
 bit_of : (bits : List Bool) (i : ℕ) → i < length bits → (bit_at (number_of_bits bits) i == 1) ≡ get_or bits (length bits - 1 - i) false
 bit_of [] i lt = absurd (omega arith)
@@ -60,12 +75,42 @@ pub eight_small : (came : List Bool) (p : ℕ) → eight_places came p < 256
 unfolding eight_places
 eight_small came p = number_small (map (has_come came) (range_with_len p 8))
 
+-- the marks of so many places, which are fewer than eight, and with those of one place more
+pub marks_small : (came : List Bool) (p n : ℕ) → n < 8 → number_of_bits (map (has_come came) (range_with_len p n)) < 128
+marks_small came p n few =
+    let small = number_small (map (has_come came) (range_with_len p n)) in
+    let most : 2 ^ n ≤ 128 = pow_mono {i = n} {j = 7} (omega arith) in
+    let long = ap (λ (k : ℕ). 2 ^ k) (length-map-range_with_len (has_come came) p n) in
+    omega arith
+
+pub marks_eight : (came : List Bool) (p : ℕ) → number_of_bits (map (has_come came) (range_with_len p 8)) ≡ eight_places came p
+unfolding eight_places
+marks_eight came p = refl
+
+pub marks_push : (came : List Bool) (p n place : ℕ) → p + n ≡ place
+    → number_of_bits (map (has_come came) (range_with_len p (n + 1))) ≡ 2 * number_of_bits (map (has_come came) (range_with_len p n)) + cond (has_come came place) 1 0
+unfolding one_if
+marks_push came p n place e =
+    ap number_of_bits (map-range_with_len_more (has_come came) p n place e) ∙ number_push (map (has_come came) (range_with_len p n)) (has_come came place)
+
 -- the bit of a place
 eight_bits : (came : List Bool) (p i : ℕ) → i < 8 → (bit_at (eight_places came p) i == 1) ≡ has_come came (p + (7 - i))
 unfolding eight_places
 eight_bits came p i lt = bit_of (map (has_come came) (range_with_len p 8)) i lt ∙ get_or-map-range_with_len (has_come came) p 8 (7 - i) (p + (7 - i)) false (omega arith) (omega arith)
 
 -- The marks of all places
+
+-- byte by byte
+pub marks_put : (came : List Bool) (bytes : List ℕ) (k v : ℕ) → k < length bytes → v ≡ eight_places came (8 * k)
+    → ((i : ℕ) → i < k → get_or bytes i 0 ≡ eight_places came (8 * i)) → (i : ℕ) → i < k + 1 → get_or (slice_set bytes k v) i 0 ≡ eight_places came (8 * i)
+marks_put came bytes k v lt is before i within = elim (cases_eq i k) [
+  | inl same ↦ ap (λ (j : ℕ). get_or (slice_set bytes k v) j 0) same ∙ get_or-set_same bytes k v 0 lt ∙ is ∙ ap (λ (j : ℕ). eight_places came (8 * j)) (sym same)
+  | inr other ↦ get_or-set_other bytes k i v 0 other ∙ before i (omega arith)
+]
+
+pub marks_all : (came : List Bool) (bytes : List ℕ) → length bytes ≡ 75 → ((i : ℕ) → i < 75 → get_or bytes i 0 ≡ eight_places came (8 * i)) → bytes ≡ turnout_bytes came
+unfolding turnout_bytes
+marks_all came bytes whole each = fill_by_all (λ k. eight_places came (8 * k)) bytes 75 0 whole each
 
 read_eight : (came : List Bool) (k : ℕ) → k < 75 → get_or (turnout_bytes came) k 0 ≡ eight_places came (8 * k)
 unfolding turnout_bytes

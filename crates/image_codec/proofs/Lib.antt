@@ -19,7 +19,6 @@ pub mod ReadHead
 pub mod Decoding
 pub mod Counted
 pub mod AnyOrder
-pub mod Marking
 pub mod Fills
 pub mod FillVotes
 pub mod FillCounters
@@ -28,7 +27,6 @@ pub mod Loaded
 pub mod OfTables
 pub mod Counting
 pub mod Growing
-pub mod ChoicePlaces
 mod Parts
 mod AddChoices
 mod Rows

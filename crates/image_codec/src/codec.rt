@@ -1,5 +1,4 @@
 //! The bytes of a state: how it is written into the body of a slot, and read from one (docs/FORMATS.md, "The body").
-mod choices;
 mod counters;
 mod head;
 mod layout;

@@ -1,3 +1,4 @@
+pub mod ChoicePlaces
 pub mod Choices
 pub mod LineChoices
 pub mod Lookups

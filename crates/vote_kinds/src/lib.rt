@@ -7,6 +7,8 @@
 
 mod ballot;
 mod choice;
+mod panel_choices;
 
 pub use ballot::{choice_of, confirmable, is_choice, office_digits};
 pub use choice::{Choice, Field};
+pub use panel_choices::{choice_at, choice_count, party_count};

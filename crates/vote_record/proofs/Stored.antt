@@ -1,5 +1,5 @@
 -- The bags of a record as they are stored
-use Rattle.std.proofs.Common.{◌≡◌, ℕ, zero, suc, ◌*◌, ◌<◌, List, [], ◌∷◌, length, get_or, map, slice_set, slice_index, replicate, refl, sym, ap, subst, ◌∙◌, arith}
+use Rattle.std.proofs.Common.{◌≡◌, ℕ, zero, suc, ◌*◌, ◌<◌, List, [], ◌∷◌, length, get_or, map, slice_set, slice_index, refl, sym, ap, subst, ◌∙◌, arith}
 use Rattle.std.proofs.lemmas.List.{map-set}
 use Rattle.vote_kinds.specs.declared.choice.Choice.{Choice}
 use Rattle.vote_record.specs.Bag.{with_choice, bag_at, with_vote}
@@ -49,19 +49,6 @@ pub with_vote-set : (panel : ℕ) (c : Choice) (bags : List (List Choice)) → s
 with_vote-set panel c [] = refl
 with_vote-set zero c (bag ∷ bags) = refl
 with_vote-set (suc panel) c (bag ∷ bags) = ap (λ (b : List (List Choice)). bag ∷ b) (with_vote-set panel c bags)
-
--- new bags
-
-abbrev pub empty_bag : ℕ → ℕ → BagData
-empty_bag voters votes = record { members = []; room = voters * votes }
-
-pub no_members : (voters : ℕ) (places : List ℕ) → bags_in (map (empty_bag voters) places) ≡ replicate (length places) []
-no_members voters [] = refl
-no_members voters (n ∷ places) = ap (λ (m : List (List Choice)). [] ∷ m) (no_members voters places)
-
-pub all_rooms : (voters : ℕ) (places : List ℕ) → rooms_of (map (empty_bag voters) places) ≡ map (λ n. voters * n) places
-all_rooms voters [] = refl
-all_rooms voters (n ∷ places) = ap (λ (m : List ℕ). voters * n ∷ m) (all_rooms voters places)
 
 -- a bag that was read, where the record is seen as `now`
 

@@ -3,7 +3,7 @@ use Rattle.std.proofs.Common.{◌≡◌, ℕ, zero, suc, ◌+◌, ◌-◌, ◌�
 use Rattle.std.specs.List.{AllByRecursion, insert}
 use Rattle.std.specs.List.Sorted.{IsPartitionedBy, IsPartitionPoint}
 use Rattle.std.proofs.lemmas.Bool.{cases_Bool}
-use Rattle.std.proofs.lemmas.List.{drop_more, get_or-drop, get_or-map, get_or-take, length-append, length-drop, length-map, length-replicate, length-take, replicate-append-replicate, set_split, take-append-drop}
+use Rattle.std.proofs.lemmas.List.{drop_more, get_or_default, get_or-drop, get_or-map, get_or-take, length-append, length-drop, length-map, length-replicate, length-take, replicate-append-replicate, set_split, take-append-drop}
 use Rattle.std.proofs.lemmas.List.Edits.{get_or-insert_at, length-insert}
 use Rattle.std.proofs.lemmas.List.Elements.{recursion_from_All}
 use Rattle.std.proofs.lemmas.List.Sums.{count_by-le-length}
@@ -165,13 +165,18 @@ counted_in_place counters place x rise lt =
     ∙ get_or-map (λ y. y.votes) counters place x x.votes lt
 
 -- as often as its counter says
-pub votes_found : (c : Choice) (counters : List Counter) (place : ℕ) (x : Counter) → AreRising (choices_in counters) → stands_at c counters place ≡ true → x ≡ get_or counters place x
+votes_found : (c : Choice) (counters : List Counter) (place : ℕ) (x : Counter) → AreRising (choices_in counters) → stands_at c counters place ≡ true → x ≡ get_or counters place x
     → x.votes ≡ count_of c (members_of counters)
 votes_found c counters place x rise is read =
     let same : c ≡ x.choice = stands-choice c counters place x is read in
     ap (λ (y : Counter). y.votes) read
     ∙ sym (counted_in_place counters place x rise (stands-within c counters place is))
     ∙ ap (λ (d : Choice). count_of d (members_of counters)) (sym (same ∙ ap (λ (y : Counter). y.choice) read))
+
+pub votes_read : (c : Choice) (counters : List Counter) (place : ℕ) (d : Counter) → AreRising (choices_in counters) → stands_at c counters place ≡ true
+    → (get_or counters place d).votes ≡ count_of c (members_of counters)
+votes_read c counters place d rise is =
+    votes_found c counters place (get_or counters place d) rise is (get_or_default counters place d (get_or counters place d) (stands-within c counters place is))
 
 -- and so no more often than there are members
 pub few_votes : (c : Choice) (counters : List Counter) (place : ℕ) (x : Counter) → AreRising (choices_in counters) → stands_at c counters place ≡ true → x ≡ get_or counters place x

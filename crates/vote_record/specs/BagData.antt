@@ -8,10 +8,11 @@ use Rattle.vote_kinds.specs.Choice.{AreRising, choice_le, is_same}
 use Rattle.vote_record.specs.Counters.{bag_with}
 use Rattle.vote_record.specs.declared.counters.Counter.{Counter}
 
--- the members in the order of choices, and how many of them there is room for
+-- the members in the order of choices, how many of them there is room for, and how many counters there is memory for
 pub record BagData : Type 0 where
   pub members : List Choice
   pub room : ℕ
+  pub memory : ℕ
 
 -- a choice's counter without votes
 abbrev pub no_votes : Choice → Counter
@@ -40,11 +41,11 @@ pub record IsPlace (c : Choice) (counters : List Counter) (place : ℕ) : Type 0
 abbrev pub most_choices : ℕ
 most_choices = most_candidates + most_parties + 2
 
--- Counters rise by choice, and count `total` members, which are within the room. There is memory for just the most choices of a panel
--- and, since a member may be a choice of no panel, for one counter more with each member that there is room for.
-pub record AreStored (counters : List Counter) (total room capacity : ℕ) : Type 0 where
+-- Counters rise by choice, and count `total` members, which are within the room. Since a member may be a choice of no panel, there is
+-- memory for one counter more with each member that there is still room for, and for no more than all choices of a panel besides.
+pub record AreStored (counters : List Counter) (total room memory : ℕ) : Type 0 where
   pub rise : AreRising (choices_in counters)
   pub counted : total ≡ length (members_of counters)
   pub within : total ≤ room
-  pub reserved : capacity ≡ most_choices + room
-  pub few : length counters ≤ most_choices + total
+  pub reserved : length counters + room ≤ memory + total
+  pub few : memory ≤ most_choices + room

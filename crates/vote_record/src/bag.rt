@@ -1,8 +1,9 @@
 //! The bag of one panel. The code has counters in fixed places: one for each choice of the panel, in the order of choices.
 ghost use Rattle.std.specs.Prelude.{◌≡◌, ◌<◌, ◌≤◌, ◌+◌, [], length, IfOk, Some, slice_get};
+ghost use Rattle.vote_kinds.specs.Ballot.{choices_of, line_of};
 ghost use Rattle.vote_record.specs.Bag.{IsInOrder, count_of, with_choices};
 
-use crate::counters::{Counter, count_in, member, new_counters, place_near, stands_at};
+use crate::counters::{Counter, count_in, member, new_counters, place_for, votes_at};
 use election_tables::Tables;
 use std::alloc::Global;
 use std::marker::Model;
@@ -13,7 +14,7 @@ use vote_kinds::Choice;
 /// more later.
 ///
 /// It takes a choice that is none of its panel's as well: a counter is put in for it, for which there is memory with each
-/// member that there is room for. What it has memory for hangs on the room alone, so no call takes more.
+/// member that there is room for. Contracts see what it has memory for, so no call takes more.
 #[derive(Debug, Drop)]
 pub struct Bag {
     // in the order of choices
@@ -29,7 +30,7 @@ impl Model for Bag {
 
     ghost Value = { BagData };
 
-    ghost view = { λ b. record { members = members_of b.counters.items; room = b.room } };
+    ghost view = { λ b. record { members = members_of b.counters.items; room = b.room; memory = vec_capacity b.counters } };
 
     ghost invariant = { λ b. AreStored b.counters.items b.total b.room (vec_capacity b.counters) };
 }
@@ -38,7 +39,7 @@ impl Bag {
     /// The empty bag of a panel, with a counter for each choice of the panel. All its memory is taken here.
     pub fn of_panel(alloc: Global, tables: &Tables, panel: u32, room: u32) -> Result<Bag, Memory>
         requires { panel < length tables.now.panels }
-        ensures { IfOk result (λ b. b ≡ record { members = []; room = room }) }
+        ensures { IfOk result (λ b. b ≡ record { members = []; room = room; memory = length (choices_of (line_of tables.now panel)) + room }) }
     {
         let counters = new_counters(alloc, tables, panel, room)?;
         Ok(Bag {
@@ -61,18 +62,20 @@ impl Bag {
     pub fn count(&self, choice: Choice) -> u32
         ensures { result ≡ count_of choice self.now.members }
     {
-        self.count_near(0, choice)
+        let place = place_for(&self.counters, choice);
+        match votes_at(&self.counters, place, choice) {
+            Some(votes) => votes,
+            None => 0,
+        }
     }
 
     /// The same number, looked for in this place of the counters first.
     pub fn count_near(&self, place: u32, choice: Choice) -> u32
         ensures { result ≡ count_of choice self.now.members }
     {
-        let place = place_near(&self.counters, place as usize, choice);
-        if stands_at(&self.counters, place, choice) {
-            self.counters[place].votes
-        } else {
-            0
+        match votes_at(&self.counters, place as usize, choice) {
+            Some(votes) => votes,
+            None => self.count(choice),
         }
     }
 

@@ -1,16 +1,15 @@
 //! The counters that a bag is stored as, in the order of choices.
-ghost use Rattle.std.specs.Prelude.{◌≡◌, ◌<◌, ◌≤◌, ◌+◌, ◌^◌, ◌++◌, if◌then◌else◌, length, map, take, IfOk, Some, slice_get, vec_len, vec_capacity};
-ghost use Rattle.election_tables.specs.Limits.{most_candidates, most_parties};
-ghost use Rattle.election_tables.specs.TablesData.{IsTables};
+ghost use Rattle.std.specs.Prelude.{◌≡◌, ◌<◌, ◌≤◌, ◌+◌, ◌^◌, ◌++◌, false, length, map, take, IfOk, IfSome, IsNone, Some, slice_get, vec_len, vec_capacity};
+ghost use Rattle.election_tables.specs.TablesData.{IsTables, candidates_at};
 ghost use Rattle.vote_kinds.specs.Ballot.{choices_of, line_of};
 ghost use Rattle.vote_kinds.specs.Choice.{AreRising, is_same};
-ghost use Rattle.vote_record.specs.Bag.{with_choices};
+ghost use Rattle.vote_record.specs.Bag.{count_of, with_choices};
 ghost use Rattle.vote_record.specs.BagData.{IsPlace, choices_in, members_of, most_choices, no_votes, stands_at};
 
-use election_tables::{Kind, Tables};
+use election_tables::Tables;
 use std::alloc::Global;
 use urna_base::Memory;
-use vote_kinds::Choice;
+use vote_kinds::{Choice, choice_count, party_count};
 
 /// A choice, and how many votes are it.
 #[derive(Clone, Copy, Debug)]
@@ -19,11 +18,7 @@ pub struct Counter {
     pub votes: u32,
 }
 
-/// The most choices of a panel: 4,096 candidates, 40 parties, blank and null.
-const MOST_CHOICES: usize = 4_138;
-
-/// A counter without votes for each choice of a panel, in the order of choices, with memory for the most choices of a panel
-/// and so many counters more.
+/// A counter without votes for each choice of a panel, in the order of choices, with memory for so many counters more.
 pub fn new_counters(
     alloc: Global,
     tables: &Tables,
@@ -33,40 +28,24 @@ pub fn new_counters(
     requires { panel < length tables.now.panels }
     ensures places { IfOk result (λ counters. counters.items ≡ map no_votes (choices_of (line_of tables.now panel))) }
     ensures few { IfOk result (λ counters. vec_len counters ≤ most_choices) }
-    ensures memory { IfOk result (λ counters. vec_capacity counters ≡ most_choices + more) }
+    ensures memory { IfOk result (λ counters. vec_capacity counters ≡ length counters.items + more) }
     ensures tables { IsTables tables.now }
 {
-    let parties = chosen_parties(tables, panel);
-    let mut counters = Vec::with_capacity(alloc, MOST_CHOICES + more as usize)?;
+    let choices = choice_count(tables, panel);
+    let mut counters = Vec::with_capacity(alloc, choices as usize + more as usize)?;
     put_candidates(&mut counters, tables, panel);
-    put_parties(&mut counters, tables, parties);
+    put_parties(&mut counters, tables, party_count(tables, panel));
     counters.push_reserved(no_votes(Choice::Blank));
     counters.push_reserved(no_votes(Choice::Null));
     Ok(counters)
 }
 
-/// How many parties may be chosen in a panel: all of the tables where the office is decided in proportion, else none.
-#[tactic(auto, using(vote_kinds::proofs::Lookups::office_known))]
-fn chosen_parties(tables: &Tables, panel: u32) -> u32
-    requires { panel < length tables.now.panels }
-    ensures count { result ≡ (if (line_of tables.now panel).proportional then length tables.now.parties else 0) }
-    ensures few { result ≤ most_parties }
-    ensures tables { IsTables tables.now }
-{
-    let parties = tables.party_count();
-    match tables.office(panel).kind {
-        Kind::Proportional => parties,
-        Kind::Absolute => 0,
-        Kind::Simple => 0,
-    }
-}
-
 /// Puts a counter for each candidate behind the others.
 fn put_candidates(counters: &mut Vec<Counter>, tables: &Tables, panel: u32)
     requires panel { panel < length tables.now.panels }
-    requires reserved { vec_len counters.old + most_candidates ≤ vec_capacity counters.old }
+    requires reserved { vec_len counters.old + length (candidates_at panel tables.now) ≤ vec_capacity counters.old }
     ensures put { counters.new.items ≡ counters.old.items ++ map no_votes (map (λ n. Choice.Nominal n) (line_of tables.now panel).candidates) }
-    ensures few { vec_len counters.new ≤ vec_len counters.old + most_candidates }
+    ensures count { vec_len counters.new ≡ vec_len counters.old + length (candidates_at panel tables.now) }
     ensures memory { vec_capacity counters.new ≡ vec_capacity counters.old }
 {
     for i in 0..tables.candidate_count(panel) {
@@ -80,6 +59,7 @@ fn put_parties(counters: &mut Vec<Counter>, tables: &Tables, parties: u32)
     requires parties { parties ≤ length tables.now.parties }
     requires reserved { vec_len counters.old + parties ≤ vec_capacity counters.old }
     ensures put { counters.new.items ≡ counters.old.items ++ map no_votes (map (λ n. Choice.Party n) (take parties (map (λ q. q.number) tables.now.parties))) }
+    ensures count { vec_len counters.new ≡ vec_len counters.old + parties }
     ensures memory { vec_capacity counters.new ≡ vec_capacity counters.old }
 {
     for i in 0..parties {
@@ -114,7 +94,7 @@ pub fn count_in(counters: &mut Vec<Counter>, near: usize, choice: Choice, votes:
 }
 
 /// The same as `place_for`. It looks at `near` first.
-pub fn place_near(counters: &[Counter], near: usize, choice: Choice) -> usize
+fn place_near(counters: &[Counter], near: usize, choice: Choice) -> usize
     requires { AreRising (choices_in counters.now) }
     ensures { IsPlace choice counters.now result }
 {
@@ -126,15 +106,28 @@ pub fn place_near(counters: &[Counter], near: usize, choice: Choice) -> usize
 }
 
 /// Where the counter of a choice stands, or is put in where there is none.
-fn place_for(counters: &[Counter], choice: Choice) -> usize
+pub fn place_for(counters: &[Counter], choice: Choice) -> usize
     requires { AreRising (choices_in counters.now) }
     ensures { IsPlace choice counters.now result }
 {
     counters.partition_point(|counter| !choice.is_at_or_before(counter.choice))
 }
 
+/// How many votes a choice has, if its counter stands in this place.
+pub fn votes_at(counters: &[Counter], place: usize, choice: Choice) -> Option<u32>
+    requires { AreRising (choices_in counters.now) }
+    ensures votes { IfSome result (λ votes. votes ≡ count_of choice (members_of counters.now)) }
+    ensures none { IsNone result → stands_at choice counters.now place ≡ false }
+{
+    if stands_at(counters, place, choice) {
+        Some(counters[place].votes)
+    } else {
+        None
+    }
+}
+
 /// Whether the counter in a place is there, and is that of the choice.
-pub fn stands_at(counters: &[Counter], place: usize, choice: Choice) -> bool
+fn stands_at(counters: &[Counter], place: usize, choice: Choice) -> bool
     ensures { result ≡ stands_at choice counters.now place }
 {
     match counters.get(place) {

@@ -1,18 +1,21 @@
 //! How a state is written into the body of a slot.
-ghost use Rattle.std.specs.Prelude.{◌≡◌, ◌+◌, ◌-◌, ◌<◌, ◌≤◌, ◌++◌, length, replicate, take};
+ghost use Rattle.std.specs.Prelude.{◌≡◌, ◌+◌, ◌-◌, ◌*◌, ◌<◌, ◌≤◌, ◌++◌, length, map, replicate, take};
+ghost use Rattle.std.specs.Int.{w32, to_be_bytes};
 ghost use Rattle.std.specs.List.{flat_map, zip};
+ghost use Rattle.election_tables.specs.Limits.{most_parties};
+ghost use Rattle.election_tables.specs.TablesData.{candidates_at};
 ghost use Rattle.turnout.specs.Turnout.{number_came};
 ghost use Rattle.vote_kinds.specs.Ballot.{lines_by_panel, line_of};
-ghost use Rattle.vote_record.specs.Bag.{bag_at};
-ghost use Rattle.image_codec.specs.Layout.{body_size, head_size, version};
-ghost use Rattle.image_codec.specs.Encoding.{IsStateOf, encode, head_bytes, counter_bytes, turnout_bytes};
+ghost use Rattle.vote_record.specs.Bag.{bag_at, count_of};
+ghost use Rattle.image_codec.specs.Layout.{body_size, counter_size, head_size, turnout_size, version};
+ghost use Rattle.image_codec.specs.Encoding.{IsStateOf, encode, eight_places, head_bytes, counter_bytes, counts_text, turnout_bytes};
 
-use super::choices::{choice_at, choice_count};
 use super::layout::{COUNTERS_OFFSET, TURNOUT_SIZE, VERSION};
 use crate::state::State;
 use election_tables::Tables;
 use turnout::{Phase, Turnout};
 use urna_base::{put_be32, put_be64};
+use vote_kinds::{Choice, party_count};
 use vote_record::Rdv;
 
 /// Writes the body of a slot (docs/FORMATS.md, "The body"): the state as the second version has it, and zeros after it. It
@@ -65,7 +68,7 @@ fn put_counters(votes: &Rdv, tables: &Tables, into: &mut [u8], at: usize) -> usi
     end
 }
 
-/// The counters of a panel. The caller owes that the tables and the record have it, and room.
+/// The counters of a panel, in the order of choices. The caller owes that the tables and the record have it, and room.
 fn put_panel(votes: &Rdv, tables: &Tables, panel: u32, into: &mut [u8], at: usize) -> usize
     requires panel { panel < length tables.now.panels }
     requires bag { panel < length votes.now.bags }
@@ -73,12 +76,80 @@ fn put_panel(votes: &Rdv, tables: &Tables, panel: u32, into: &mut [u8], at: usiz
     ensures end { result ≡ at + length (counter_bytes (line_of tables.now panel, bag_at votes.now.bags panel)) }
     ensures text { take result into.new ≡ take at into.old ++ counter_bytes (line_of tables.now panel, bag_at votes.now.bags panel) }
 {
+    let candidates = tables.candidate_count(panel);
+    let parties = party_count(tables, panel);
+    let blank = candidates + parties;
+    let end = put_candidates(votes, tables, panel, into, at);
+    let end = put_parties(votes, tables, panel, parties, into, end);
+    let end = put_count(votes, panel, blank, Choice::Blank, into, end);
+    put_count(votes, panel, blank + 1, Choice::Null, into, end)
+}
+
+/// The counters of the candidates of a panel. The caller owes the same.
+fn put_candidates(votes: &Rdv, tables: &Tables, panel: u32, into: &mut [u8], at: usize) -> usize
+    requires panel { panel < length tables.now.panels }
+    requires bag { panel < length votes.now.bags }
+    requires room { at + counter_size * length (candidates_at panel tables.now) ≤ length into.old }
+    ensures end { result ≡ at + counter_size * length (candidates_at panel tables.now) }
+    ensures text { take result into.new ≡ take at into.old ++ counts_text (map (λ n. Choice.Nominal n) (line_of tables.now panel).candidates) (bag_at votes.now.bags panel) }
+{
     let mut end = at;
-    for place in 0..choice_count(tables, panel) {
-        let choice = choice_at(tables, panel, place);
-        end = put(into, end, &put_be32(votes.count_near(panel, place, choice)));
+    for i in 0..tables.candidate_count(panel) {
+        let candidate = tables.candidate(panel, i);
+        end = put_count(
+            votes,
+            panel,
+            i,
+            Choice::Nominal(candidate.number),
+            into,
+            end,
+        );
     }
     end
+}
+
+/// The counters of the first so many parties in a panel. The caller owes the same, and that there are so many.
+fn put_parties(
+    votes: &Rdv,
+    tables: &Tables,
+    panel: u32,
+    parties: u32,
+    into: &mut [u8],
+    at: usize,
+) -> usize
+    requires panel { panel < length tables.now.panels }
+    requires bag { panel < length votes.now.bags }
+    requires parties { parties ≤ length tables.now.parties }
+    requires few { parties ≤ most_parties }
+    requires room { at + counter_size * parties ≤ length into.old }
+    ensures end { result ≡ at + counter_size * parties }
+    ensures text { take result into.new ≡ take at into.old ++ counts_text (map (λ n. Choice.Party n) (take parties (map (λ q. q.number) tables.now.parties))) (bag_at votes.now.bags panel) }
+{
+    let first = tables.candidate_count(panel);
+    let mut end = at;
+    for i in 0..parties {
+        let party = tables.party(i);
+        end = put_count(votes, panel, first + i, Choice::Party(party), into, end);
+    }
+    end
+}
+
+/// The counter of a choice, which may be the one in this place of the record. The caller owes that the record has the panel, and
+/// room.
+fn put_count(
+    votes: &Rdv,
+    panel: u32,
+    place: u32,
+    choice: Choice,
+    into: &mut [u8],
+    at: usize,
+) -> usize
+    requires bag { panel < length votes.now.bags }
+    requires room { at + counter_size ≤ length into.old }
+    ensures end { result ≡ at + counter_size }
+    ensures text { take result into.new ≡ take at into.old ++ to_be_bytes w32 (count_of choice (bag_at votes.now.bags panel)) }
+{
+    put(into, at, &put_be32(votes.count_near(panel, place, choice)))
 }
 
 /// Zeros up to a place. The caller owes that it is none before the first, and room.
@@ -108,10 +179,20 @@ fn turnout_bytes(turnout: &Turnout) -> [u8; TURNOUT_SIZE]
     ensures { result ≡ turnout_bytes turnout.now }
 {
     let mut bytes = [0; TURNOUT_SIZE];
-    for place in 0..turnout.voters() {
-        if turnout.came(place) {
-            bytes[(place / 8) as usize] |= 1 << (7 - place % 8);
-        }
+    for k in 0..TURNOUT_SIZE {
+        bytes[k] = eight_places(turnout, 8 * k as u32);
     }
     bytes
+}
+
+/// The marks of eight places, the first of which is this one.
+fn eight_places(turnout: &Turnout, first: u32) -> u8
+    requires { first < 8 * turnout_size }
+    ensures { result ≡ eight_places turnout.now first }
+{
+    let mut byte = 0;
+    for place in first..first + 8 {
+        byte = 2 * byte + u8::from(turnout.came(place));
+    }
+    byte
 }

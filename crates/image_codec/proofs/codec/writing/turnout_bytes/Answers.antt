@@ -1,21 +1,15 @@
-use Rattle.std.proofs.Common.{◌+◌, sym, subst, ◌∙◌, arith}
-use Rattle.image_codec.proofs.Marking.{HasMarks, marks_none, marks_with, marks_without, marks_all}
+use Rattle.std.proofs.Common.{◌∙◌, arith}
+use Rattle.std.proofs.Math.ListN.{length-set}
+use Rattle.image_codec.proofs.Bits.{marks_all, marks_put}
 use Rattle.image_codec.proofs.codec.writing.turnout_bytes.Goals as goal
-use Rattle.image_codec.proofs.codec.writing.turnout_bytes.Goals.{then-came, else-came}
 
-pub loop-place-init : goal.loop-place-init
-loop-place-init c = marks_none c.args.turnout.now
-
-pub loop-place-preserved : goal.loop-place-preserved
-loop-place-preserved c =
-    elim c.if-came.branch [
-      | then-came w ↦
-          subst (HasMarks c.args.turnout.now (c.loop-place.place + 1)) (sym w.bytes-is)
-          (marks_with c.args.turnout.now c.loop-place.place c.loop-place.bytes (omega arith) (sym c.came.ensures ∙ w.if-came.true) c.loop-place.invariant)
-      | else-came w ↦
-          subst (HasMarks c.args.turnout.now (c.loop-place.place + 1)) (sym w.bytes-is)
-          (marks_without c.args.turnout.now c.loop-place.place c.loop-place.bytes (sym c.came.ensures ∙ w.if-came.false) c.loop-place.invariant)
-    ]
+pub loop-k-preserved : goal.loop-k-preserved
+loop-k-preserved c =
+    let bytes = c.loop-k.bytes in
+    record {
+      whole = length-set bytes c.loop-k.k c.eight_places.result ∙ c.loop-k.invariant.whole;
+      marks = marks_put c.args.turnout.now bytes c.loop-k.k c.eight_places.result (omega (arith, c.loop-k.invariant.whole)) c.eight_places.ensures c.loop-k.invariant.marks;
+    }
 
 pub returns : goal.returns
-returns c = marks_all c.args.turnout.now c.loop-place.place c.loop-place.bytes (omega (arith, c.voters-place-end.ensures.count)) c.loop-place.invariant
+returns c = marks_all c.args.turnout.now c.loop-k.bytes c.loop-k.invariant.whole (λ i lt. c.loop-k.invariant.marks i (omega arith))

@@ -14,6 +14,6 @@ invariant_of-self c =
       rise = c.count_in.ensures.rise;
       counted = omega (arith, c.self.invariant.counted);
       within = omega (arith, c.self.invariant.counted, c.requires);
-      reserved = c.count_in.ensures.memory ∙ c.self.invariant.reserved;
-      few = omega (arith, c.self.invariant.few, c.count_in.ensures.few);
+      reserved = omega (arith, c.self.invariant.reserved, c.count_in.ensures.few, c.count_in.ensures.memory);
+      few = omega (arith, c.self.invariant.few, c.count_in.ensures.memory);
     }

@@ -1,9 +1,10 @@
-use Rattle.std.proofs.Common.{List, length, sym, ap, subst, ◌∙◌, arith}
+use Rattle.std.proofs.Common.{◌≡◌, ◌+◌, ℕ, List, [], length, sym, ap, subst, ◌∙◌, arith}
+use Rattle.std.proofs.lemmas.List.{length-map}
 use Rattle.vote_kinds.specs.declared.choice.Choice.{Choice}
 use Rattle.vote_kinds.specs.Ballot.{choices_of, line_of}
 use Rattle.vote_kinds.specs.Choice.{AreRising}
 use Rattle.vote_kinds.proofs.LineChoices.{line_of_rises}
-use Rattle.vote_record.specs.BagData.{BagData, choices_in, members_of}
+use Rattle.vote_record.specs.BagData.{BagData, choices_in, members_of, no_votes}
 use Rattle.vote_record.proofs.NewCounters.{choices_in_new, no_members}
 use Rattle.vote_record.proofs.bag.Bag.of_panel.Goals as goal
 
@@ -16,12 +17,14 @@ invariant_of-result c =
       rise = subst AreRising (sym (ap choices_in c.in_ok-counters.ensures.places ∙ choices_in_new choices)) (line_of_rises t c.args.panel c.new_counters.ensures.tables);
       counted = sym none;
       within = omega arith;
-      reserved = c.in_ok-counters.ensures.memory;
-      few = omega (arith, c.in_ok-counters.ensures.few);
+      reserved = omega (arith, c.in_ok-counters.ensures.memory);
+      few = omega (arith, c.in_ok-counters.ensures.memory, c.in_ok-counters.ensures.few);
     }
 
 pub returns : goal.returns
 returns c =
     let choices : List Choice = choices_of (line_of c.args.tables.now c.args.panel) in
-    let bag_of : List Choice → BagData = λ members. record { members = members; room = c.args.room } in
-    ap bag_of (ap members_of c.in_ok-counters.ensures.places ∙ no_members choices)
+    let bag_of : List Choice → ℕ → BagData = λ members memory. record { members = members; room = c.args.room; memory = memory } in
+    let both : (m : List Choice) (n k : ℕ) → m ≡ [] → n ≡ k → bag_of m n ≡ bag_of [] k = λ m n k e f. ap (λ (l : List Choice). bag_of l n) e ∙ ap (bag_of []) f in
+    both _ _ _ (ap members_of c.in_ok-counters.ensures.places ∙ no_members choices)
+    (c.in_ok-counters.ensures.memory ∙ ap (λ (n : ℕ). n + c.args.room) (ap length c.in_ok-counters.ensures.places ∙ length-map choices no_votes))

@@ -1,27 +1,40 @@
 use Rattle.std.proofs.Common.{◌≡◌, ◌+◌, ◌++◌, ◌*◌, ℕ, List, [], ◌∷◌, map, length, take, replicate, sym, ap, ◌∙◌, arith}
-use Rattle.std.proofs.lemmas.List.{take_all, take_more, length-map, map-append}
+use Rattle.std.proofs.lemmas.List.{take_all, take_more, length-map, length-replicate, map_push, replicate_more}
 use Rattle.election_tables.specs.TablesData.{places_in, places_of}
 use Rattle.vote_kinds.specs.declared.choice.Choice.{Choice}
+use Rattle.vote_kinds.specs.Ballot.{choices_of, line_of}
 use Rattle.vote_record.specs.BagData.{BagData}
 use Rattle.vote_record.specs.RdvData.{RdvData}
-use Rattle.vote_record.proofs.Stored.{empty_bag, rooms_of, data_of, no_members, all_rooms}
+use Rattle.vote_record.proofs.Stored.{bags_in, rooms_of, length-bags_in}
 use Rattle.vote_record.proofs.rdv.Rdv.new.Goals as goal
 
 pub loop-panel-preserved : goal.loop-panel-preserved
 loop-panel-preserved c =
-    let all : List ℕ = places_of c.args.tables.now in
+    let t = c.args.tables.now in
+    let all : List ℕ = places_of t in
     let panel : ℕ = c.loop-panel.panel in
-    let voters : ℕ = c.args.voters in
-    let many : length all ≡ length c.args.tables.now.panels = length-map c.args.tables.now.panels places_in in
-    let more : take panel all ++ c.places-votes.result ∷ [] ≡ take (panel + 1) all =
-    ap (λ (n : ℕ). take panel all ++ n ∷ []) c.places-votes.ensures.places ∙ sym (take_more all panel 0 (omega arith)) in
+    let votes : ℕ = c.places-votes.result in
+    let room : ℕ → ℕ = λ n. c.args.voters * n in
+    let bags : List BagData = c.loop-panel.bags.items in
+    let places : List ℕ = c.loop-panel.places.items in
+    let fresh : BagData = record { members = []; room = room votes; memory = length (choices_of (line_of t panel)) + room votes } in
+    let many : length all ≡ length t.panels = length-map t.panels places_in in
+    let put = c.push_reserved.ensures.items ∙ ap (λ (b : BagData). bags ++ b ∷ []) c.in_ok-of_panel.ensures in
+    let of_votes = c.push_reserved-in-loop-panel.ensures.items in
     record {
-      places = c.push_reserved-in-loop-panel.ensures.items ∙ ap (λ (l : List ℕ). l ++ c.places-votes.result ∷ []) c.loop-panel.invariant.places ∙ more;
-      bags = c.push_reserved.ensures.items
-          ∙ ap (λ (b : BagData). c.loop-panel.bags.items ++ b ∷ []) c.in_ok-of_panel.ensures
-          ∙ ap (λ (l : List BagData). l ++ empty_bag voters c.places-votes.result ∷ []) c.loop-panel.invariant.bags
-          ∙ sym (map-append (empty_bag voters) (take panel all) (c.places-votes.result ∷ []))
-          ∙ ap (map (empty_bag voters)) more;
+      places = of_votes
+          ∙ ap (λ (l : List ℕ). l ++ votes ∷ []) c.loop-panel.invariant.places
+          ∙ ap (λ (n : ℕ). take panel all ++ n ∷ []) c.places-votes.ensures.places
+          ∙ sym (take_more all panel 0 (omega arith));
+      members = ap bags_in put
+          ∙ map_push (λ b. b.members) bags fresh
+          ∙ ap (λ (m : List (List Choice)). m ++ [] ∷ []) c.loop-panel.invariant.members
+          ∙ replicate_more panel [];
+      rooms = ap rooms_of put
+          ∙ map_push (λ b. b.room) bags fresh
+          ∙ ap (λ (r : List ℕ). r ++ room votes ∷ []) c.loop-panel.invariant.rooms
+          ∙ sym (map_push room places votes)
+          ∙ ap (map room) (sym of_votes);
       bags_room = c.push_reserved.ensures.capacity ∙ c.loop-panel.invariant.bags_room;
       places_room = c.push_reserved-in-loop-panel.ensures.capacity ∙ c.loop-panel.invariant.places_room;
     }
@@ -31,23 +44,24 @@ invariant_of-result c =
     let all : List ℕ = places_of c.args.tables.now in
     let many : length all ≡ length c.args.tables.now.panels = length-map c.args.tables.now.panels places_in in
     let whole : take c.loop-panel.panel all ≡ all = take_all c.loop-panel.panel all (omega (arith, c.panels-panels.ensures.count)) in
-    let bags = ap length (c.loop-panel.invariant.bags ∙ ap (map (empty_bag c.args.voters)) whole) ∙ length-map all (empty_bag c.args.voters) ∙ many in
+    let bags = sym (length-bags_in c.loop-panel.bags.items) ∙ ap length c.loop-panel.invariant.members ∙ length-replicate {A = List Choice} c.loop-panel.panel [] in
     let places = ap length (c.loop-panel.invariant.places ∙ whole) ∙ many in
     record {
       few = c.requires;
-      rooms = ap rooms_of (c.loop-panel.invariant.bags) ∙ all_rooms c.args.voters (take c.loop-panel.panel all) ∙ sym (ap (map (λ n. c.args.voters * n)) c.loop-panel.invariant.places);
-      bags_reserved = omega (arith, c.loop-panel.invariant.bags_room, c.panels-panels.ensures.count);
+      rooms = c.loop-panel.invariant.rooms;
+      bags_reserved = omega (arith, c.loop-panel.invariant.bags_room);
       places_reserved = omega (arith, c.loop-panel.invariant.places_room, c.panels-panels.ensures.count);
     }
 
 pub returns : goal.returns
 returns c =
     let voters : ℕ = c.args.voters in
-    let all : List ℕ = places_of c.args.tables.now in
-    let many : length all ≡ length c.args.tables.now.panels = length-map c.args.tables.now.panels places_in in
+    let t = c.args.tables.now in
+    let all : List ℕ = places_of t in
+    let many : length all ≡ length t.panels = length-map t.panels places_in in
     let whole : take c.loop-panel.panel all ≡ all = take_all c.loop-panel.panel all (omega (arith, c.panels-panels.ensures.count)) in
+    let each : c.loop-panel.panel ≡ length t.panels = omega (arith, c.panels-panels.ensures.count) in
     let of_bags : List (List Choice) → List ℕ → RdvData = λ m p. record { bags = m; voters = voters; places = p } in
-    ap (λ (b : List BagData). data_of b voters c.loop-panel.places.items) (c.loop-panel.invariant.bags ∙ ap (map (empty_bag voters)) whole)
-    ∙ ap (λ (m : List (List Choice)). of_bags m c.loop-panel.places.items) (no_members voters all)
-    ∙ ap (λ (p : List ℕ). of_bags (replicate (length all) []) p) (c.loop-panel.invariant.places ∙ whole)
-    ∙ ap (λ (n : ℕ). of_bags (replicate n []) all) many
+    ap (λ (m : List (List Choice)). of_bags m c.loop-panel.places.items) c.loop-panel.invariant.members
+    ∙ ap (λ (n : ℕ). of_bags (replicate n []) c.loop-panel.places.items) each
+    ∙ ap (λ (p : List ℕ). of_bags (replicate (length t.panels) []) p) (c.loop-panel.invariant.places ∙ whole)

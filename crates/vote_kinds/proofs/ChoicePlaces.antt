@@ -32,8 +32,8 @@ module _ (t : TablesData) (panel : ℕ) where
   abbrev line : BallotLine
   line = line_of t panel
 
-  candidates : length (nominal line.candidates) ≡ length (candidates_at panel t)
-  candidates =
+  pub candidates_many : length (nominal line.candidates) ≡ length (candidates_at panel t)
+  candidates_many =
       length-map line.candidates (λ n. choice.Nominal n) ∙ length-map (panel_at t panel).candidates (λ c. c.number)
       ∙ ap length (sym (candidates_known t panel))
 
@@ -45,7 +45,7 @@ module _ (t : TablesData) (panel : ℕ) where
     arith,
     length-append (nominal line.candidates) (party line.proportional line.parties ++ two),
     length-append (party line.proportional line.parties) two,
-    candidates,
+    candidates_many,
     parties,
   )
 
@@ -53,8 +53,8 @@ module _ (t : TablesData) (panel : ℕ) where
   behind_candidates : (place : ℕ) → length (candidates_at panel t) ≤ place
       → slice_get (choices_of line) place ≡ slice_get (party line.proportional line.parties ++ two) (place - length (candidates_at panel t))
   behind_candidates place le =
-      get_behind (nominal line.candidates) (party line.proportional line.parties ++ two) place (omega (arith, candidates))
-      ∙ ap (λ (n : ℕ). slice_get (party line.proportional line.parties ++ two) (place - n)) candidates
+      get_behind (nominal line.candidates) (party line.proportional line.parties ++ two) place (omega (arith, candidates_many))
+      ∙ ap (λ (n : ℕ). slice_get (party line.proportional line.parties ++ two) (place - n)) candidates_many
 
   -- and behind the parties
   behind_parties : (place : ℕ) → length (candidates_at panel t) + cond line.proportional (length t.parties) 0 ≤ place

@@ -1,6 +1,6 @@
 use Rattle.std.proofs.Common.{ℕ, ◌-◌, ◌∙◌, sym, ap, option_map, slice_get, arith}
-use Rattle.image_codec.proofs.ChoicePlaces.{nominal_there, party_there, blank_there, null_there}
-use Rattle.image_codec.proofs.codec.choices.choice_at.Goals as goal
+use Rattle.vote_kinds.proofs.ChoicePlaces.{nominal_there, party_there, blank_there, null_there}
+use Rattle.vote_kinds.proofs.panel_choices.choice_at.Goals as goal
 
 pub returns-then-place-candidates : goal.returns-then-place-candidates
 returns-then-place-candidates c = nominal_there c.args.tables.now c.args.panel c.args.place c.candidate.result c.candidate.ensures.candidate
