@@ -1,5 +1,5 @@
 -- Candidates in their order: the same candidates, those of more votes first
-use Rattle.std.proofs.Common.{◌≡◌, ℕ, zero, suc, ◌+◌, ◌≤◌, Bool, true, false, cond, ltb, List, [], ◌∷◌, length, drop, sum_by, count_by, inl, inr, refl, ap, ◌∙◌, arith}
+use Rattle.std.proofs.Common.{◌≡◌, ℕ, zero, suc, ◌+◌, ◌≤◌, Bool, true, false, cond, nat_le, ltb, List, [], ◌∷◌, length, drop, sum_by, count_by, inl, inr, refl, ap, ◌∙◌, arith}
 use Rattle.std.specs.List.{AllByRecursion, list_any}
 use Rattle.std.specs.List.Sorted.{IsPermutation}
 use Rattle.std.proofs.lemmas.Bool.{cases_Bool}
@@ -40,7 +40,7 @@ in_order-length xs = length_permutation xs (in_order xs) (in_order-permutation x
 pub first_self : (a : Entry) → stands_first a a ≡ true
 first_self a = grind (arith, nat_tests)
 
-first_total : (a b : Entry) → stands_first a b ≡ false → stands_first b a ≡ true
+pub first_total : (a b : Entry) → stands_first a b ≡ false → stands_first b a ≡ true
 first_total a b h = grind (arith, nat_tests)
 
 pub first_trans : (a b c : Entry) → stands_first a b ≡ true → stands_first b c ≡ true → stands_first a c ≡ true
@@ -83,6 +83,11 @@ GoesUp f = (a b : Entry) → stands_first a b ≡ true → f b ≡ true → f a 
 
 count_cons : (f : Entry → Bool) (c : Entry) (xs : List Entry) (b : Bool) → f c ≡ b → count_by f (c ∷ xs) ≡ cond b 1 0 + count_by f xs
 count_cons f c xs b is = sum_by-cons (λ e. cond (f e) 1 0) c xs ∙ ap (λ (b : Bool). cond b 1 0 + count_by f xs) is
+
+-- everybody has no vote or more
+pub all_have_none : (xs : List Entry) → count_by (λ c. nat_le 0 c.votes) xs ≡ length xs
+all_have_none [] = refl
+all_have_none (c ∷ xs) = let one = count_cons (λ e. nat_le 0 e.votes) c xs true (grind (arith, nat_tests)) in let others = all_have_none xs in omega arith
 
 none_pass : (f : Entry → Bool) → GoesUp f → (c : Entry) (xs : List Entry) → f c ≡ false → AllByRecursion (λ d. stands_first c d ≡ true) xs → count_by f xs ≡ 0
 none_pass f up c [] fails all = refl

@@ -1,18 +1,20 @@
 -- A sorted vector has the order of candidates.
-use Rattle.std.proofs.Common.{◌≡◌, ℕ, suc, ◌+◌, ◌≤◌, ◌<◌, Bool, true, false, cond, ◌&&◌, ◌==◌, List, [], ◌∷◌, ◌++◌, length, take, get_or, count_by, inl, inr, sym, refl, ap, ◌∙◌, subst, arith}
+use Rattle.std.proofs.Common.{◌≡◌, ℕ, suc, ◌+◌, ◌≤◌, ◌<◌, Bool, true, false, not, cond, nat_le, ◌&&◌, ◌==◌, List, [], ◌∷◌, ◌++◌, length, take, get_or, count_by, filter, inl, inr, sym, refl, ap, ◌∙◌, subst, arith}
 use Rattle.std.specs.List.{AllByRecursion}
 use Rattle.std.specs.List.Sorted.{IsPermutation, IsSorted, IsSplitAround}
 use Rattle.std.specs.Ordering.{nat_cmp, on, flip_args, then_cmp, is_lt}
 use Rattle.std.specs.declared.cmp.Ordering.{Ordering}
 use Rattle.std.proofs.lemmas.Bool.{cases_Bool}
 use Rattle.std.proofs.lemmas.Bool.Decides.{nat_tests}
-use Rattle.std.proofs.lemmas.List.Elements.{recursion_from_All}
+use Rattle.std.proofs.lemmas.List.{take-append-le}
+use Rattle.std.proofs.lemmas.List.Elements.{filter_passes, recursion_from_All}
+use Rattle.std.proofs.lemmas.List.Filters.{sum_by-filter_both}
 use Rattle.std.proofs.lemmas.List.Sums.{sum_by-cons, sum_by-append}
 use Rattle.std.proofs.lemmas.List.Sorted.{length_permutation, sum_by-IsPermutation}
 use Rattle.std.proofs.Math.Seq.{take-append_seam}
 use Rattle.seat_remainders.specs.declared.contest.Entry.{Entry}
 use Rattle.seat_remainders.specs.Candidates.{stands_first, in_order, AreInOrder}
-use Rattle.seat_remainders.proofs.Ordered.{first_self, all_behind, all_moved, are_in_order, in_order-permutation, in_order-sum}
+use Rattle.seat_remainders.proofs.Ordered.{GoesUp, first_self, first_total, all_behind, all_moved, are_in_order, in_order-length, in_order-permutation, in_order-sum}
 
 same_entry : (a b : Entry) → a.number ≡ b.number → a.birth ≡ b.birth → a.votes ≡ b.votes → a ≡ b
 same_entry a b e f g =
@@ -141,3 +143,48 @@ front_is xs front back sorted x moved (before, after) same up =
     omega arith) in
     let len = length_permutation front sorted same in
     sym (take-append_seam sorted behind) ∙ ap (λ (n : ℕ). take n (sorted ++ behind)) len ∙ ap (λ (l : List Entry). take (length front) l) whole
+
+-- Those who pass a test alone, where whoever stands before one who passes does too
+
+not_passes : (b : Bool) → not b ≡ true → b ≡ false
+not_passes true h = sym h
+not_passes false h = refl
+
+-- who passes stands before who fails
+passes_first : (f : Entry → Bool) → GoesUp f → (a b : Entry) → f a ≡ true → not (f b) ≡ true → stands_first a b ≡ true
+passes_first f up a b passes fails = elim (cases_Bool (stands_first a b)) [
+  | inl t ↦ t
+  | inr h ↦ let e = up b a (first_total a b h) passes in let g = not_passes (f b) fails in absurd (cc)
+]
+
+before_all : (f : Entry → Bool) → GoesUp f → (a : Entry) (ys : List Entry) → f a ≡ true → AllByRecursion (λ b. not (f b) ≡ true) ys → AllByRecursion (λ b. stands_first a b ≡ true) ys
+before_all f up a [] passes fail = tt
+before_all f up a (b ∷ ys) passes fail = (passes_first f up a b passes fail.0, before_all f up a ys passes fail.1)
+
+each_passes_first : (f : Entry → Bool) → GoesUp f → (xs ys : List Entry) → AllByRecursion (λ a. f a ≡ true) xs → AllByRecursion (λ b. not (f b) ≡ true) ys → AllByRecursion (λ a. AllByRecursion (λ b. stands_first a b ≡ true) ys) xs
+each_passes_first f up [] ys pass fail = tt
+each_passes_first f up (a ∷ xs) ys pass fail = (before_all f up a ys pass.0 fail, each_passes_first f up xs ys pass.1 fail)
+
+-- the first of all are the first of those who pass, where so many do
+pub front_passes : (f : Entry → Bool) → GoesUp f → (n : ℕ) (xs : List Entry) → n ≤ length (filter f xs) → take n (in_order (filter f xs)) ≡ take n (in_order xs)
+front_passes f up n xs enough =
+    let fails : Entry → Bool = λ e. not (f e) in
+    let able = in_order (filter f xs) in
+    let others = in_order (filter fails xs) in
+    let pass = all_moved (λ e. f e ≡ true) (filter f xs) able (in_order-permutation (filter f xs)) (recursion_from_All (λ e. f e ≡ true) (filter f xs) (filter_passes f xs)) in
+    let fail = all_moved (λ e. not (f e) ≡ true) (filter fails xs) others (in_order-permutation (filter fails xs)) (recursion_from_All (λ e. not (f e) ≡ true) (filter fails xs) (filter_passes fails xs)) in
+    let ordered : AreInOrder (able ++ others) = order-append able others (are_in_order (filter f xs)) (are_in_order (filter fails xs)) (each_passes_first f up able others pass fail) in
+    let whole : able ++ others ≡ in_order xs = same_order (able ++ others) (in_order xs) ordered (are_in_order xs) (λ c.
+    let test : Entry → ℕ = λ e. cond (is_same c e) 1 0 in
+    let one = sum_by-append test able others in
+    let two = count_ordered c (filter f xs) in
+    let three = count_ordered c (filter fails xs) in
+    let four = sum_by-filter_both f fails (λ e. refl) test xs in
+    let five = count_ordered c xs in
+    omega arith) in
+    let len = in_order-length (filter f xs) in
+    sym (take-append-le n able others (omega arith)) ∙ ap (λ (l : List Entry). take n l) whole
+
+-- so many votes
+pub votes_go_up : (least : ℕ) → GoesUp (λ c. nat_le least c.votes)
+votes_go_up least a b h g = grind (arith, nat_tests)

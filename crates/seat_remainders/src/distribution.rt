@@ -10,7 +10,7 @@ use crate::awards::award_seats;
 use crate::contest::Contest;
 use crate::elected::push_elected;
 use crate::outcome::{Averages, Awards, Numbers, Outcome, PartySeatList, PartySeats, Seats};
-use crate::standing::{Standing, first_phase, seats_after, standings_of};
+use crate::standing::{Standing, first_phase, least_votes, seats_after, standings_of};
 use crate::table::table_of;
 use crate::votes::valid_votes;
 use quotients::{party_quotient, quotient};
@@ -77,7 +77,9 @@ fn seats_of(
             quotient: party_quotient(standing.votes, qe),
             seats,
         })?;
-        push_elected(alloc, &mut elected, party.candidates.as_slice(), seats)?;
+        let least = least_votes(standing, seats, qe);
+        let candidates = party.candidates.as_slice();
+        push_elected(alloc, &mut elected, candidates, seats, least)?;
     }
     let vacant = left - awards.len();
     Ok(Seats {

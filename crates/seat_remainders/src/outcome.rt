@@ -1,7 +1,7 @@
 //! What comes of a contest, and of a majority office. Contracts see each list as its list.
-ghost use Rattle.std.specs.Prelude.{◌≡◌, ◌+◌, ◌<◌, ◌^◌, [], ◌∷◌, ◌++◌, length, map, IfOk, OnErr, OnOk, Some, slice_get};
-ghost use Rattle.std.specs.List.Sorted.{IsPermutation};
-ghost use Rattle.quotients.specs.Order.{parts_of};
+ghost use Rattle.std.specs.Prelude.{◌≡◌, ◌+◌, ◌≤◌, ◌<◌, ◌^◌, [], ◌∷◌, ◌++◌, length, map, IfOk, OnErr, OnOk, Some, slice_get};
+ghost use Rattle.std.specs.List.Sorted.{IsPermutation, IsSorted};
+ghost use Rattle.quotients.specs.Order.{average_cmp, parts_of};
 ghost use Rattle.seat_remainders.specs.Sorted.{NeverDescend};
 
 use quotients::Average;
@@ -132,15 +132,34 @@ impl Averages {
         &self.items[i as usize]
     }
 
-    /// All of them, sorted. `Memory` comes only where an allocation failed.
-    pub(crate) fn sorted(mut items: Vec<Average>) -> Result<Averages, Memory>
-        requires { length items.items < 2 ^ 32 }
+    /// All of them, sorted, where they are those of so many parties, party by party. `Memory` comes only where an allocation failed.
+    pub(crate) fn sorted(mut items: Vec<Average>, parties: usize) -> Result<Averages, Memory>
+        requires few { length items.items < 2 ^ 32 }
+        requires parties { parties ≤ 256 }
         ensures sorted { IfOk result (λ averages. NeverDescend averages) }
         ensures same { IfOk result (λ averages. IsPermutation (map parts_of items.items) averages) }
     {
-        items.sort()?;
+        sort_averages(&mut items, parties)?;
         Ok(Averages { items })
     }
+}
+
+/// From how many averages of each party on the order in which they come is worth finding.
+const LONG_STRETCH: usize = 64;
+
+/// Sorts the averages of so many parties, party by party. Those of one party come in order. The stable sort takes such a stretch as it is
+/// where it is long; where they are short it gains nothing by them, and the unstable sort takes less time.
+fn sort_averages(items: &mut Vec<Average>, parties: usize) -> Result<(), Memory>
+    requires { parties ≤ 256 }
+    ensures same { IsPermutation items.old.items items.new.items }
+    ensures sorted { OnOk result (IsSorted average_cmp items.new.items) }
+{
+    if items.len() < parties * LONG_STRETCH {
+        items.sort_unstable();
+    } else {
+        items.sort()?;
+    }
+    Ok(())
 }
 
 /// What a party has: its number, its valid votes, its quotient (art. 107) and its seats.

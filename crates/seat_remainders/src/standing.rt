@@ -1,22 +1,24 @@
 //! What the law counts of each party, counted once.
-ghost use Rattle.std.specs.Prelude.{◌≡◌, ◌+◌, ◌≤◌, ◌<◌, ◌^◌, ◌==◌, count_by, length, sum_by, IfOk};
+ghost use Rattle.std.specs.Prelude.{◌≡◌, ℕ, ◌+◌, ◌≤◌, ◌<◌, ◌^◌, ◌==◌, nat_le, count_by, length, sum_by, IfOk};
 ghost use Rattle.quotients.specs.Quotients.{has_fifth, has_tenth};
+ghost use Rattle.seat_remainders.specs.declared.contest.Contestant.{Contestant};
 ghost use Rattle.seat_remainders.specs.Contest.{PartiesRise};
 ghost use Rattle.seat_remainders.specs.Parties.{first_phase, nominal_votes, valid_votes, votes_of};
 ghost use Rattle.seat_remainders.specs.Standing.{most_by, standing_of, standings_of};
 
 use crate::contest::{Contest, Contestant, Entry};
 use crate::outcome::Award;
-use quotients::{fifth, four_fifths, party_quotient, tenth};
+use quotients::{four_fifths, party_quotient};
 use std::alloc::Global;
 use urna_base::Memory;
 
-/// A party: its number, its valid votes, its seats of the first phase (arts. 107 and 108), and how many seats it can have at most by
-/// phase 2 and by phase 3 (art. 109).
+/// A party: its number, its valid votes, how many of its candidates have 10% of the quotient, its seats of the first phase (arts. 107 and
+/// 108), and how many seats it can have at most by phase 2 and by phase 3 (art. 109).
 #[derive(Clone, Copy, Debug, PartialEq, Eq)]
 pub(crate) struct Standing {
     pub(crate) party: u8,
     pub(crate) votes: u64,
+    pub(crate) able: u32,
     pub(crate) first: u32,
     pub(crate) most_in_two: u32,
     pub(crate) most_in_three: u32,
@@ -53,22 +55,37 @@ struct Counts {
     fifths: u32,
 }
 
+/// The fewest votes that are 10% of the quotient. All candidates are compared with it, so no product is made for each.
+fn least_tenth(qe: u64) -> u64
+    ensures { (n : ℕ) → nat_le result n ≡ has_tenth n qe }
+{
+    qe.div_ceil(10)
+}
+
+/// The fewest votes that are 20% of the quotient.
+fn least_fifth(qe: u64) -> u64
+    ensures { (n : ℕ) → nat_le result n ≡ has_fifth n qe }
+{
+    qe.div_ceil(5)
+}
+
 /// The counts of some candidates, all in one pass.
 fn counts_of(candidates: &[Entry], qe: u64) -> Counts
     requires votes { nominal_votes candidates.now ≤ 10 ^ 12 }
     requires few { length candidates.now < 2 ^ 32 }
-    requires quotient { qe ≤ 10 ^ 12 }
     ensures votes { result.votes ≡ nominal_votes candidates.now }
     ensures tenths { result.tenths ≡ count_by (λ c. has_tenth c.votes qe) candidates.now }
     ensures fifths { result.fifths ≡ count_by (λ c. has_fifth c.votes qe) candidates.now }
 {
+    let tenth = least_tenth(qe);
+    let fifth = least_fifth(qe);
     let mut votes = 0u64;
     let mut tenths = 0u32;
     let mut fifths = 0u32;
     for entry in candidates {
         votes += entry.votes;
-        tenths += u32::from(tenth(entry.votes, qe));
-        fifths += u32::from(fifth(entry.votes, qe));
+        tenths += u32::from(entry.votes >= tenth);
+        fifths += u32::from(entry.votes >= fifth);
     }
     Counts {
         votes,
@@ -92,6 +109,7 @@ fn standing_of(party: &Contestant, qe: u64) -> Standing
     Standing {
         party: number,
         votes,
+        able: counts.tenths,
         first: if quotient < u64::from(counts.tenths) {
             quotient as u32
         } else {
@@ -133,6 +151,17 @@ pub(crate) fn seats_after(standing: &Standing, awards: &[Award]) -> u32
         }
     }
     seats
+}
+
+/// How many votes at least each of so many of a party's first candidates has: 10% of the quotient where so many have it, and else 0.
+pub(crate) fn least_votes(standing: &Standing, seats: u32, qe: u64) -> u64
+    ensures { (p : Contestant) → standing.now ≡ standing_of qe p → seats ≤ length p.candidates → seats ≤ count_by (λ c. nat_le result c.votes) p.candidates }
+{
+    if seats <= standing.able {
+        least_tenth(qe)
+    } else {
+        0
+    }
 }
 
 /// How many seats a party can have at most by this phase, which is 2 or 3.

@@ -46,7 +46,7 @@ pub(crate) fn table_of(
     ensures { IfOk result (λ averages. IsTableOf standings.now phase awards.now left averages) }
 {
     let entries = entries_of(alloc, standings, phase, awards, left)?;
-    let averages = Averages::sorted(entries)?;
+    let averages = Averages::sorted(entries, standings.len())?;
     Ok(averages)
 }
 

@@ -1,4 +1,4 @@
-use Rattle.std.proofs.Common.{◌≡◌, ◌+◌, ◌/◌, ◌==◌, ℕ, List, [], ◌∷◌, ◌++◌, length, map, take, count_by, sym, ap, ◌∙◌, arith}
+use Rattle.std.proofs.Common.{◌≡◌, ◌+◌, ◌/◌, ◌==◌, ◌≤◌, nat_le, ℕ, List, [], ◌∷◌, ◌++◌, length, map, take, count_by, sym, ap, ◌∙◌, subst, arith}
 use Rattle.seat_remainders.specs.declared.contest.Entry.{Entry}
 use Rattle.seat_remainders.specs.declared.contest.Contestant.{Contestant}
 use Rattle.seat_remainders.specs.declared.outcome.Award.{Award}
@@ -21,8 +21,8 @@ push_elected-requires-clause-seats c =
     let stands = standing_here c.args.qe c.loop-i.i c.args.contest.now.parties c.as_slice-party-items.result.now c.args.standings.now _ c.party-item.result c.requires.counted c.as_slice-party-items.ensures.items c.loop-i-test.true c.party-item.is in
     let seats = counted c.args.qe c.seats_after-seats.result _ c.party-item.result c.as_slice.result.now c.args.awards c.seats_after-seats.ensures stands c.as_slice.ensures.items in
     let few = candidates_at _ _ _ _ _ _ _ _ c.requires.rounds c.requires.rising c.as_slice-party-items.ensures.items c.loop-i-test.true c.party-item.is in
-    let told = ap (λ (l : List Entry). length l) c.as_slice-in-loop-i.ensures.items in
-    omega arith
+    let enough = c.least_votes-least.ensures c.party-item.result stands (omega (arith, seats, few)) in
+    subst (λ (l : List Entry). c.seats_after-seats.result ≤ count_by (λ e. nat_le c.least_votes-least.result e.votes) l) (sym c.as_slice-candidates.ensures.items) enough
 
 pub push_elected-requires-clause-room : goal.push_elected-requires-clause-room
 push_elected-requires-clause-room c =
@@ -49,9 +49,9 @@ loop-i-preserved c =
     let seats = counted qe c.seats_after-seats.result _ p c.as_slice.result.now awards c.seats_after-seats.ensures stands c.as_slice.ensures.items in
     let votes = ap (λ (s : Standing). s.votes) stands in
     let one = same_party _ _ c.party_quotient.result c.seats_after-seats.result (party_seats qe awards p) (ap (λ (s : Standing). s.party) stands) votes (c.party_quotient.ensures ∙ ap (λ (v : ℕ). v / qe) votes) seats in
-    let this : map (λ e. e.number) (take c.seats_after-seats.result (in_order c.as_slice-in-loop-i.result.now)) ≡ elected_of qe awards p =
-    ap (λ (n : ℕ). map (λ (e : Entry). e.number) (take n (in_order c.as_slice-in-loop-i.result.now))) seats
-    ∙ ap (λ (l : List Entry). map (λ (e : Entry). e.number) (take (seats_after qe awards p) (in_order l))) c.as_slice-in-loop-i.ensures.items in
+    let this : map (λ e. e.number) (take c.seats_after-seats.result (in_order c.as_slice-candidates.result.now)) ≡ elected_of qe awards p =
+    ap (λ (n : ℕ). map (λ (e : Entry). e.number) (take n (in_order c.as_slice-candidates.result.now))) seats
+    ∙ ap (λ (l : List Entry). map (λ (e : Entry). e.number) (take (seats_after qe awards p) (in_order l))) c.as_slice-candidates.ensures.items in
     record {
       parties = c.in_ok-push.ensures.pushed
           ∙ ap (λ (t : PartySeats). c.loop-i.parties ++ t ∷ []) one
