@@ -68,6 +68,7 @@ fn seats_of(
 {
     let mut parties = PartySeatList::new(alloc);
     let mut elected = Numbers::new(alloc);
+    let mut room = Vec::new(alloc);
     for (i, party) in contest.parties.as_slice().iter().enumerate() {
         let standing = &standings[i];
         let seats = seats_after(standing, awards.as_slice());
@@ -79,7 +80,7 @@ fn seats_of(
         })?;
         let least = least_votes(standing, seats, qe);
         let candidates = party.candidates.as_slice();
-        push_elected(alloc, &mut elected, candidates, seats, least)?;
+        push_elected(&mut elected, &mut room, candidates, seats, least)?;
     }
     let vacant = left - awards.len();
     Ok(Seats {

@@ -4,14 +4,13 @@ ghost use Rattle.seat_remainders.specs.Candidates.{in_order};
 
 use crate::contest::Entry;
 use crate::outcome::Numbers;
-use std::alloc::Global;
 use urna_base::Memory;
 
 /// The elected of a party, behind those of others: the first of its candidates, as many as it has seats, of whom each has at least so many
-/// votes.
+/// votes. Its candidates are looked at in `room`, which serves one party after the other.
 pub(crate) fn push_elected(
-    alloc: Global,
     elected: &mut Numbers,
+    room: &mut Vec<Entry>,
     candidates: &[Entry],
     seats: u32,
     least: u64,
@@ -23,20 +22,22 @@ pub(crate) fn push_elected(
     if seats == 0 {
         return Ok(());
     }
-    let mut able = able_among(alloc, candidates, least)?;
-    for entry in first_of(&mut able, seats as usize) {
+    put_able(room, candidates, least)?;
+    for entry in first_of(room, seats as usize) {
         elected.push(entry.number)?;
     }
     Ok(())
 }
 
-/// The candidates with at least so many votes. Most have fewer, and to drop them takes less than to sort them.
-fn able_among(alloc: Global, candidates: &[Entry], least: u64) -> Result<Vec<Entry>, Memory>
-    ensures { IfOk result (λ v. v.items ≡ filter (λ c. nat_le least c.votes) candidates.now) }
+/// The candidates with at least so many votes, in the place of what was there. Most have fewer, and to drop them takes less than to sort
+/// them.
+fn put_able(room: &mut Vec<Entry>, candidates: &[Entry], least: u64) -> Result<(), Memory>
+    ensures { OnOk result (room.new.items ≡ filter (λ c. nat_le least c.votes) candidates.now) }
 {
-    let mut able = Vec::from_slice(alloc, candidates)?;
-    able.retain(|entry| entry.votes >= least);
-    Ok(able)
+    room.clear();
+    room.extend_from_slice(candidates)?;
+    room.retain(|entry| entry.votes >= least);
+    Ok(())
 }
 
 /// So many candidates, the first of these in their order. Only they are sorted.
