@@ -4,7 +4,7 @@ use Rattle.std.specs.List.{AllByRecursion}
 use Rattle.std.specs.List.Sorted.{IsPermutation, IsSorted, IsSplitAround}
 use Rattle.std.specs.Ordering.{nat_cmp, on, flip_args, then_cmp, is_lt}
 use Rattle.std.specs.declared.cmp.Ordering.{Ordering}
-use Rattle.std.proofs.lemmas.Bool.{cases_Bool}
+use Rattle.std.proofs.lemmas.Bool.{cases_Bool, not-true}
 use Rattle.std.proofs.lemmas.Bool.Decides.{nat_tests}
 use Rattle.std.proofs.lemmas.List.{take-append-le}
 use Rattle.std.proofs.lemmas.List.Elements.{filter_passes, recursion_from_All}
@@ -146,15 +146,11 @@ front_is xs front back sorted x moved (before, after) same up =
 
 -- Those who pass a test alone, where whoever stands before one who passes does too
 
-not_passes : (b : Bool) → not b ≡ true → b ≡ false
-not_passes true h = sym h
-not_passes false h = refl
-
 -- who passes stands before who fails
 passes_first : (f : Entry → Bool) → GoesUp f → (a b : Entry) → f a ≡ true → not (f b) ≡ true → stands_first a b ≡ true
 passes_first f up a b passes fails = elim (cases_Bool (stands_first a b)) [
   | inl t ↦ t
-  | inr h ↦ let e = up b a (first_total a b h) passes in let g = not_passes (f b) fails in absurd (cc)
+  | inr h ↦ let e = up b a (first_total a b h) passes in let g = not-true (f b) fails in absurd (cc)
 ]
 
 before_all : (f : Entry → Bool) → GoesUp f → (a : Entry) (ys : List Entry) → f a ≡ true → AllByRecursion (λ b. not (f b) ≡ true) ys → AllByRecursion (λ b. stands_first a b ≡ true) ys
