@@ -12,7 +12,7 @@ use Rattle.vote_record.specs.Bag.{count_of}
 use Rattle.vote_record.specs.Counters.{counts_of}
 use Rattle.turnout.specs.Turnout.{number_came}
 use Rattle.image_codec.specs.State.{State}
-use Rattle.image_codec.specs.Encoding.{counts_text, eight_places, turnout_bytes, opening_in, closing_in, head_bytes}
+use Rattle.image_codec.specs.Encoding.{counts_bytes, eight_places, turnout_bytes, opening_in, closing_in, head_bytes}
 
 -- one member more of those that are written so
 pub written_more : {X : Type 0} (f : X → List ℕ) (before : List ℕ) (xs : List X) (i : ℕ) (d : X) → i < length xs
@@ -64,18 +64,18 @@ get_taken (x ∷ xs) (suc n) zero lt = refl
 get_taken (x ∷ xs) (suc n) (suc i) lt = get_taken xs n i (omega arith)
 
 -- those of some choices stand before those of the ones behind them
-pub counts_append : (front back bag : List Choice) → counts_text (front ++ back) bag ≡ counts_text front bag ++ counts_text back bag
+pub counts_append : (front back bag : List Choice) → counts_bytes (front ++ back) bag ≡ counts_bytes front bag ++ counts_bytes back bag
 counts_append front back bag =
     ap (flat_map (to_be_bytes w32)) (map-append (λ d. count_of d bag) front back)
     ∙ flat_map-append (to_be_bytes w32) (counts_of front bag) (counts_of back bag)
 
 -- those of a panel stand one after the other
 pub counts_in_turn : (nominal party bag : List Choice) (start : List ℕ)
-    → (((start ++ counts_text nominal bag) ++ counts_text party bag) ++ to_be_bytes w32 (count_of choice.Blank bag)) ++ to_be_bytes w32 (count_of choice.Null bag)
-    ≡ start ++ counts_text (nominal ++ (party ++ choice.Blank ∷ choice.Null ∷ [])) bag
+    → (((start ++ counts_bytes nominal bag) ++ counts_bytes party bag) ++ to_be_bytes w32 (count_of choice.Blank bag)) ++ to_be_bytes w32 (count_of choice.Null bag)
+    ≡ start ++ counts_bytes (nominal ++ (party ++ choice.Blank ∷ choice.Null ∷ [])) bag
 counts_in_turn nominal party bag start =
-    let first : List ℕ = counts_text nominal bag in
-    let second : List ℕ = counts_text party bag in
+    let first : List ℕ = counts_bytes nominal bag in
+    let second : List ℕ = counts_bytes party bag in
     let blank : List ℕ = to_be_bytes w32 (count_of choice.Blank bag) in
     let null : List ℕ = to_be_bytes w32 (count_of choice.Null bag) in
     append_assoc ((start ++ first) ++ second) blank null

@@ -82,12 +82,12 @@ encode1 s = written1 s ++ replicate (body_size - length (written1 s)) 0
 -- The second version
 
 -- counters in four bytes each: how many votes of a bag are each of these choices
-abbrev pub counts_text : List Choice → List Choice → List ℕ
-counts_text choices bag = flat_map (to_be_bytes w32) (counts_of choices bag)
+abbrev pub counts_bytes : List Choice → List Choice → List ℕ
+counts_bytes choices bag = flat_map (to_be_bytes w32) (counts_of choices bag)
 
 -- the counters of a panel, in the order of choices
 abbrev pub counter_bytes : BallotLine × List Choice → List ℕ
-counter_bytes (line, bag) = counts_text (choices_of line) bag
+counter_bytes (line, bag) = counts_bytes (choices_of line) bag
 
 -- all that is written of a state: the head, zeros up to where the counters begin, and the counters of each panel
 unfoldable pub written : TablesData → State → List ℕ

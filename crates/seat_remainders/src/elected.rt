@@ -22,7 +22,7 @@ pub(crate) fn push_elected(
     if seats == 0 {
         return Ok(());
     }
-    put_able(room, candidates, least)?;
+    put_those_with(room, candidates, least)?;
     for entry in first_of(room, seats as usize) {
         elected.push(entry.number)?;
     }
@@ -31,7 +31,7 @@ pub(crate) fn push_elected(
 
 /// The candidates with at least so many votes, in the place of what was there. Most have fewer, and to drop them takes less than to sort
 /// them.
-fn put_able(room: &mut Vec<Entry>, candidates: &[Entry], least: u64) -> Result<(), Memory>
+fn put_those_with(room: &mut Vec<Entry>, candidates: &[Entry], least: u64) -> Result<(), Memory>
     ensures { OnOk result (room.new.items ≡ filter (λ c. nat_le least c.votes) candidates.now) }
 {
     room.clear();

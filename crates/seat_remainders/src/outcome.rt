@@ -132,10 +132,10 @@ impl Averages {
         &self.items[i as usize]
     }
 
-    /// All of them, sorted, where they are those of so many parties, party by party. `Memory` comes only where an allocation failed.
+    /// All of them, sorted. How many parties they are of decides which sort is used, and no answer rests on it. `Memory` comes only where
+    /// an allocation failed.
     pub(crate) fn sorted(mut items: Vec<Average>, parties: usize) -> Result<Averages, Memory>
-        requires few { length items.items < 2 ^ 32 }
-        requires parties { parties ≤ 256 }
+        requires { length items.items < 2 ^ 32 }
         ensures sorted { IfOk result (λ averages. NeverDescend averages) }
         ensures same { IfOk result (λ averages. IsPermutation (map parts_of items.items) averages) }
     {
@@ -144,17 +144,16 @@ impl Averages {
     }
 }
 
-/// From how many averages of each party on the order in which they come is worth finding.
-const LONG_STRETCH: usize = 64;
+/// From so many averages a party on the stable sort is the quicker one.
+const MANY_AVERAGES: usize = 64;
 
-/// Sorts the averages of so many parties, party by party. Those of one party come in order. The stable sort takes such a stretch as it is
-/// where it is long; where they are short it gains nothing by them, and the unstable sort takes less time.
+/// Sorts averages that stand party by party. Those of a party come in order, and the stable sort takes such a stretch as it is where it is
+/// long; where they are short the unstable sort takes less time.
 fn sort_averages(items: &mut Vec<Average>, parties: usize) -> Result<(), Memory>
-    requires { parties ≤ 256 }
     ensures same { IsPermutation items.old.items items.new.items }
     ensures sorted { OnOk result (IsSorted average_cmp items.new.items) }
 {
-    if items.len() < parties * LONG_STRETCH {
+    if items.len() / MANY_AVERAGES < parties {
         items.sort_unstable();
     } else {
         items.sort()?;

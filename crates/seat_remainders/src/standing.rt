@@ -8,11 +8,11 @@ ghost use Rattle.seat_remainders.specs.Standing.{most_by, standing_of, standings
 
 use crate::contest::{Contest, Contestant, Entry};
 use crate::outcome::Award;
-use quotients::{four_fifths, party_quotient};
+use quotients::{four_fifths, least_fifth, least_tenth, party_quotient};
 use std::alloc::Global;
 use urna_base::Memory;
 
-/// A party: its number, its valid votes, how many of its candidates have 10% of the quotient, its seats of the first phase (arts. 107 and
+/// A party: its number, its valid votes, how many of its candidates have at least 10% of the quotient, its seats of the first phase (arts. 107 and
 /// 108), and how many seats it can have at most by phase 2 and by phase 3 (art. 109).
 #[derive(Clone, Copy, Debug, PartialEq, Eq)]
 pub(crate) struct Standing {
@@ -53,20 +53,6 @@ struct Counts {
     votes: u64,
     tenths: u32,
     fifths: u32,
-}
-
-/// The fewest votes that are 10% of the quotient. All candidates are compared with it, so no product is made for each.
-fn least_tenth(qe: u64) -> u64
-    ensures { (n : ℕ) → nat_le result n ≡ has_tenth n qe }
-{
-    qe.div_ceil(10)
-}
-
-/// The fewest votes that are 20% of the quotient.
-fn least_fifth(qe: u64) -> u64
-    ensures { (n : ℕ) → nat_le result n ≡ has_fifth n qe }
-{
-    qe.div_ceil(5)
 }
 
 /// The counts of some candidates, all in one pass.
@@ -153,7 +139,7 @@ pub(crate) fn seats_after(standing: &Standing, awards: &[Award]) -> u32
     seats
 }
 
-/// How many votes at least each of so many of a party's first candidates has: 10% of the quotient where so many have it, and else 0.
+/// How many votes at least each of so many of a party's first candidates has: the fewest that are 10% of the quotient where so many have it, and else 0.
 pub(crate) fn least_votes(standing: &Standing, seats: u32, qe: u64) -> u64
     ensures { (p : Contestant) → standing.now ≡ standing_of qe p → seats ≤ length p.candidates → seats ≤ count_by (λ c. nat_le result c.votes) p.candidates }
 {

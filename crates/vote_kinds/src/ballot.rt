@@ -108,7 +108,7 @@ fn office_of(tables: &Tables, panel: u32) -> Office
     tables.office(panel)
 }
 
-fn is_proportional(kind: Kind) -> bool
+pub(crate) fn is_proportional(kind: Kind) -> bool
     ensures { result ≡ is_proportional kind }
 {
     match kind {

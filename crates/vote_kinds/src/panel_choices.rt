@@ -4,8 +4,9 @@ ghost use Rattle.election_tables.specs.Limits.{most_candidates, most_parties};
 ghost use Rattle.election_tables.specs.TablesData.{IsTables};
 ghost use Rattle.vote_kinds.specs.Ballot.{line_of, choices_of};
 
+use crate::ballot::is_proportional;
 use crate::choice::Choice;
-use election_tables::{Kind, Tables};
+use election_tables::Tables;
 
 /// Blank and null, which may be chosen in every panel.
 const BLANK_AND_NULL: u32 = 2;
@@ -17,7 +18,7 @@ pub fn choice_count(tables: &Tables, panel: u32) -> u32
     ensures few { result ≤ most_candidates + most_parties + 2 }
     ensures tables { IsTables tables.now }
 {
-    tables.candidate_count(panel) + party_count(tables, panel) + BLANK_AND_NULL
+    tables.candidate_count(panel) + chosen_parties(tables, panel) + BLANK_AND_NULL
 }
 
 /// The choice that stands in a place among those of a panel. The caller owes that the panel has so many.
@@ -27,7 +28,7 @@ pub fn choice_at(tables: &Tables, panel: u32, place: u32) -> Choice
     ensures { slice_get (choices_of (line_of tables.now panel)) place ≡ Some result }
 {
     let candidates = tables.candidate_count(panel);
-    let parties = party_count(tables, panel);
+    let parties = chosen_parties(tables, panel);
     if place < candidates {
         Choice::Nominal(tables.candidate(panel, place).number)
     } else if place < candidates + parties {
@@ -40,16 +41,16 @@ pub fn choice_at(tables: &Tables, panel: u32, place: u32) -> Choice
 }
 
 /// How many parties may be chosen in a panel: all of them where its office is decided in proportion.
-pub fn party_count(tables: &Tables, panel: u32) -> u32
+pub fn chosen_parties(tables: &Tables, panel: u32) -> u32
     requires { panel < length tables.now.panels }
     ensures count { result ≡ (if (line_of tables.now panel).proportional then length tables.now.parties else 0) }
     ensures few { result ≤ most_parties }
     ensures tables { IsTables tables.now }
 {
     let parties = tables.party_count();
-    match tables.office(panel).kind {
-        Kind::Proportional => parties,
-        Kind::Absolute => 0,
-        Kind::Simple => 0,
+    if is_proportional(tables.office(panel).kind) {
+        parties
+    } else {
+        0
     }
 }

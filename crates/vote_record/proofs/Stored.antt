@@ -1,6 +1,8 @@
 -- The bags of a record as they are stored
 use Rattle.std.proofs.Common.{◌≡◌, ℕ, zero, suc, ◌*◌, ◌<◌, List, [], ◌∷◌, length, get_or, map, slice_set, slice_index, refl, sym, ap, subst, ◌∙◌, arith}
+use Rattle.std.specs.List.{sum_by}
 use Rattle.std.proofs.lemmas.List.{map-set}
+use Rattle.std.proofs.lemmas.List.Sums.{sum_by-set}
 use Rattle.vote_kinds.specs.declared.choice.Choice.{Choice}
 use Rattle.vote_record.specs.Bag.{with_choice, bag_at, with_vote}
 use Rattle.vote_record.specs.BagData.{BagData}
@@ -49,6 +51,14 @@ pub with_vote-set : (panel : ℕ) (c : Choice) (bags : List (List Choice)) → s
 with_vote-set panel c [] = refl
 with_vote-set zero c (bag ∷ bags) = refl
 with_vote-set (suc panel) c (bag ∷ bags) = ap (λ (b : List (List Choice)). bag ∷ b) (with_vote-set panel c bags)
+
+pub memory-set : (bags : List BagData) (panel : ℕ) (before after : BagData) → panel < length bags
+    → before ≡ get_or bags panel before → after.room ≡ before.room → after.memory ≡ before.memory
+    → (sum_by (λ b. b.memory) (slice_set bags panel after) ≡ sum_by (λ b. b.memory) bags) × (sum_by (λ b. b.room) (slice_set bags panel after) ≡ sum_by (λ b. b.room) bags)
+memory-set bags panel before after lt read room memory =
+    let old_memory = ap (λ (b : BagData). b.memory) read in
+    let old_room = ap (λ (b : BagData). b.room) read in
+    (omega (arith, sum_by-set (λ b. b.memory) bags panel after before lt), omega (arith, sum_by-set (λ b. b.room) bags panel after before lt))
 
 -- a bag that was read, where the record is seen as `now`
 

@@ -2,7 +2,6 @@
 use Rattle.std.specs.Prelude.{◌≡◌, ℕ, ◌+◌, ◌≤◌, Bool, true, false, List, length, map, take, drop, slice_get}
 use Rattle.std.specs.List.{AllByRecursion}
 use Rattle.std.specs.Option.{option_map_or}
-use Rattle.election_tables.specs.Limits.{most_candidates, most_parties}
 use Rattle.vote_kinds.specs.declared.choice.Choice.{Choice}
 use Rattle.vote_kinds.specs.Choice.{AreRising, choice_le, is_same}
 use Rattle.vote_record.specs.Counters.{bag_with}
@@ -37,15 +36,10 @@ pub record IsPlace (c : Choice) (counters : List Counter) (place : ℕ) : Type 0
   pub before : AllByRecursion (λ x. choice_le c x.choice ≡ false) (take place counters)
   pub others : AllByRecursion (λ x. choice_le c x.choice ≡ true) (drop place counters)
 
--- the most choices of a panel: all candidates and parties that tables may have, blank and null
-abbrev pub most_choices : ℕ
-most_choices = most_candidates + most_parties + 2
-
--- Counters rise by choice, and count `total` members, which are within the room. Since a member may be a choice of no panel, there is
--- memory for one counter more with each member that there is still room for, and for no more than all choices of a panel besides.
+-- Counters rise by choice, and count `total` members, which are within the room. Since a member may be none of the panel's choices, there
+-- is memory for one counter more with each member that there is still room for.
 pub record AreStored (counters : List Counter) (total room memory : ℕ) : Type 0 where
   pub rise : AreRising (choices_in counters)
   pub counted : total ≡ length (members_of counters)
   pub within : total ≤ room
   pub reserved : length counters + room ≤ memory + total
-  pub few : memory ≤ most_choices + room

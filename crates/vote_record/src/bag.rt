@@ -36,12 +36,20 @@ impl Model for Bag {
 }
 
 impl Bag {
-    /// The empty bag of a panel, with a counter for each choice of the panel. All its memory is taken here.
-    pub fn of_panel(alloc: Global, tables: &Tables, panel: u32, room: u32) -> Result<Bag, Memory>
+    /// The empty bag of a panel, with a counter for each choice of the panel, and memory for as many counters more as it has room
+    /// for members, and for some that are spare. All its memory is taken here.
+    pub fn of_panel(
+        alloc: Global,
+        tables: &Tables,
+        panel: u32,
+        room: u32,
+        spare: u32,
+    ) -> Result<Bag, Memory>
         requires { panel < length tables.now.panels }
-        ensures { IfOk result (λ b. b ≡ record { members = []; room = room; memory = length (choices_of (line_of tables.now panel)) + room }) }
+        ensures { IfOk result (λ b. b ≡ record { members = []; room = room; memory = length (choices_of (line_of tables.now panel)) + (room + spare) }) }
     {
-        let counters = new_counters(alloc, tables, panel, room)?;
+        let more = room as usize + spare as usize;
+        let counters = new_counters(alloc, tables, panel, more)?;
         Ok(Bag {
             counters,
             total: 0,
@@ -87,8 +95,8 @@ impl Bag {
         member(&self.counters, i)
     }
 
-    /// So many members more of a choice, whose counter is looked for in this place first. It takes no memory: the room stays as
-    /// it is.
+    /// So many members more of a choice, whose counter is looked for in this place first. It takes no memory: what the bag has
+    /// memory for stays as it is.
     pub fn add(&mut self, place: u32, choice: Choice, votes: u32)
         requires { length self.old.members + votes ≤ self.old.room }
         ensures { self.new ≡ record self.old { members = with_choices votes choice self.old.members } }

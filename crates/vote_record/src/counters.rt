@@ -4,12 +4,13 @@ ghost use Rattle.election_tables.specs.TablesData.{IsTables, candidates_at};
 ghost use Rattle.vote_kinds.specs.Ballot.{choices_of, line_of};
 ghost use Rattle.vote_kinds.specs.Choice.{AreRising, is_same};
 ghost use Rattle.vote_record.specs.Bag.{count_of, with_choices};
-ghost use Rattle.vote_record.specs.BagData.{IsPlace, choices_in, members_of, most_choices, no_votes, stands_at};
+ghost use Rattle.vote_record.specs.Counters.{counters_before, most_counters};
+ghost use Rattle.vote_record.specs.BagData.{IsPlace, choices_in, members_of, no_votes, stands_at};
 
 use election_tables::Tables;
 use std::alloc::Global;
 use urna_base::Memory;
-use vote_kinds::{Choice, choice_count, party_count};
+use vote_kinds::{Choice, choice_count, chosen_parties};
 
 /// A choice, and how many votes are it.
 #[derive(Clone, Copy, Debug)]
@@ -18,23 +19,39 @@ pub struct Counter {
     pub votes: u32,
 }
 
+/// The most candidates of all panels together, and the most parties, blank and null of each, which have a counter.
+const MOST_CANDIDATES: u32 = 4_096;
+
+const MOST_OTHERS: u32 = 42;
+
+/// How many counters more than these tables need the largest ones with as many panels would.
+pub fn spare_counters(tables: &Tables) -> u32
+    ensures { result + counters_before tables.now (length tables.now.panels) ≡ most_counters (length tables.now.panels) }
+{
+    let mut spare = MOST_CANDIDATES + MOST_OTHERS * tables.panels();
+    for panel in 0..tables.panels() {
+        spare -= choice_count(tables, panel);
+    }
+    spare
+}
+
 /// A counter without votes for each choice of a panel, in the order of choices, with memory for so many counters more.
 pub fn new_counters(
     alloc: Global,
     tables: &Tables,
     panel: u32,
-    more: u32,
+    more: usize,
 ) -> Result<Vec<Counter>, Memory>
-    requires { panel < length tables.now.panels }
+    requires panel { panel < length tables.now.panels }
+    requires few { more < 2 ^ 33 }
     ensures places { IfOk result (λ counters. counters.items ≡ map no_votes (choices_of (line_of tables.now panel))) }
-    ensures few { IfOk result (λ counters. vec_len counters ≤ most_choices) }
     ensures memory { IfOk result (λ counters. vec_capacity counters ≡ length counters.items + more) }
     ensures tables { IsTables tables.now }
 {
     let choices = choice_count(tables, panel);
-    let mut counters = Vec::with_capacity(alloc, choices as usize + more as usize)?;
+    let mut counters = Vec::with_capacity(alloc, choices as usize + more)?;
     put_candidates(&mut counters, tables, panel);
-    put_parties(&mut counters, tables, party_count(tables, panel));
+    put_parties(&mut counters, tables, chosen_parties(tables, panel));
     counters.push_reserved(no_votes(Choice::Blank));
     counters.push_reserved(no_votes(Choice::Null));
     Ok(counters)

@@ -6,6 +6,7 @@ ghost use Rattle.vote_record.specs.Laws.{HasOnlyVotes};
 ghost use Rattle.vote_record.specs.RdvData.{IsVote, empty_record, room_at, with_vote_in};
 
 use crate::bag::Bag;
+use crate::counters::spare_counters;
 use election_tables::Tables;
 use std::alloc::Global;
 use std::marker::Model;
@@ -45,10 +46,13 @@ impl Rdv {
         let panels = tables.panels();
         let mut bags = Vec::with_capacity(alloc, panels as usize)?;
         let mut places = Vec::with_capacity(alloc, panels as usize)?;
+        // What no panel needs of the memory goes to the first, so that all of it is settled by what contracts see of a record.
+        let mut spare = spare_counters(tables);
         for panel in 0..panels {
             let votes = tables.places(panel);
-            bags.push_reserved(Bag::of_panel(alloc, tables, panel, voters * votes)?);
+            bags.push_reserved(Bag::of_panel(alloc, tables, panel, voters * votes, spare)?);
             places.push_reserved(votes);
+            spare = 0;
         }
         Ok(Rdv {
             bags,

@@ -8,14 +8,14 @@ ghost use Rattle.turnout.specs.Turnout.{number_came};
 ghost use Rattle.vote_kinds.specs.Ballot.{lines_by_panel, line_of};
 ghost use Rattle.vote_record.specs.Bag.{bag_at, count_of};
 ghost use Rattle.image_codec.specs.Layout.{body_size, counter_size, head_size, turnout_size, version};
-ghost use Rattle.image_codec.specs.Encoding.{IsStateOf, encode, eight_places, head_bytes, counter_bytes, counts_text, turnout_bytes};
+ghost use Rattle.image_codec.specs.Encoding.{IsStateOf, encode, eight_places, head_bytes, counter_bytes, counts_bytes, turnout_bytes};
 
 use super::layout::{COUNTERS_OFFSET, TURNOUT_SIZE, VERSION};
 use crate::state::State;
 use election_tables::Tables;
 use turnout::{Phase, Turnout};
 use urna_base::{put_be32, put_be64};
-use vote_kinds::{Choice, party_count};
+use vote_kinds::{Choice, chosen_parties};
 use vote_record::Rdv;
 
 /// Writes the body of a slot (docs/FORMATS.md, "The body"): the state as the second version has it, and zeros after it. It
@@ -68,7 +68,8 @@ fn put_counters(votes: &Rdv, tables: &Tables, into: &mut [u8], at: usize) -> usi
     end
 }
 
-/// The counters of a panel, in the order of choices. The caller owes that the tables and the record have it, and room.
+/// The counters of a panel, in the order of choices, part by part: place by place each look would begin at the panel again. The
+/// caller owes that the tables and the record have it, and room.
 fn put_panel(votes: &Rdv, tables: &Tables, panel: u32, into: &mut [u8], at: usize) -> usize
     requires panel { panel < length tables.now.panels }
     requires bag { panel < length votes.now.bags }
@@ -77,7 +78,7 @@ fn put_panel(votes: &Rdv, tables: &Tables, panel: u32, into: &mut [u8], at: usiz
     ensures text { take result into.new ≡ take at into.old ++ counter_bytes (line_of tables.now panel, bag_at votes.now.bags panel) }
 {
     let candidates = tables.candidate_count(panel);
-    let parties = party_count(tables, panel);
+    let parties = chosen_parties(tables, panel);
     let blank = candidates + parties;
     let end = put_candidates(votes, tables, panel, into, at);
     let end = put_parties(votes, tables, panel, parties, into, end);
@@ -91,7 +92,7 @@ fn put_candidates(votes: &Rdv, tables: &Tables, panel: u32, into: &mut [u8], at:
     requires bag { panel < length votes.now.bags }
     requires room { at + counter_size * length (candidates_at panel tables.now) ≤ length into.old }
     ensures end { result ≡ at + counter_size * length (candidates_at panel tables.now) }
-    ensures text { take result into.new ≡ take at into.old ++ counts_text (map (λ n. Choice.Nominal n) (line_of tables.now panel).candidates) (bag_at votes.now.bags panel) }
+    ensures text { take result into.new ≡ take at into.old ++ counts_bytes (map (λ n. Choice.Nominal n) (line_of tables.now panel).candidates) (bag_at votes.now.bags panel) }
 {
     let mut end = at;
     for i in 0..tables.candidate_count(panel) {
@@ -108,7 +109,7 @@ fn put_candidates(votes: &Rdv, tables: &Tables, panel: u32, into: &mut [u8], at:
     end
 }
 
-/// The counters of the first so many parties in a panel. The caller owes the same, and that there are so many.
+/// The counters of the first so many parties in a panel. The caller owes the same, and that there are so many, and at most 40.
 fn put_parties(
     votes: &Rdv,
     tables: &Tables,
@@ -123,7 +124,7 @@ fn put_parties(
     requires few { parties ≤ most_parties }
     requires room { at + counter_size * parties ≤ length into.old }
     ensures end { result ≡ at + counter_size * parties }
-    ensures text { take result into.new ≡ take at into.old ++ counts_text (map (λ n. Choice.Party n) (take parties (map (λ q. q.number) tables.now.parties))) (bag_at votes.now.bags panel) }
+    ensures text { take result into.new ≡ take at into.old ++ counts_bytes (map (λ n. Choice.Party n) (take parties (map (λ q. q.number) tables.now.parties))) (bag_at votes.now.bags panel) }
 {
     let first = tables.candidate_count(panel);
     let mut end = at;

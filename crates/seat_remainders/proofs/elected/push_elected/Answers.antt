@@ -8,7 +8,7 @@ use Rattle.seat_remainders.proofs.elected.push_elected.Goals as goal
 
 pub first_of-entry-items-requires : goal.first_of-entry-items-requires
 first_of-entry-items-requires c =
-    let able = ap (λ (l : List Entry). length l) (c.deref_mut.ensures.value ∙ c.in_ok-put_able.ensures) in
+    let able = ap (λ (l : List Entry). length l) (c.deref_mut.ensures.value ∙ c.in_ok-put_those_with.ensures) in
     let count = length-filter (λ e. nat_le c.args.least e.votes) c.args.candidates.now in
     omega (arith, able, count, c.requires.seats)
 
@@ -17,5 +17,5 @@ returns c =
     let count = length-filter (λ e. nat_le c.args.least e.votes) c.args.candidates.now in
     let first = front_passes (λ e. nat_le c.args.least e.votes) (votes_go_up c.args.least) c.args.seats c.args.candidates.now (omega (arith, count, c.requires.seats)) in
     let all = take_all c.loop-entry.entry-index c.first_of-entry-items.result.now c.loop-entry-test.false in
-    let able = ap (λ (l : List Entry). take c.args.seats (in_order l)) (c.deref_mut.ensures.value ∙ c.in_ok-put_able.ensures) in
+    let able = ap (λ (l : List Entry). take c.args.seats (in_order l)) (c.deref_mut.ensures.value ∙ c.in_ok-put_those_with.ensures) in
     c.loop-entry.invariant ∙ ap (λ (l : List Entry). c.args.elected.now ++ map (λ (e : Entry). e.number) l) (all ∙ c.first_of-entry-items.ensures ∙ able ∙ first)

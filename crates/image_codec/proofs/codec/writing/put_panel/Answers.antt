@@ -5,7 +5,7 @@ use Rattle.vote_kinds.specs.declared.choice.Choice.{Choice}
 use Rattle.vote_kinds.specs.declared.choice.Choice.TheVariants as choice
 use Rattle.vote_kinds.specs.Ballot.{BallotLine, line_of}
 use Rattle.vote_record.specs.Bag.{bag_at, count_of}
-use Rattle.image_codec.specs.Encoding.{counts_text}
+use Rattle.image_codec.specs.Encoding.{counts_bytes}
 use Rattle.vote_kinds.proofs.ChoicePlaces.{choices_many}
 use Rattle.image_codec.proofs.Lengths.{length-counter_bytes}
 use Rattle.image_codec.proofs.Written.{counts_in_turn, parties_taken}
@@ -22,7 +22,7 @@ put_parties-end-requires-clause-room c =
       choices_many c.args.tables.now c.args.panel,
       length-counter_bytes (line_of c.args.tables.now c.args.panel) (bag_at c.args.votes.now.bags c.args.panel),
       c.requires.room,
-      c.party_count-parties.ensures.count,
+      c.chosen_parties-parties.ensures.count,
       c.put_candidates-end.ensures.end,
     )
 
@@ -33,7 +33,7 @@ put_count-end-requires-clause-room c =
       choices_many c.args.tables.now c.args.panel,
       length-counter_bytes (line_of c.args.tables.now c.args.panel) (bag_at c.args.votes.now.bags c.args.panel),
       c.requires.room,
-      c.party_count-parties.ensures.count,
+      c.chosen_parties-parties.ensures.count,
       c.put_candidates-end.ensures.end,
       c.put_parties-end.ensures.end,
     )
@@ -45,7 +45,7 @@ put_count-requires-clause-room c =
       choices_many c.args.tables.now c.args.panel,
       length-counter_bytes (line_of c.args.tables.now c.args.panel) (bag_at c.args.votes.now.bags c.args.panel),
       c.requires.room,
-      c.party_count-parties.ensures.count,
+      c.chosen_parties-parties.ensures.count,
       c.put_candidates-end.ensures.end,
       c.put_parties-end.ensures.end,
       c.put_count-end.ensures.end,
@@ -57,7 +57,7 @@ returns-clause-end c =
       arith,
       choices_many c.args.tables.now c.args.panel,
       length-counter_bytes (line_of c.args.tables.now c.args.panel) (bag_at c.args.votes.now.bags c.args.panel),
-      c.party_count-parties.ensures.count,
+      c.chosen_parties-parties.ensures.count,
       c.put_candidates-end.ensures.end,
       c.put_parties-end.ensures.end,
       c.put_count-end.ensures.end,
@@ -73,7 +73,7 @@ returns-clause-text c =
     let nominal : List Choice = map (λ n. choice.Nominal n) line.candidates in
     let party : List Choice = cond line.proportional (map (λ n. choice.Party n) line.parties) [] in
     let many : length line.parties ≤ length t.parties = omega (arith, length-map t.parties (λ q. q.number)) in
-    let parties = ap (λ (k : ℕ). map (λ n. choice.Party n) (take k line.parties)) c.party_count-parties.ensures.count ∙ parties_taken line.proportional line.parties (length t.parties) many in
+    let parties = ap (λ (k : ℕ). map (λ n. choice.Party n) (take k line.parties)) c.chosen_parties-parties.ensures.count ∙ parties_taken line.proportional line.parties (length t.parties) many in
     let blank : List ℕ = to_be_bytes w32 (count_of choice.Blank bag) in
     let null : List ℕ = to_be_bytes w32 (count_of choice.Null bag) in
     c.put_count.ensures.text
@@ -81,6 +81,6 @@ returns-clause-text c =
     (c.put_count-end.ensures.text
     ∙ ap (λ (l : List ℕ). l ++ blank)
     (c.put_parties-end.ensures.text
-    ∙ ap (λ (l : List ℕ). l ++ counts_text (map (λ n. choice.Party n) (take c.party_count-parties.result line.parties)) bag) c.put_candidates-end.ensures.text
-    ∙ ap (λ (l : List Choice). (start ++ counts_text nominal bag) ++ counts_text l bag) parties))
+    ∙ ap (λ (l : List ℕ). l ++ counts_bytes (map (λ n. choice.Party n) (take c.chosen_parties-parties.result line.parties)) bag) c.put_candidates-end.ensures.text
+    ∙ ap (λ (l : List Choice). (start ++ counts_bytes nominal bag) ++ counts_bytes l bag) parties))
     ∙ counts_in_turn nominal party bag start

@@ -15,5 +15,4 @@ invariant_of-self c =
       counted = omega (arith, c.self.invariant.counted);
       within = omega (arith, c.self.invariant.counted, c.requires);
       reserved = omega (arith, c.self.invariant.reserved, c.count_in.ensures.few, c.count_in.ensures.memory);
-      few = omega (arith, c.self.invariant.few, c.count_in.ensures.memory);
     }

@@ -18,7 +18,6 @@ invariant_of-result c =
       counted = sym none;
       within = omega arith;
       reserved = omega (arith, c.in_ok-counters.ensures.memory);
-      few = omega (arith, c.in_ok-counters.ensures.memory, c.in_ok-counters.ensures.few);
     }
 
 pub returns : goal.returns
@@ -27,4 +26,4 @@ returns c =
     let bag_of : List Choice → ℕ → BagData = λ members memory. record { members = members; room = c.args.room; memory = memory } in
     let both : (m : List Choice) (n k : ℕ) → m ≡ [] → n ≡ k → bag_of m n ≡ bag_of [] k = λ m n k e f. ap (λ (l : List Choice). bag_of l n) e ∙ ap (bag_of []) f in
     both _ _ _ (ap members_of c.in_ok-counters.ensures.places ∙ no_members choices)
-    (c.in_ok-counters.ensures.memory ∙ ap (λ (n : ℕ). n + c.args.room) (ap length c.in_ok-counters.ensures.places ∙ length-map choices no_votes))
+    (c.in_ok-counters.ensures.memory ∙ ap (λ (n : ℕ). n + (c.args.room + c.args.spare)) (ap length c.in_ok-counters.ensures.places ∙ length-map choices no_votes))

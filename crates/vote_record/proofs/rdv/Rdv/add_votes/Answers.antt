@@ -3,8 +3,9 @@ use Rattle.std.proofs.Math.ListN.{length-set}
 use Rattle.vote_kinds.specs.declared.choice.Choice.{Choice}
 use Rattle.vote_record.specs.Bag.{bag_at, with_choices}
 use Rattle.vote_record.specs.BagData.{BagData}
+use Rattle.vote_record.specs.Counters.{most_counters}
 use Rattle.vote_record.specs.RdvData.{RdvData}
-use Rattle.vote_record.proofs.Stored.{bags_in, bags-set, is_stored, length-bags_in, rooms-set}
+use Rattle.vote_record.proofs.Stored.{bags_in, bags-set, memory-set, is_stored, length-bags_in, rooms-set}
 use Rattle.vote_record.proofs.rdv.Rdv.add_votes.Goals as goal
 
 pub add-requires : goal.add-requires
@@ -21,6 +22,11 @@ invariant_of-self c =
     record {
       few = c.self.invariant.few;
       rooms = rooms-set bags c.args.panel c.index_mut.result.now c.add.new.self (omega arith) c.index_mut.ensures.value (ap (λ (b : BagData). b.room) c.add.ensures) ∙ c.self.invariant.rooms;
+      memory =
+          let kept = memory-set bags c.args.panel c.index_mut.result.now c.add.new.self (omega arith) c.index_mut.ensures.value
+          (ap (λ (b : BagData). b.room) c.add.ensures) (ap (λ (b : BagData). b.memory) c.add.ensures) in
+          let many = ap most_counters (length-set bags c.args.panel c.add.new.self) in
+          omega (arith, c.self.invariant.memory, kept.0, kept.1);
       bags_reserved = c.self.invariant.bags_reserved ∙ sym (length-set bags c.args.panel c.add.new.self);
       places_reserved = c.self.invariant.places_reserved;
     }

@@ -1,7 +1,7 @@
 use Rattle.std.proofs.Common.{rules, nat_le, List, ◌++◌, filter, ap, ◌∙◌}
 use Rattle.std.proofs.lemmas.Fn.{filter_same}
 use Rattle.seat_remainders.specs.declared.contest.Entry.{Entry}
-use Rattle.seat_remainders.proofs.elected.put_able.Goals as goal
+use Rattle.seat_remainders.proofs.elected.put_those_with.Goals as goal
 
 pub returns : goal.returns
 returns c =
