@@ -17,7 +17,7 @@ use Rattle.poll_report.specs.Counted.{report_of}
 use Rattle.poll_report.specs.declared.report.Report.{Report}
 use Rattle.section_intake.specs.Accepted.{File, accepted_with}
 use Rattle.section_intake.specs.Sums.{AreReportsOf}
-use Rattle.section_intake.specs.Verdict.{IsReportFile}
+use Rattle.section_intake.specs.Verdict.{IsReportFile, IsVerdict}
 use Rattle.section_intake.specs.declared.verdict.Verdict.{Verdict}
 use Rattle.section_intake.specs.declared.verdict.Verdict.TheVariants as verdict
 use Rattle.state_store.specs.Load.{IsSectionOf, load_of}
@@ -74,6 +74,7 @@ record IsMade (n : ℕ) (x : Rehearsal) (last : State) (t : TablesData) (r : Rol
   roll : IsRollOf x.roll.items r
   flash : x.flash.items ≡ rest t (load_of t r (generated_section n)) Internal last
   report : x.report.items ≡ report_file t (generated_section n) last opened closed
+  accepted : IsVerdict t x.report.items (verdict.Accepted 1 1)
   record_file : x.record.items ≡ record_text t (generated_section n) last.bags
   lines : TellRehearsal n t (report_of t (generated_section n) last.bags last.came opened closed) x.lines.items
 
@@ -83,11 +84,11 @@ pub rehearsed_by : (n : ℕ) (x : Rehearsal) (last : State) (out : List Output) 
     → IsReadAs x.tables.items t → IsRollOf x.roll.items r → events_of x.keys.items ≡ Some (generated_events n) → IsRehearsal n (sha256 x.tables.items) last out
     → last.phase ≡ phase.Sealed opening_moment closing_moment
     → x.flash.items ≡ rest t (load_of t r (generated_section n)) Internal last → x.report.items ≡ report_file t (generated_section n) last opened closed
-    → x.record.items ≡ record_text t (generated_section n) last.bags
+    → IsVerdict t x.report.items (verdict.Accepted 1 1) → x.record.items ≡ record_text t (generated_section n) last.bags
     → TellRehearsal n t (report_of t (generated_section n) last.bags last.came opened closed) x.lines.items → IsRehearsed n x
-rehearsed_by n x last out t r opened closed is_t is_r opens closes printed roll_lines key_lines read roll keys run sealed flash report record_file lines =
+rehearsed_by n x last out t r opened closed is_t is_r opens closes printed roll_lines key_lines read roll keys run sealed flash report taken record_file lines =
     let made : IsMade n x last t r opened closed =
-    record { read = read; roll = roll; flash = flash; report = report; record_file = record_file; lines = lines }
+    record { read = read; roll = roll; flash = flash; report = report; accepted = taken; record_file = record_file; lines = lines }
     in
     let by_tables = subst (λ (y : TablesData). IsMade n x last y r opened closed) is_t made in
     let by_roll = subst (λ (y : RollData). IsMade n x last (tables_of n x) y opened closed) is_r by_tables in
@@ -106,6 +107,7 @@ rehearsed_by n x last out t r opened closed is_t is_r opens closes printed roll_
       sealed = sealed;
       flash = by_closing.flash;
       report = by_closing.report;
+      accepted = by_closing.accepted;
       record_file = by_closing.record_file;
       lines = by_closing.lines;
     }

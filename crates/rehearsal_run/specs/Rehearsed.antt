@@ -14,6 +14,8 @@ use Rattle.poll_report.specs.Counted.{report_of}
 use Rattle.state_store.specs.Load.{load_of}
 use Rattle.state_store.specs.Rest.{rest}
 use Rattle.station.specs.Output.{Output}
+use Rattle.section_intake.specs.Verdict.{IsVerdict}
+use Rattle.section_intake.specs.declared.verdict.Verdict.TheVariants as verdict
 use Rattle.result_files.specs.Reports.{report_file}
 use Rattle.rehearsal.specs.Document.{document}
 use Rattle.rehearsal.specs.Roll.{generated_roll, roll_text}
@@ -33,8 +35,8 @@ roll_of voters r = generated_roll voters (sha256 r.roll.items)
 
 -- The texts of the rehearsal of so many voters are its document as `toml` prints it, and the lines of its roll and its keys; they are read
 -- as its tables, its roll and its events. The run of these events from the state before the poll leads to a last state, which is sealed at
--- the moments of the keys. The flash is the internal device at rest with that state, the files of results are those of its poll, and
--- the lines tell it.
+-- the moments of the keys. The flash is the internal device at rest with that state, the files of results are those of its poll, its
+-- report is accepted, and the lines tell it.
 pub record IsRehearsed (voters : ℕ) (r : Rehearsal) : Type 0 where
   pub printed : IsDocumentText false (document voters) r.tables.items
   pub tables : IsReadAs r.tables.items (tables_of voters r)
@@ -49,5 +51,6 @@ pub record IsRehearsed (voters : ℕ) (r : Rehearsal) : Type 0 where
   pub flash : r.flash.items ≡ rest (tables_of voters r) (load_of (tables_of voters r) (roll_of voters r) (generated_section voters)) Internal last
   pub report : r.report.items ≡ report_file (tables_of voters r) (generated_section voters) last opening_moment closing_moment
   pub record_file : r.record.items ≡ record_text (tables_of voters r) (generated_section voters) last.bags
+  pub accepted : IsVerdict (tables_of voters r) r.report.items (verdict.Accepted 1 1)
   pub lines : TellRehearsal voters (tables_of voters r)
       (report_of (tables_of voters r) (generated_section voters) last.bags last.came opening_moment closing_moment) r.lines.items

@@ -5,6 +5,8 @@ ghost use Rattle.turnout.specs.declared.phase.Phase.TheVariants as phase;
 ghost use Rattle.image_codec.specs.Encoding.{IsStateOf};
 ghost use Rattle.vote_record.specs.RecordText.{record_text};
 ghost use Rattle.poll_report.specs.Counted.{report_of};
+ghost use Rattle.section_intake.specs.Verdict.{IsVerdict};
+ghost use Rattle.section_intake.specs.declared.verdict.Verdict.TheVariants as verdict;
 ghost use Rattle.result_files.specs.Reports.{report_file};
 ghost use Rattle.rehearsal.specs.Tables.{generated_section, generated_tables};
 ghost use Rattle.rehearsal_run.specs.Lines.{TellRehearsal};
@@ -40,6 +42,7 @@ pub(crate) fn total(
     requires state { IsStateOf tables.now n state.now }
     requires sealed { state.now.phase ≡ phase.Sealed opened closed }
     ensures report { IfOk result (λ x. x.results.report.items ≡ report_file tables.now (generated_section n) state.now opened closed) }
+    ensures accepted { IfOk result (λ x. IsVerdict tables.now x.results.report.items (verdict.Accepted 1 1)) }
     ensures record_file { IfOk result (λ x. x.results.record.items ≡ record_text tables.now (generated_section n) state.now.bags) }
     ensures lines { IfOk result (λ x. TellRehearsal n tables.now
         (report_of tables.now (generated_section n) state.now.bags state.now.came opened closed) x.lines.items) }

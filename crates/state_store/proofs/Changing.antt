@@ -1,8 +1,8 @@
 -- What a commit does to the states, and flashes at rest after it.
-use Rattle.std.proofs.Common.{◌≡◌, ℕ, ◌<◌, ◌≤◌, Option, Some, List, length, option_map, sym, ap, subst, ◌∙◌, arith}
+use Rattle.std.proofs.Common.{◌≡◌, ℕ, ◌≤◌, Option, Some, List, length, option_map, sym, ap, subst, ◌∙◌, arith}
 use Rattle.std.specs.Option.{ForSome}
-use Rattle.urna_outside.specs.Flash.{Op, Flashes, flash_of, after}
-use Rattle.urna_outside.specs.Stop.{AtEachStop, Left}
+use Rattle.urna_outside.specs.Flash.{Op, flash_of, after}
+use Rattle.urna_outside.specs.Stop.{AtEachStop}
 use Rattle.urna_outside.specs.Told.{Told, Runs, AreSized}
 use Rattle.urna_outside.proofs.Doing.{then_told}
 use Rattle.twin_image.specs.Held.{IsNotOutranked}

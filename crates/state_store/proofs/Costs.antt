@@ -1,11 +1,15 @@
 -- What pieces in order cost
-use Rattle.std.proofs.Common.{◌≡◌, ◌⊎◌, ◌≤◌, ◌*◌, ℕ, inl, inr, List, [], ◌∷◌, ◌++◌, length, Option, Some, None, refl, sym, ap, ◌∙◌, arith}
+use Rattle.std.proofs.Common.{◌≡◌, ◌⊎◌, ◌≤◌, ◌*◌, ◌+◌, ℕ, inl, inr, List, [], ◌∷◌, ◌++◌, length, Option, Some, None, IsSome, unwrap_or, refl, sym, ap, ◌∙◌, arith}
 use Rattle.std.specs.Option.{option_to_list}
 use Rattle.urna_outside.specs.Confined.{count_syncs}
 use Rattle.urna_outside.specs.Flash.{Op, Show}
 use Rattle.urna_outside.specs.Told.{IsTornShow}
 use Rattle.urna_outside.proofs.Runs.{syncs-append}
+use Rattle.election_tables.specs.TablesData.{TablesData}
+use Rattle.gate_slot.specs.Page.{put_bytes}
+use Rattle.gate_slot.proofs.Paging.{bytes-append}
 use Rattle.image_codec.specs.State.{State}
+use Rattle.state_store.specs.Cost.{bytes_along}
 use Rattle.state_store.specs.Played.{AreInOrder, AreInOrderTo, shows_in}
 use Rattle.state_store.specs.Pieces.{Piece, commits_in}
 
@@ -24,30 +28,62 @@ piece_cost None states commit rest few none cost =
     )
 piece_cost (Some s) states commit rest few none cost = (omega (arith, cost.0, few, syncs-append commit rest), λ e. absurd (cc))
 
-torn_cost : (line : List ℕ) (ops : List Op) → IsTornShow line ops → (count_syncs ops ≡ 0) × (ops ≡ shows_in ops)
-torn_cost line ops (inl nothing) = (ap count_syncs nothing, nothing ∙ sym (ap shows_in nothing))
-torn_cost line ops (inr part) = let is : ops ≡ Show part.0 ∷ [] = part.4 in (ap count_syncs is, is ∙ sym (ap shows_in is))
+torn_cost : (line : List ℕ) (ops : List Op) → IsTornShow line ops → (count_syncs ops ≡ 0) × (ops ≡ shows_in ops) × (put_bytes ops ≡ 0)
+torn_cost line ops (inl nothing) = (ap count_syncs nothing, nothing ∙ sym (ap shows_in nothing), ap put_bytes nothing)
+torn_cost line ops (inr part) = let is : ops ≡ Show part.0 ∷ [] = part.4 in (ap count_syncs is, is ∙ sym (ap shows_in is), ap put_bytes is)
 
-in_order_cost : (pieces : List Piece) (ops : List Op) → AreInOrder pieces ops → Cost (commits_in pieces) ops
-in_order_cost [] ops nothing = (let none = ap count_syncs nothing in omega arith, λ e. nothing ∙ sym (ap shows_in nothing))
-in_order_cost (piece ∷ pieces) ops (commit, rest, of, is, more) =
-    let later = in_order_cost pieces rest more in
-    let cost = piece_cost piece.commit (commits_in pieces) commit (Show piece.line ∷ rest) of.syncs of.none (later.0, λ e. ap (λ (r : List Op). Show piece.line ∷ r) (later.1 e)) in
-    (let same = ap count_syncs is in omega (arith, cost.0), λ e. is ∙ cost.1 e ∙ sym (ap shows_in is))
+-- what states cost behind others
+along-append : (t : TablesData) (o : Option State) (s : State) (states : List State) → bytes_along t s (option_to_list o ++ states) ≡ bytes_along t s (option_to_list o) + bytes_along t (unwrap_or o s) states
+along-append t None s states = omega arith
+along-append t (Some u) s states = omega arith
 
-in_order_to_cost : (pieces : List Piece) (ops : List Op) → AreInOrderTo pieces ops → Cost (commits_in pieces) ops
-in_order_to_cost [] ops none = absurd none
-in_order_to_cost (piece ∷ pieces) ops (commit, rest, of, is, inl torn) =
-    let cut = torn_cost piece.line rest torn in
-    let cost = piece_cost piece.commit (commits_in pieces) commit rest of.syncs of.none (omega (arith, cut.0), λ e. cut.1) in
-    (let same = ap count_syncs is in omega (arith, cost.0), λ e. is ∙ cost.1 e ∙ sym (ap shows_in is))
-in_order_to_cost (piece ∷ pieces) ops (commit, rest, of, is, inr (further, behind, more)) =
-    let later = in_order_to_cost pieces further more in
-    let shown : Cost (commits_in pieces) rest =
-    (let same = ap count_syncs behind in omega (arith, later.0), λ e. behind ∙ ap (λ (r : List Op). Show piece.line ∷ r) (later.1 e) ∙ sym (ap shows_in behind)) in
-    let cost = piece_cost piece.commit (commits_in pieces) commit rest of.syncs of.none shown in
-    (let same = ap count_syncs is in omega (arith, cost.0), λ e. is ∙ cost.1 e ∙ sym (ap shows_in is))
+module _ (t : TablesData) (trail : Option (List Op)) where
+  in_order_cost : (s : State) (pieces : List Piece) (ops : List Op) → AreInOrder t trail s pieces ops → Cost (commits_in pieces) ops
+  in_order_cost s [] ops nothing = (let none = ap count_syncs nothing in omega arith, λ e. nothing ∙ sym (ap shows_in nothing))
+  in_order_cost s (piece ∷ pieces) ops (commit, rest, of, is, more) =
+      let later = in_order_cost (unwrap_or piece.commit s) pieces rest more in
+      let cost = piece_cost piece.commit (commits_in pieces) commit (Show piece.line ∷ rest) of.syncs of.none (later.0, λ e. ap (λ (r : List Op). Show piece.line ∷ r) (later.1 e)) in
+      (let same = ap count_syncs is in omega (arith, cost.0), λ e. is ∙ cost.1 e ∙ sym (ap shows_in is))
 
-pub costs_are_bounded : (pieces : List Piece) (ops : List Op) → AreInOrder pieces ops ⊎ AreInOrderTo pieces ops → Cost (commits_in pieces) ops
-costs_are_bounded pieces ops (inl all) = in_order_cost pieces ops all
-costs_are_bounded pieces ops (inr cut) = in_order_to_cost pieces ops cut
+  in_order_to_cost : (s : State) (pieces : List Piece) (ops : List Op) → AreInOrderTo t trail s pieces ops → Cost (commits_in pieces) ops
+  in_order_to_cost s [] ops none = absurd none
+  in_order_to_cost s (piece ∷ pieces) ops (commit, rest, of, is, inl torn) =
+      let cut = torn_cost piece.line rest torn in
+      let cost = piece_cost piece.commit (commits_in pieces) commit rest of.syncs of.none (omega (arith, cut.0), λ e. cut.1) in
+      (let same = ap count_syncs is in omega (arith, cost.0), λ e. is ∙ cost.1 e ∙ sym (ap shows_in is))
+  in_order_to_cost s (piece ∷ pieces) ops (commit, rest, of, is, inr (further, behind, more)) =
+      let later = in_order_to_cost (unwrap_or piece.commit s) pieces further more in
+      let shown : Cost (commits_in pieces) rest =
+      (let same = ap count_syncs behind in omega (arith, later.0), λ e. behind ∙ ap (λ (r : List Op). Show piece.line ∷ r) (later.1 e) ∙ sym (ap shows_in behind)) in
+      let cost = piece_cost piece.commit (commits_in pieces) commit rest of.syncs of.none shown in
+      (let same = ap count_syncs is in omega (arith, cost.0), λ e. is ∙ cost.1 e ∙ sym (ap shows_in is))
+
+  -- the bytes of a piece's commit, and of what is behind it
+  piece_bytes : (s : State) (piece : Piece) (pieces : List Piece) (commit rest ops : List Op) → ops ≡ commit ++ rest
+      → put_bytes commit ≤ bytes_along t s (option_to_list piece.commit) → put_bytes rest ≤ bytes_along t (unwrap_or piece.commit s) (commits_in pieces)
+      → put_bytes ops ≤ bytes_along t s (commits_in (piece ∷ pieces))
+  piece_bytes s piece pieces commit rest ops is few later =
+      let same = ap put_bytes is in
+      omega (arith, same, few, later, bytes-append commit rest, along-append t piece.commit s (commits_in pieces))
+
+  in_order_bytes : (s : State) (pieces : List Piece) (ops : List Op) → IsSome trail → AreInOrder t trail s pieces ops → put_bytes ops ≤ bytes_along t s (commits_in pieces)
+  in_order_bytes s [] ops told nothing = let none = ap put_bytes nothing in omega (arith, none)
+  in_order_bytes s (piece ∷ pieces) ops told (commit, rest, of, is, more) =
+      piece_bytes s piece pieces commit (Show piece.line ∷ rest) ops is (of.bytes told) (in_order_bytes (unwrap_or piece.commit s) pieces rest told more)
+
+  in_order_to_bytes : (s : State) (pieces : List Piece) (ops : List Op) → IsSome trail → AreInOrderTo t trail s pieces ops → put_bytes ops ≤ bytes_along t s (commits_in pieces)
+  in_order_to_bytes s [] ops told none = absurd none
+  in_order_to_bytes s (piece ∷ pieces) ops told (commit, rest, of, is, inl torn) =
+      piece_bytes s piece pieces commit rest ops is (of.bytes told) (let cut = torn_cost piece.line rest torn in omega (arith, cut.2))
+  in_order_to_bytes s (piece ∷ pieces) ops told (commit, rest, of, is, inr (further, behind, more)) =
+      let later = in_order_to_bytes (unwrap_or piece.commit s) pieces further told more in
+      piece_bytes s piece pieces commit rest ops is (of.bytes told) (let same = ap put_bytes behind in omega (arith, same, later))
+
+pub costs_are_bounded : (t : TablesData) (trail : Option (List Op)) (s : State) (pieces : List Piece) (ops : List Op)
+    → AreInOrder t trail s pieces ops ⊎ AreInOrderTo t trail s pieces ops
+    → (count_syncs ops ≤ 12 * length (commits_in pieces)) × (IsSome trail → put_bytes ops ≤ bytes_along t s (commits_in pieces))
+    × (commits_in pieces ≡ [] → ops ≡ shows_in ops)
+costs_are_bounded t trail s pieces ops (inl all) =
+    let cost = in_order_cost t trail s pieces ops all in (cost.0, λ told. in_order_bytes t trail s pieces ops told all, cost.1)
+costs_are_bounded t trail s pieces ops (inr cut) =
+    let cost = in_order_to_cost t trail s pieces ops cut in (cost.0, λ told. in_order_to_bytes t trail s pieces ops told cut, cost.1)

@@ -1,12 +1,9 @@
 -- Calls that only read.
-use Rattle.std.proofs.Common.{◌≡◌, ◌↔◌, Bool, true, false, IsTrue, Option, Some, None, Result, [], refl, ◌∙◌}
+use Rattle.std.proofs.Common.{◌≡◌, ◌↔◌, Bool, true, false, IsTrue, Option, Some, None, [], refl, ◌∙◌}
 use Rattle.std.specs.Option.{option_map, ForSome}
-use Rattle.urna_outside.specs.Faults.{IsFaultless, FailsAt}
 use Rattle.urna_outside.specs.Flash.{Flashes, after}
 use Rattle.urna_outside.specs.Told.{Told, Does}
-use Rattle.urna_outside.specs.declared.device.Port.{Port}
 use Rattle.urna_outside.proofs.Doing.{does-append}
-use Rattle.urna_outside.proofs.Faults.{fails_later}
 
 same_flashes : (o : Option Flashes) → option_map (after []) o ≡ o
 same_flashes None = refl

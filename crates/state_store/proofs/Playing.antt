@@ -1,7 +1,7 @@
 -- Pieces that are put out over a store, some after others.
-use Rattle.std.proofs.Common.{◌≡◌, inl, inr, ℕ, ◌+◌, ◌<◌, ◌≤◌, Option, Some, None, IsSome, List, [], ◌∷◌, ◌++◌, length, slice_get, refl, sym, ap, subst, ◌∙◌, arith, append_assoc, length-append}
+use Rattle.std.proofs.Common.{◌≡◌, inl, inr, ℕ, ◌+◌, ◌<◌, ◌≤◌, Option, Some, None, IsSome, List, [], ◌∷◌, ◌++◌, length, slice_get, unwrap_or, refl, sym, ap, subst, ◌∙◌, arith, append_assoc, length-append}
 use Rattle.std.proofs.lemmas.Bool.{cases_lt}
-use Rattle.std.proofs.lemmas.List.{append-nil, map-append}
+use Rattle.std.proofs.lemmas.List.{append-nil}
 use Rattle.std.specs.List.{concat}
 use Rattle.std.specs.Option.{ForSome}
 use Rattle.urna_outside.specs.Faults.{EndsAt, IsFaultless}
@@ -25,7 +25,6 @@ use Rattle.twin_image.specs.Rewrite.{PutsAtMost}
 use Rattle.twin_image.specs.Twin.{IsOfTwin}
 use Rattle.election_tables.specs.Roll.{RollData}
 use Rattle.election_tables.specs.TablesData.{TablesData}
-use Rattle.gate_slot.proofs.Paging.{bytes-append}
 use Rattle.image_codec.specs.State.{State}
 use Rattle.image_codec.specs.Layout.{body_size}
 use Rattle.state_store.specs.Calls.{Commits, HoldEither, IsEither, KeepFrames, Recovers, both_synced}
@@ -36,7 +35,7 @@ use Rattle.state_store.specs.Rest.{AreAtRest}
 use Rattle.state_store.specs.Pieces.{AreFull, Piece, commits_in, commits_reached, lines_in, quiet, state_after, telling, text_in}
 use Rattle.state_store.specs.declared.load.Load.{Load}
 use Rattle.state_store.proofs.Counting.{commits_in-quiet, contained_after, contained_before, lines_in-append, lines_in-quiet, only_state, reached-quiet, reached-telling, reached_after, reached_before, state_after-append, state_after-quiet, state_or_next_after, state_or_next_before, text_in-append, text_in-quiet}
-use Rattle.state_store.proofs.Putting.{bytes_along-append, quiet_bytes, still_traced, told_bytes, traced_bytes}
+use Rattle.state_store.proofs.Putting.{still_traced, traced_bytes}
 use Rattle.state_store.proofs.Resting.{IsStored, frames_at_end, frames_same, frames_text, frames_trans, rest_holds}
 use Rattle.state_store.proofs.ShowStops.{front_of_text, session-append, session_shows, session_slots, shows_in-append, shows_in_shows, shows_in_silent, stops_of_shows, text_of_lines}
 
@@ -73,40 +72,62 @@ plays_quiet t load s lines start ops stored rest part =
           ));
     }
 
--- pieces in order, and others behind them
-order-append : (xs ys : List Piece) (first second : List Op) → AreInOrder xs first → AreInOrder ys second → AreInOrder (xs ++ ys) (first ++ second)
-order-append [] ys first second none after = subst (λ (l : List Op). AreInOrder ys (l ++ second)) (sym none) after
-order-append (x ∷ xs) ys first second (commit, rest, of, is, more) after =
-    (commit, rest ++ second, of, ap (λ (l : List Op). l ++ second) is ∙ append_assoc commit (Show x.line ∷ rest) second, order-append xs ys rest second more after)
+module _ (t : TablesData) (trail : Option (List Op)) where
+  -- pieces in order, and others behind them
+  order-append : (s : State) (xs ys : List Piece) (first second : List Op) → AreInOrder t trail s xs first → AreInOrder t trail (state_after s xs) ys second → AreInOrder t trail s (xs ++ ys) (first ++ second)
+  order-append s [] ys first second none after = subst (λ (l : List Op). AreInOrder t trail s ys (l ++ second)) (sym none) after
+  order-append s (x ∷ xs) ys first second (commit, rest, of, is, more) after = (
+    commit,
+    rest ++ second,
+    of,
+    ap (λ (l : List Op). l ++ second) is ∙ append_assoc commit (Show x.line ∷ rest) second,
+    order-append (unwrap_or x.commit s) xs ys rest second more after,
+  )
 
--- a fault in the first pieces, and one in the pieces behind them
-order_before : (xs ys : List Piece) (ops : List Op) → AreInOrderTo xs ops → AreInOrderTo (xs ++ ys) ops
-order_before [] ys ops to = absurd to
-order_before (x ∷ xs) ys ops (commit, rest, of, is, inl torn) = (commit, rest, of, is, inl torn)
-order_before (x ∷ xs) ys ops (commit, rest, of, is, inr (more, split, next)) = (commit, rest, of, is, inr (more, split, order_before xs ys more next))
+  -- a fault in the first pieces, and one in the pieces behind them
+  order_before : (s : State) (xs ys : List Piece) (ops : List Op) → AreInOrderTo t trail s xs ops → AreInOrderTo t trail s (xs ++ ys) ops
+  order_before s [] ys ops to = absurd to
+  order_before s (x ∷ xs) ys ops (commit, rest, of, is, inl torn) = (commit, rest, of, is, inl torn)
+  order_before s (x ∷ xs) ys ops (commit, rest, of, is, inr (more, split, next)) =
+      (commit, rest, of, is, inr (more, split, order_before (unwrap_or x.commit s) xs ys more next))
 
-order_after : (xs ys : List Piece) (first second : List Op) → AreInOrder xs first → AreInOrderTo ys second → AreInOrderTo (xs ++ ys) (first ++ second)
-order_after [] ys first second none after = subst (λ (l : List Op). AreInOrderTo ys (l ++ second)) (sym none) after
-order_after (x ∷ xs) ys first second (commit, rest, of, is, more) after = (
-  commit,
-  Show x.line ∷ (rest ++ second),
-  of,
-  ap (λ (l : List Op). l ++ second) is ∙ append_assoc commit (Show x.line ∷ rest) second,
-  inr (rest ++ second, refl, order_after xs ys rest second more after),
-)
+  order_after : (s : State) (xs ys : List Piece) (first second : List Op) → AreInOrder t trail s xs first → AreInOrderTo t trail (state_after s xs) ys second → AreInOrderTo t trail s (xs ++ ys) (first ++ second)
+  order_after s [] ys first second none after = subst (λ (l : List Op). AreInOrderTo t trail s ys (l ++ second)) (sym none) after
+  order_after s (x ∷ xs) ys first second (commit, rest, of, is, more) after = (
+    commit,
+    Show x.line ∷ (rest ++ second),
+    of,
+    ap (λ (l : List Op). l ++ second) is ∙ append_assoc commit (Show x.line ∷ rest) second,
+    inr (rest ++ second, refl, order_after (unwrap_or x.commit s) xs ys rest second more after),
+  )
 
--- a line that tells no state
-commits_none : (line : List ℕ) → IsBeforeLine (record { line = line; commit = None }) []
-commits_none line = record { silent = refl; syncs = omega arith; none = λ none. refl }
+  -- a line that tells no state
+  commits_none : (s : State) (line : List ℕ) → IsBeforeLine t trail s (record { line = line; commit = None }) []
+  commits_none s line = record { silent = refl; syncs = omega arith; bytes = λ told. omega arith; none = λ none. refl }
 
-order_quiet : (lines : List (List ℕ)) → AreInOrder (quiet lines) (shows lines)
-order_quiet [] = refl
-order_quiet (line ∷ lines) = ([], shows lines, commits_none line, refl, order_quiet lines)
+  order_quiet : (s : State) (lines : List (List ℕ)) → AreInOrder t trail s (quiet lines) (shows lines)
+  order_quiet s [] = refl
+  order_quiet s (line ∷ lines) = ([], shows lines, commits_none s line, refl, order_quiet s lines)
 
-order_cut : (lines : List (List ℕ)) (ops : List Op) → IsCutShort lines ops → AreInOrderTo (quiet lines) ops
-order_cut [] ops cut = absurd cut
-order_cut (line ∷ lines) ops (inl torn) = ([], ops, commits_none line, refl, inl torn)
-order_cut (line ∷ lines) ops (inr (rest, is, cut)) = ([], ops, commits_none line, refl, inr (rest, is, order_cut lines rest cut))
+  order_cut : (s : State) (lines : List (List ℕ)) (ops : List Op) → IsCutShort lines ops → AreInOrderTo t trail s (quiet lines) ops
+  order_cut s [] ops cut = absurd cut
+  order_cut s (line ∷ lines) ops (inl torn) = ([], ops, commits_none s line, refl, inl torn)
+  order_cut s (line ∷ lines) ops (inr (rest, is, cut)) = ([], ops, commits_none s line, refl, inr (rest, is, order_cut s lines rest cut))
+
+  -- what is in order where another trail is told is so where this one is
+  before_told : (p : Option (List Op)) (s : State) (piece : Piece) (ops : List Op) → (IsSome trail → IsSome p) → IsBeforeLine t p s piece ops → IsBeforeLine t trail s piece ops
+  before_told p s piece ops too of = record { silent = of.silent; syncs = of.syncs; bytes = λ told. of.bytes (too told); none = of.none }
+
+  order_told : (p : Option (List Op)) (s : State) (pieces : List Piece) (ops : List Op) → (IsSome trail → IsSome p) → AreInOrder t p s pieces ops → AreInOrder t trail s pieces ops
+  order_told p s [] ops too nothing = nothing
+  order_told p s (x ∷ xs) ops too (commit, rest, of, is, more) =
+      (commit, rest, before_told p s x commit too of, is, order_told p (unwrap_or x.commit s) xs rest too more)
+
+  order_to_told : (p : Option (List Op)) (s : State) (pieces : List Piece) (ops : List Op) → (IsSome trail → IsSome p) → AreInOrderTo t p s pieces ops → AreInOrderTo t trail s pieces ops
+  order_to_told p s [] ops too none = absurd none
+  order_to_told p s (x ∷ xs) ops too (commit, rest, of, is, inl torn) = (commit, rest, before_told p s x commit too of, is, inl torn)
+  order_to_told p s (x ∷ xs) ops too (commit, rest, of, is, inr (more, split, next)) =
+      (commit, rest, before_told p s x commit too of, is, inr (more, split, order_to_told p (unwrap_or x.commit s) xs more too next))
 
 -- no piece
 pub put_nothing : (t : TablesData) (load : Load) (s : State) (a : Told) → IsStored t load s → ForSome a.flashes (AreAtRest t load s) → HasPut t load s [] a a
@@ -117,7 +138,6 @@ put_nothing t load s a stored rest =
       plays = plays_quiet t load s [] a.flashes [] stored rest (record { shows = tt; back = []; front = refl });
       shown = refl;
       order = refl;
-      bytes = λ traced. omega arith;
       rest = rest;
       fine = faultless_none a;
     }
@@ -132,8 +152,7 @@ put_shown t load s lines a b stored rest showed =
       does = showed.does;
       plays = plays_quiet t load s lines a.flashes (shows lines) stored rest (front_of_text (concat lines) (shows lines) text);
       shown = shows_in_shows (shows lines) text.shows ∙ ap shows (sym (lines_in-quiet lines));
-      order = order_quiet lines;
-      bytes = λ traced. quiet_bytes t s lines (shows lines) text.shows;
+      order = order_quiet t a.trail s lines;
       rest = subst (λ (u : State). ForSome b.flashes (AreAtRest t load u)) (sym (state_after-quiet s lines)) (subst (λ (o : Option Flashes). ForSome o (AreAtRest t load s)) (sym kept) rest);
       fine = record { faults = showed.faults; calls = showed.calls };
     }
@@ -149,8 +168,7 @@ stopped_shown t load s lines a b stored rest off =
       plays = plays_quiet t load s lines a.flashes off.ops stored rest part;
       cut =
           subst (λ (l : List (List ℕ)). IsCutShort l (shows_in off.ops)) (sym (lines_in-quiet lines)) (subst (IsCutShort lines) (sym (shows_in_shows off.ops part.shows)) off.cut);
-      order = order_cut lines off.ops off.cut;
-      bytes = λ traced. quiet_bytes t s lines off.ops part.shows;
+      order = order_cut t a.trail s lines off.ops off.cut;
       rest = λ display. (s, (0, omega arith, refl), subst (λ (o : Option Flashes). ForSome o (AreAtRest t load s)) (sym kept) rest);
       fault = record { faults = off.faults; calls = off.calls };
     }
@@ -224,14 +242,19 @@ module _ (t : TablesData) (load : Load) (s u : State) (line : List ℕ) where
       }
 
   -- the commit of the state
-  commits_state : (a : Told) (ops : List Op) → Commits t load.section.voters s u a ops → IsBeforeLine (record { line = line; commit = Some u }) ops
-  commits_state a ops commits =
-      record { silent = shows_in_silent (λ d k. IsOfTwin body_size k) ops commits.slots.within; syncs = commits.slots.syncs; none = λ none. absurd (cc) }
+  commits_state : (a b : Told) → (run : Runs (Commits t load.section.voters s u a) a b) → Runs (PutsAtMost (commit_bytes t s u)) a b → IsBeforeLine t a.trail s (record { line = line; commit = Some u }) run.0
+  commits_state a b run few =
+      record {
+        silent = shows_in_silent (λ d k. IsOfTwin body_size k) run.0 run.2.slots.within;
+        syncs = run.2.slots.syncs;
+        bytes = λ told. let most = traced_bytes (commit_bytes t s u) a b run.0 told run.1 few in omega (arith, most);
+        none = λ none. absurd (cc);
+      }
 
   -- a fault in its line
-  order_in_line : (a : Told) (xs ys : List Op) → Commits t load.section.voters s u a xs → IsCutShort (line ∷ []) ys → AreInOrderTo (telling u line) (xs ++ ys)
-  order_in_line a xs ys commits (inl torn) = (xs, ys, commits_state a xs commits, refl, inl torn)
-  order_in_line a xs ys commits (inr (rest, is, cut)) = absurd cut
+  order_in_line : (a b : Told) (ys : List Op) → (run : Runs (Commits t load.section.voters s u a) a b) → Runs (PutsAtMost (commit_bytes t s u)) a b → IsCutShort (line ∷ []) ys → AreInOrderTo t a.trail s (telling u line) (run.0 ++ ys)
+  order_in_line a b ys run few (inl torn) = (run.0, ys, commits_state a b run few, refl, inl torn)
+  order_in_line a b ys run few (inr (rest, is, cut)) = absurd cut
 
   -- the state was committed and its line shown
   pub put_told : (a b c : Told) → IsStored t load u → Runs (Commits t load.section.voters s u a) a b → Runs (PutsAtMost (commit_bytes t s u)) a b → IsFaultless a b → ForSome b.flashes (AreAtRest t load u) → HasShown (line ∷ []) b c → HasPut t load s (telling u line) a c
@@ -244,8 +267,7 @@ module _ (t : TablesData) (load : Load) (s u : State) (line : List ℕ) where
         plays = plays_told a b run.0 (Show line ∷ []) stored run.2 run.1 rest (front_of_text (line ++ []) (Show line ∷ []) text);
         shown =
             shows_in-append run.0 (Show line ∷ []) ∙ ap (λ (l : List Op). l ++ Show line ∷ []) (shows_in_silent (λ d k. IsOfTwin body_size k) run.0 run.2.slots.within);
-        order = (run.0, [], commits_state a run.0 run.2, refl, refl);
-        bytes = λ traced. told_bytes t s u line a b run.0 (Show line ∷ []) traced run.1 few text.shows;
+        order = (run.0, [], commits_state a b run few, refl, refl);
         rest = subst (λ (o : Option Flashes). ForSome o (AreAtRest t load u)) (sym kept) rest;
         fine = faultless_trans a b c fine (record { faults = showed.faults; calls = showed.calls });
       }
@@ -262,8 +284,7 @@ module _ (t : TablesData) (load : Load) (s u : State) (line : List ℕ) where
         does = does-append run.0 off.ops a b c run.1 off.does;
         plays = plays_told a b run.0 off.ops stored run.2 run.1 rest part;
         cut = subst (IsCutShort (line ∷ [])) (sym shown) off.cut;
-        order = order_in_line a run.0 off.ops run.2 off.cut;
-        bytes = λ traced. told_bytes t s u line a b run.0 off.ops traced run.1 few part.shows;
+        order = order_in_line a b off.ops run few off.cut;
         rest = λ display. (u, (1, omega arith, refl), subst (λ (o : Option Flashes). ForSome o (AreAtRest t load u)) (sym kept) rest);
         fault = ends_later port.Display a b c fine (record { faults = off.faults; calls = off.calls });
       }
@@ -284,8 +305,7 @@ module _ (t : TablesData) (load : Load) (s u : State) (line : List ℕ) where
         does = run.1;
         plays = plays_commit a run.0 run.2;
         cut = cut_in_commit d run.0 (shows_in_silent (λ x k. IsOfTwin body_size k) run.0 run.2.slots.within);
-        order = (run.0, [], commits_state a run.0 run.2, sym (append-nil run.0), inl (inl refl));
-        bytes = λ traced. let most = traced_bytes (commit_bytes t s u) a b run.0 traced run.1 few in omega (arith, most);
+        order = (run.0, [], commits_state a b run few, sym (append-nil run.0), inl (inl refl));
         rest = λ display. absurd (no_display d display);
         fault = fault;
       }
@@ -365,9 +385,8 @@ put-append t load s xs ys a b c full first second =
       shown =
           shows_in-append first.ops second.ops ∙ ap (λ (l : List Op). l ++ shows_in second.ops) first.shown
           ∙ ap (λ (l : List Op). shows (lines_in xs) ++ l) second.shown ∙ sym (shows_of_pieces xs ys);
-      order = order-append xs ys first.ops second.ops first.order second.order;
-      bytes = λ traced.
-          omega (arith, first.bytes traced, second.bytes (still_traced first.ops a b traced first.does), bytes-append first.ops second.ops, bytes_along-append t s xs ys);
+      order = order-append t a.trail s xs ys first.ops second.ops first.order
+          (order_told t a.trail b.trail (state_after s xs) ys second.ops (λ traced. still_traced first.ops a b traced first.does) second.order);
       rest = subst (λ (u : State). ForSome c.flashes (AreAtRest t load u)) (sym (state_after-append s xs ys)) second.rest;
       fine = faultless_trans a b c first.fine second.fine;
     }
@@ -411,8 +430,7 @@ stopped_before t load s xs ys p a b stopped =
       does = stopped.does;
       plays = plays_before t load s xs ys a.flashes stopped.ops stopped.plays;
       cut = cut_at_before p xs ys (shows_in stopped.ops) stopped.cut;
-      order = order_before xs ys stopped.ops stopped.order;
-      bytes = λ traced. omega (arith, stopped.bytes traced, bytes_along-append t s xs ys);
+      order = order_before t a.trail s xs ys stopped.ops stopped.order;
       rest = λ display. let kept = stopped.rest display in (kept.0, contained_before s kept.0 xs ys kept.1, kept.2);
       fault = stopped.fault;
     }
@@ -427,9 +445,8 @@ stopped_after t load s xs ys p a b c full first stopped =
       does = does-append first.ops stopped.ops a b c first.does stopped.does;
       plays = plays-append t load s xs ys a b first.ops stopped.ops full first.plays first.shown first.does stopped.plays;
       cut = subst (IsCutAt p (xs ++ ys)) (sym shown) (cut_at_after p xs ys (shows_in stopped.ops) stopped.cut);
-      order = order_after xs ys first.ops stopped.ops first.order stopped.order;
-      bytes = λ traced.
-          omega (arith, first.bytes traced, stopped.bytes (still_traced first.ops a b traced first.does), bytes-append first.ops stopped.ops, bytes_along-append t s xs ys);
+      order = order_after t a.trail s xs ys first.ops stopped.ops first.order
+          (order_to_told t a.trail b.trail (state_after s xs) ys stopped.ops (λ traced. still_traced first.ops a b traced first.does) stopped.order);
       rest = λ display. let kept = stopped.rest display in (kept.0, contained_after s kept.0 xs ys kept.1, kept.2);
       fault = ends_later p a b c first.fine stopped.fault;
     }

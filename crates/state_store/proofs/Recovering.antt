@@ -1,5 +1,5 @@
 -- A recovery: two syncs, a look at the flashes, a heal, and the change to the encoding that is written today.
-use Rattle.std.proofs.Common.{◌≡◌, inl, inr, ℕ, Option, Some, None, ◌≤◌, List, [], ◌∷◌, ◌++◌, append_assoc, arith, length, option_map, IsSome, refl, sym, subst}
+use Rattle.std.proofs.Common.{◌≡◌, inl, inr, ℕ, Option, Some, None, ◌≤◌, List, [], ◌++◌, append_assoc, arith, length, option_map, IsSome, refl, sym, subst}
 use Rattle.std.specs.Option.{ForSome}
 use Rattle.urna_outside.specs.Faults.{EndsAt, IsFaultless}
 use Rattle.urna_outside.specs.Flash.{Op, Flashes, after}

@@ -1,7 +1,7 @@
 -- Flashes at rest: what their images hold, and what a session leaves alone.
-use Rattle.std.proofs.Common.{◌≡◌, inl, ℕ, ◌≤◌, Some, List, [], ◌∷◌, length, option_map, refl, sym, ap, subst, ◌∙◌, ext_get_or}
+use Rattle.std.proofs.Common.{◌≡◌, inl, ℕ, ◌≤◌, Some, List, length, option_map, refl, sym, ap, subst, ◌∙◌, ext_get_or}
 use Rattle.urna_outside.specs.Flash.{Op, Flash, Flashes, flash_of, after, shown_by, IsImage, IsClean}
-use Rattle.urna_outside.specs.Stop.{IsStop, Left, AtEachStop}
+use Rattle.urna_outside.specs.Stop.{Left, AtEachStop}
 use Rattle.urna_outside.specs.declared.device.Dev.{Dev}
 use Rattle.urna_outside.specs.declared.device.Dev.TheVariants.{Internal, External}
 use Rattle.urna_outside.proofs.Stops.{stop_whole}

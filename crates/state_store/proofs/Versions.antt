@@ -1,7 +1,7 @@
 -- The slots with one encoding of a state are brought to another one.
-use Rattle.std.proofs.Common.{◌≡◌, ◌≢◌, ℕ, ◌≤◌, inl, inr, Some, List, [], ◌∷◌, length, option_map, refl, sym, ap, arith}
+use Rattle.std.proofs.Common.{◌≡◌, ℕ, ◌≤◌, Some, List, [], ◌∷◌, length, option_map, ap, arith}
 use Rattle.std.specs.Option.{ForSome}
-use Rattle.urna_outside.specs.Flash.{Op, Flashes}
+use Rattle.urna_outside.specs.Flash.{Flashes}
 use Rattle.urna_outside.specs.Stop.{AtEachStop, IsLeft, Left}
 use Rattle.urna_outside.specs.Told.{Told, Runs}
 use Rattle.urna_outside.proofs.Doing.{does_nothing}

@@ -18,6 +18,11 @@ abbrev pub bytes_along : TablesData → State → List State → ℕ
 bytes_along t s [] = 0
 bytes_along t s (u ∷ states) = commit_bytes t s u + bytes_along t u states
 
+-- each of these states costs at most so many bytes over the one before it
+abbrev pub CostAtMost : TablesData → ℕ → State → List State → Type 0
+CostAtMost t most s [] = Unit {0}
+CostAtMost t most s (u ∷ states) = (commit_bytes t s u ≤ most) × CostAtMost t most u states
+
 -- how many bytes a ballot puts at most: in each of the four slots two pages more than there are panels, and two gates
 abbrev pub ballot_bytes : TablesData → ℕ
 ballot_bytes t = 4 * ((length t.panels + 2) * page_size + 2)

@@ -1,5 +1,5 @@
 -- Laws of what is found on two flashes, of what a session costs, and of what a power cut leaves to the next call
-use Rattle.std.specs.Prelude.{◌≡◌, ◌⊎◌, ◌↔◌, ◌≤◌, ◌*◌, ℕ, List, [], ◌∷◌, Option, Some, None, length, Contains}
+use Rattle.std.specs.Prelude.{◌≡◌, ◌⊎◌, ◌↔◌, ◌≤◌, ◌*◌, ℕ, List, [], ◌∷◌, Option, Some, None, IsSome, length, Contains}
 use Rattle.std.specs.Option.{option_and_then}
 use Rattle.urna_outside.specs.Confined.{count_syncs}
 use Rattle.urna_outside.specs.Flash.{Flashes, Op, after, flash_of, shown_by}
@@ -14,10 +14,12 @@ use Rattle.election_tables.specs.declared.tables.sections.Section.{Section}
 use Rattle.image_codec.specs.Decoded.{decoded, rank_in}
 use Rattle.image_codec.specs.Encoding.{IsStateOf}
 use Rattle.image_codec.specs.State.{State}
+use Rattle.gate_slot.specs.Page.{put_bytes}
 use Rattle.twin_image.specs.Held.{held_on}
 use Rattle.twin_image.specs.Held.{held_alone as body_alone}
 use Rattle.image_codec.specs.Layout.{body_size}
 use Rattle.state_store.specs.Calls.{AreFound, KeepFrames, both_synced}
+use Rattle.state_store.specs.Cost.{bytes_along}
 use Rattle.state_store.specs.Held.{AreLoaded, HeldByBoth, Hold, HoldNone, IsForeign, bodies_of_both, open_bodies}
 use Rattle.state_store.specs.Load.{IsSectionOf, load_of}
 use Rattle.state_store.specs.Played.{AreInOrder, AreInOrderTo, Survives, shows_in}
@@ -59,12 +61,15 @@ SessionGoesOn =
     (t : TablesData) (r : RollData) (section : Section) (s : State) (pieces : List Piece) (start : Flashes) (left : Left) → AreWhole start
     → AreFound t r section s start → Survives t (load_of t r section) s pieces start left → IsPollOf t r section (s ∷ commits_in pieces) left
 
--- Pieces that were put out in order cost at most 12 syncs for each state that they tell, and where they tell none they are shows
--- alone, whether all of them were put out or a fault cut them off.
+-- Pieces that were put out in order cost at most 12 syncs for each state that they tell and, where the trail is told, no more bytes
+-- than these states together; and where they tell none they are shows alone. So it is whether all of them were put out or a fault cut
+-- them off.
 abbrev pub CostsAreBounded : Type 0
 CostsAreBounded =
-    (pieces : List Piece) (ops : List Op) → AreInOrder pieces ops ⊎ AreInOrderTo pieces ops
-    → (count_syncs ops ≤ 12 * length (commits_in pieces)) × (commits_in pieces ≡ [] → ops ≡ shows_in ops)
+    (t : TablesData) (trail : Option (List Op)) (s : State) (pieces : List Piece) (ops : List Op)
+    → AreInOrder t trail s pieces ops ⊎ AreInOrderTo t trail s pieces ops
+    → (count_syncs ops ≤ 12 * length (commits_in pieces)) × (IsSome trail → put_bytes ops ≤ bytes_along t s (commits_in pieces))
+    × (commits_in pieces ≡ [] → ops ≡ shows_in ops)
 
 -- What one leaves of a recovery is a poll in the state that the recovery found.
 abbrev pub RecoveryGoesOn : Type 0

@@ -1,7 +1,7 @@
 -- Putting pieces out over a store: each state is committed, and then its line is shown
-use Rattle.std.specs.Prelude.{◌≡◌, ◌⊎◌, ℕ, ◌+◌, ◌<◌, ◌≤◌, List, [], ◌∷◌, ◌++◌, Option, Some, None, Result, Ok, Err, length, slice_get, IsSome, Contains}
+use Rattle.std.specs.Prelude.{◌≡◌, ◌⊎◌, ℕ, ◌+◌, ◌<◌, ◌≤◌, List, [], ◌∷◌, ◌++◌, Option, Some, None, Result, Ok, Err, length, slice_get, unwrap_or, IsSome, Contains}
 use Rattle.std.specs.List.{AllByRecursion}
-use Rattle.std.specs.Option.{ForSome}
+use Rattle.std.specs.Option.{ForSome, option_to_list}
 use Rattle.urna_outside.specs.Confined.{count_syncs}
 use Rattle.urna_outside.specs.Faults.{EndsAt, IsFaultless}
 use Rattle.urna_outside.specs.Flash.{Op, Put, Sync, Show, Flashes, after}
@@ -53,34 +53,35 @@ pub record Plays (t : TablesData) (load : Load) (s : State) (pieces : List Piece
   pub slots : AllByRecursion IsOfSession ops
   pub stops : ForSome start (λ flashes. AtEachStop flashes ops (λ left. Follows t load.section.voters s pieces left × KeepFrames flashes left))
 
--- what a piece does before its line: the commit of the state that it tells, with at most 12 syncs; where it tells none, nothing
-pub record IsBeforeLine (piece : Piece) (ops : List Op) : Type 0 where
+-- What a piece does before its line, over this state: the commit of the state that it tells, with at most 12 syncs and, where the trail
+-- is told, no more bytes than that state costs over the other; where it tells none, nothing.
+pub record IsBeforeLine (t : TablesData) (trail : Option (List Op)) (s : State) (piece : Piece) (ops : List Op) : Type 0 where
   pub silent : shows_in ops ≡ []
   pub syncs : count_syncs ops ≤ 12
+  pub bytes : IsSome trail → put_bytes ops ≤ bytes_along t s (option_to_list piece.commit)
   pub none : piece.commit ≡ None → ops ≡ []
 
--- each line is one show, just behind the commit of its piece
-abbrev pub AreInOrder : List Piece → List Op → Type 0
-AreInOrder [] ops = ops ≡ []
-AreInOrder (piece ∷ pieces) ops =
-    (commit : List Op) × (rest : List Op) × IsBeforeLine piece commit × (ops ≡ commit ++ Show piece.line ∷ rest) × AreInOrder pieces rest
+-- each line is one show, just behind the commit of its piece over the state before it
+abbrev pub AreInOrder : TablesData → Option (List Op) → State → List Piece → List Op → Type 0
+AreInOrder t trail s [] ops = ops ≡ []
+AreInOrder t trail s (piece ∷ pieces) ops =
+    (commit : List Op) × (rest : List Op) × IsBeforeLine t trail s piece commit × (ops ≡ commit ++ Show piece.line ∷ rest)
+    × AreInOrder t trail (unwrap_or piece.commit s) pieces rest
 
 -- the same up to a fault in the commit of a piece, or in its line
-abbrev pub AreInOrderTo : List Piece → List Op → Type 0
-AreInOrderTo [] ops = ⊥
-AreInOrderTo (piece ∷ pieces) ops =
-    (commit : List Op) × (rest : List Op) × IsBeforeLine piece commit × (ops ≡ commit ++ rest)
-    × (IsTornShow piece.line rest ⊎ ((more : List Op) × (rest ≡ Show piece.line ∷ more) × AreInOrderTo pieces more))
+abbrev pub AreInOrderTo : TablesData → Option (List Op) → State → List Piece → List Op → Type 0
+AreInOrderTo t trail s [] ops = ⊥
+AreInOrderTo t trail s (piece ∷ pieces) ops =
+    (commit : List Op) × (rest : List Op) × IsBeforeLine t trail s piece commit × (ops ≡ commit ++ rest)
+    × (IsTornShow piece.line rest ⊎ ((more : List Op) × (rest ≡ Show piece.line ∷ more) × AreInOrderTo t trail (unwrap_or piece.commit s) pieces more))
 
--- All pieces were put out in order, and no call failed. Where the trail is told, no more bytes were put than the states cost that were
--- committed. Both flashes are at rest with the state after them.
+-- All pieces were put out in order, and no call failed. Both flashes are at rest with the state after them.
 pub record HasPut (t : TablesData) (load : Load) (s : State) (pieces : List Piece) (old new : Told) : Type 0 where
   pub ops : List Op
   pub does : Does ops old new
   pub plays : Plays t load s pieces old.flashes ops
   pub shown : shows_in ops ≡ shows (lines_in pieces)
-  pub order : AreInOrder pieces ops
-  pub bytes : IsSome old.trail → put_bytes ops ≤ bytes_along t s (commits_in pieces)
+  pub order : AreInOrder t old.trail s pieces ops
   pub rest : ForSome new.flashes (AreAtRest t load (state_after s pieces))
   pub fine : IsFaultless old new
 
@@ -92,15 +93,14 @@ IsCutAt port.Internal pieces shown =
 IsCutAt port.External pieces shown =
     (before : List Piece) × (piece : Piece) × (behind : List Piece) × (pieces ≡ before ++ piece ∷ behind) × IsSome piece.commit × (shown ≡ shows (lines_in before))
 
--- A port failed while the pieces were put out, and no call of the machine was made after it. Where the trail is told, no more bytes were
--- put than all states of the pieces cost. Where it was the display, both flashes are at rest with one of the states.
+-- A port failed while the pieces were put out in order, and no call of the machine was made after it. Where it was the display, both
+-- flashes are at rest with one of the states.
 pub record HasStopped (t : TablesData) (load : Load) (s : State) (pieces : List Piece) (at : Port) (old new : Told) : Type 0 where
   pub ops : List Op
   pub does : Does ops old new
   pub plays : Plays t load s pieces old.flashes ops
   pub cut : IsCutAt at pieces (shows_in ops)
-  pub order : AreInOrderTo pieces ops
-  pub bytes : IsSome old.trail → put_bytes ops ≤ bytes_along t s (commits_in pieces)
+  pub order : AreInOrderTo t old.trail s pieces ops
   pub rest : at ≡ port.Display → (u : State) × Contains (s ∷ commits_in pieces) u × ForSome new.flashes (AreAtRest t load u)
   pub fault : EndsAt at old new
 

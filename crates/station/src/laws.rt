@@ -9,7 +9,7 @@ ghost use Rattle.key_script.specs.declared.keys.Event.{Event};
 ghost use Rattle.image_codec.specs.CodecLaws.{Ballot};
 ghost use Rattle.image_codec.specs.Encoding.{IsStateOf};
 ghost use Rattle.image_codec.specs.State.{State, filled_up};
-ghost use Rattle.state_store.specs.Cost.{ballot_bytes, bytes_along};
+ghost use Rattle.state_store.specs.Cost.{CostAtMost, ballot_bytes, bytes_along};
 ghost use Rattle.state_store.specs.Pieces.{commits_in, lines_in, state_after, text_in};
 ghost use Rattle.station.specs.Setting.{Setting, setting_of};
 ghost use Rattle.station.specs.Output.{Output, commits_of};
@@ -49,10 +49,13 @@ pub fn run_commits()
         → AllByRecursion (IsStateOf t (length titles)) (commits_of out) × IsStateOf t (length titles) last }
 {}
 
-/// However many voters came before, the commits of a run put no more bytes than as many ballots may put. A press has one commit at
-/// most (`event_commits`).
+/// However many voters came before, each commit of a run puts no more bytes than a ballot may, and all together no more than as many
+/// ballots may. A press has one commit at most (`event_commits`).
 pub fn run_costs()
-    ensures { (t : TablesData) (titles : List ℕ) (s last : State) (es : List Event) (out : List Output) → IsTables t → length titles ≤ most_voters
+    ensures each { (t : TablesData) (titles : List ℕ) (s last : State) (es : List Event) (out : List Output) → IsTables t → length titles ≤ most_voters
+        → IsStateOf t (length titles) s → AllByRecursion IsEvent es → IsRun (setting_of t titles) s es last out
+        → CostAtMost t (ballot_bytes t) s (commits_of out) }
+    ensures together { (t : TablesData) (titles : List ℕ) (s last : State) (es : List Event) (out : List Output) → IsTables t → length titles ≤ most_voters
         → IsStateOf t (length titles) s → AllByRecursion IsEvent es → IsRun (setting_of t titles) s es last out
         → bytes_along t s (commits_of out) ≤ length (commits_of out) * ballot_bytes t }
 {}

@@ -1,8 +1,8 @@
 -- Calls of vota and emite one after the other keep their votes
-use Rattle.std.proofs.Common.{◌≡◌, ◌⊎◌, inl, inr, ℕ, ◌+◌, ◌≤◌, List, [], ◌∷◌, ◌++◌, Option, Some, length, take, refl, sym, ap, subst, ◌∙◌, arith, append_assoc, zero, suc, slice_get, add-one}
-use Rattle.std.specs.Prelude.{Contains, false, flat_map, replicate, slice_index_or}
+use Rattle.std.proofs.Common.{◌≡◌, ◌⊎◌, inl, inr, ℕ, ◌+◌, ◌≤◌, List, [], ◌∷◌, ◌++◌, Option, Some, length, take, refl, sym, ap, subst, ◌∙◌, arith, append_assoc, slice_get, add-one}
+use Rattle.std.specs.Prelude.{false, flat_map, replicate, slice_index_or}
 use Rattle.std.proofs.lemmas.List.{append-nil, append_cancel_left, length-replicate}
-use Rattle.std.proofs.lemmas.List.Elements.{Contains-append_left, Contains-append_right, Contains-get_or, Contains-push}
+use Rattle.std.proofs.lemmas.List.Elements.{Contains-get_or}
 use Rattle.std.proofs.lemmas.Option.{slice_get_within}
 use Rattle.std.proofs.lemmas.List.Concat.{flat_map-append}
 use Rattle.urna_outside.specs.Cabinet.{CabinetTold, Files}
@@ -43,7 +43,7 @@ use Rattle.station.specs.declared.station.StartError.TheVariants as starting
 use Rattle.station.proofs.Casting.{opened_fims}
 use Rattle.station.proofs.Pieces.{full_opening, full_pieces}
 use Rattle.station.proofs.Fims.{fims_none}
-use Rattle.urna_app.specs.Again.{AreOfSittings, AreReady, AreSittings, CallsKeepVotes, HasKept, HasRun, IsInterrupted, IsNext, IsReached, IsSitting, MayHave, NextIsSafe, Sitting, cut, cut_behind, emits, ended, failed, no_keys, none, stopped, then, votes}
+use Rattle.urna_app.specs.Again.{AreOfSittings, AreReady, AreSittings, CallsKeepVotes, HasKept, HasRun, IsInterrupted, IsNext, IsReached, IsSitting, MayLeave, NextIsSafe, Sitting, cut, cut_behind, emits, ended, failed, no_keys, none, stopped, then, votes}
 use Rattle.urna_app.specs.Command.{Command, ToVote, Vota, command_of}
 use Rattle.urna_app.specs.Documents.{HasKeys, IsFault}
 use Rattle.urna_app.specs.Ending.{Ends}
@@ -57,7 +57,7 @@ use Rattle.urna_app.specs.declared.status.Status.{Status}
 use Rattle.urna_app.specs.declared.status.Status.TheVariants as status
 use Rattle.urna_app.proofs.Completion.{of_emite, of_vota, port_silent}
 use Rattle.urna_app.proofs.Headline.{not_empty, not_foreign, of_given, results_silent, voted_shown, votes_are_kept}
-use Rattle.urna_app.proofs.Keeping.{found_roll}
+use Rattle.urna_app.proofs.Keeping.{commits_none, found_roll}
 use Rattle.urna_app.proofs.Idle.{AreIdle, Idles, emite_idles, idle_left, idle_stop, idle_trail, idles-append, told_idles, untouched_idles}
 use Rattle.urna_app.proofs.Once.{keys_not_fault, refused_or_given}
 
@@ -170,26 +170,10 @@ frames_of : (start : Flashes) (a b text : List ℕ) → KeepFrames start (record
 frames_of start a b text keeps dev.Internal = keeps dev.Internal
 frames_of start a b text keeps dev.External = keeps dev.External
 
--- a state at a place is among those up to it
-taken : (states : List State) (k : ℕ) (u : State) → slice_get states k ≡ Some u → Contains (take (suc k) states) u
-taken [] k u is = absurd (cc)
-taken (x ∷ states) zero u is =
-    let same : x ≡ u = cc in
-    subst (Contains (x ∷ [])) same (Contains-push [] x)
-taken (x ∷ states) (suc k) u is = Contains-append_right (x ∷ []) (take (suc k) states) u (taken states k u is)
-
--- the state of number c of a call that went on from u, or the next one
-had : (x : Sitting) (u v : State) (c : ℕ) → x.told ≡ c → slice_get (u ∷ x.states) c ≡ Some v → (v ≡ u) ⊎ MayHave x v
-had x u v zero told is = let same : u ≡ v = cc in inl (sym same)
-had x u v (suc k) told is = inr (inl (subst (λ (n : ℕ). Contains (take n x.states) v) (sym told) (taken x.states k v is)))
-
--- what was reached before is reached behind one call more, and so is what that may have
-reached-push : (s u v : State) (before : List Sitting) (x : Sitting) → IsReached s before u → (v ≡ u) ⊎ MayHave x v → IsReached s (before ++ x ∷ []) v
-reached-push s u v before x reached (inl same) = elim reached [
-  | inl first ↦ inl (same ∙ first)
-  | inr (y, among, may) ↦ inr (y, Contains-append_left before (x ∷ []) y among, subst (MayHave y) (sym same) may)
-]
-reached-push s u v before x reached (inr may) = inr (x, Contains-push before x, may)
+-- one call more, over the state that those before it led to
+reached-push : (s u v : State) (before : List Sitting) (x : Sitting) → IsReached s before u → MayLeave u x v → IsReached s (before ++ x ∷ []) v
+reached-push s u v [] x same may = (v, subst (λ (y : State). MayLeave y x v) same may, refl)
+reached-push s u v (y ∷ before) x (w, one, rest) may = (w, one, reached-push w u v before x rest may)
 
 of_sittings-push : (before : List Sitting) (cast : List (List Ballot)) (x : Sitting) (n : ℕ) → AreOfSittings before cast
     → ((n ≡ x.fims) ⊎ (IsInterrupted x.status × (n ≡ x.fims + 1))) → n ≤ length x.ballots
@@ -222,7 +206,7 @@ module _ (t : TablesData) (r : RollData) (section : Section) (s : State) (origin
         found = subst (λ (x : List ℕ). AreFound t r section s (clean_flashes x b)) (sym i)
             (subst (λ (y : List ℕ). AreFound t r section s (clean_flashes origin.internal.content y)) (sym e)
             (record { loaded = ready.found.loaded; held = ready.found.held }));
-        one = inl refl;
+        one = refl;
         cast = [];
         of_sittings = tt;
         has = also_none (ballot_lines t) s;
@@ -236,7 +220,7 @@ module _ (t : TablesData) (r : RollData) (section : Section) (s : State) (origin
       at_end flashes [] all (stops_none flashes all (λ left is. kept left.internal left.external is.internal is.external))
 
   -- one call more, of which its first n ballots are there
-  add : (before : List Sitting) (x : Sitting) (a b i e : List ℕ) (kept : At before a b) (v : State) → AreFound t r section v (clean_flashes i e) → (v ≡ kept.state) ⊎ MayHave x v
+  add : (before : List Sitting) (x : Sitting) (a b i e : List ℕ) (kept : At before a b) (v : State) → AreFound t r section v (clean_flashes i e) → MayLeave kept.state x v
       → (n : ℕ) → ((n ≡ x.fims) ⊎ (IsInterrupted x.status × (n ≡ x.fims + 1))) → n ≤ length x.ballots
       → HasAlso (ballot_lines t) kept.state (take n x.ballots) v → KeepFrames origin (images i e) → At (before ++ x ∷ []) i e
   add before x a b i e kept v found one n number few has frames =
@@ -253,9 +237,9 @@ module _ (t : TablesData) (r : RollData) (section : Section) (s : State) (origin
       }
 
   -- a call that left no more than there was before it
-  add_none : (before : List Sitting) (x : Sitting) (a b : List ℕ) → At before a b → 0 ≡ x.fims → At (before ++ x ∷ []) a b
-  add_none before x a b kept silent =
-      add before x a b a b kept kept.state kept.found (inl refl) 0 (inl silent) (omega arith)
+  add_none : (before : List Sitting) (x : Sitting) (a b : List ℕ) → At before a b → x.told ≡ 0 → 0 ≡ x.fims → At (before ++ x ∷ []) a b
+  add_none before x a b kept untold silent =
+      add before x a b a b kept kept.state kept.found (inl (ap (λ (k : ℕ). slice_get (kept.state ∷ x.states) k) untold)) 0 (inl silent) (omega arith)
       (also_none (ballot_lines t) kept.state) kept.frames
 
   -- ---- one call, over flashes of which so much is kept
@@ -273,11 +257,11 @@ module _ (t : TablesData) (r : RollData) (section : Section) (s : State) (origin
     whole dev.External = (here.frames dev.External).same_length ∙ ready.whole dev.External
 
     -- whatever is left of a call that wrote nothing
-    idle_step : (x : Sitting) (done : List Op) (a b : List ℕ) → AreIdle done → IsImage (after done start).internal a → IsImage (after done start).external b → 0 ≡ x.fims
+    idle_step : (x : Sitting) (done : List Op) (a b : List ℕ) → AreIdle done → IsImage (after done start).internal a → IsImage (after done start).external b → x.told ≡ 0 → 0 ≡ x.fims
         → At (before ++ x ∷ []) a b
-    idle_step x done a b idle internal external silent =
+    idle_step x done a b idle internal external untold silent =
         let left = idle_left done start [] (images a b) idle (record { internal = internal; external = external; shown = refl }) in
-        add_none before x a b (kept a b left.internal left.external) silent
+        add_none before x a b (kept a b left.internal left.external) untold silent
 
     -- ---- a call of vota, over flashes that hold u
 
@@ -306,6 +290,7 @@ module _ (t : TablesData) (r : RollData) (section : Section) (s : State) (origin
           let left : Left = record { internal = a; external = b; shown = shown_by done } in
           let is = syncs_leave_no_more start done left stop (record { internal = internal; external = external; shown = refl }) in
           add_none before x a b (kept a b is.internal is.external)
+          (shows.0 ∙ ap (λ (l : List ℕ). commits_reached pieces (length l)) is.shown ∙ commits_none pieces)
           (sym (shows.1 ∙ ap (λ (l : List ℕ). fims_reached (lines_in pieces) (length l)) is.shown ∙ fims_none (lines_in pieces)))
 
       module _ (rest : List Op) (front : ops ≡ both_synced ++ rest) (how : IsInterrupted (Some answer) ⊎ (shown_by rest ≡ text_in pieces)) (done : List Op) (stop : IsStop rest done) (a b : List ℕ)
@@ -361,33 +346,34 @@ module _ (t : TablesData) (r : RollData) (section : Section) (s : State) (origin
           ]
         ]
 
-        -- the state is one that was told, or the next
-        next_told : slice_get (u ∷ commits_in pieces) (commits_reached pieces (length (shown_by done)) + 1) ≡ Some votes_kept.both.state → MayHave x votes_kept.both.state
-        next_told next =
-            let c : ℕ = commits_reached pieces (length (shown_by done)) in
-            let behind : slice_get (commits_in pieces) c ≡ Some votes_kept.both.state =
-            subst (λ (k : ℕ). slice_get (u ∷ commits_in pieces) k ≡ Some votes_kept.both.state) (add-one c) next in
-            elim ended_so [
-              | inl cut_off ↦ inr (
-                cut_off,
-                subst (λ (n : ℕ). slice_get x.states n ≡ Some votes_kept.both.state) (sym shows.0)
-                    (subst (λ (l : List State). slice_get l c ≡ Some votes_kept.both.state) (sym states) behind),
-              )
-              | inr (text, all) ↦ absurd (omega (arith, slice_get_within (commits_in pieces) c votes_kept.both.state behind, all_told text all))
-            ]
+        -- the state is the one that was told last, or where it was interrupted the next
+        may_leave : (f : ℕ → ℕ) → slice_get (u ∷ commits_in pieces) (f (commits_reached pieces (length (shown_by done)))) ≡ Some votes_kept.both.state
+            → slice_get (u ∷ x.states) (f x.told) ≡ Some votes_kept.both.state
+        may_leave f is =
+            subst (λ (n : ℕ). slice_get (u ∷ x.states) (f n) ≡ Some votes_kept.both.state) (sym shows.0)
+            (subst (λ (l : List State). slice_get (u ∷ l) (f (commits_reached pieces (length (shown_by done)))) ≡ Some votes_kept.both.state) (sym states) is)
 
-        one : (votes_kept.both.state ≡ u) ⊎ MayHave x votes_kept.both.state
+        is_next : slice_get (u ∷ commits_in pieces) (commits_reached pieces (length (shown_by done)) + 1) ≡ Some votes_kept.both.state → IsInterrupted x.status
+        is_next next = elim ended_so [
+          | inl cut_off ↦ cut_off
+          | inr (text, all) ↦
+              let c : ℕ = commits_reached pieces (length (shown_by done)) in
+              let behind : slice_get (commits_in pieces) c ≡ Some votes_kept.both.state =
+              subst (λ (k : ℕ). slice_get (u ∷ commits_in pieces) k ≡ Some votes_kept.both.state) (add-one c) next in
+              absurd (omega (arith, slice_get_within (commits_in pieces) c votes_kept.both.state behind, all_told text all))
+        ]
+
+        one : MayLeave u x votes_kept.both.state
         one = elim votes_kept.both.one [
-          | inl here ↦ had x u votes_kept.both.state (commits_reached pieces (length (shown_by done))) shows.0
-              (subst (λ (l : List State). slice_get (u ∷ l) (commits_reached pieces (length (shown_by done))) ≡ Some votes_kept.both.state) (sym states) here)
-          | inr next ↦ inr (next_told next)
+          | inl here ↦ inl (may_leave (λ (n : ℕ). n) here)
+          | inr next ↦ inr (is_next next, may_leave (λ (n : ℕ). n + 1) next)
         ]
 
         late : At (before ++ x ∷ []) a b
         late =
             add before x start.internal.content start.external.content a b here votes_kept.both.state
             (subst (λ (y : State). AreFound t r section y (clean_flashes a b)) poll_state poll.found)
-            (subst (λ (y : State). (votes_kept.both.state ≡ y) ⊎ MayHave x votes_kept.both.state) (sym same) one)
+            (subst (λ (y : State). MayLeave y x votes_kept.both.state) (sym same) one)
             votes_kept.both.number number
             (subst (λ (l : List Ballot). votes_kept.both.number ≤ length l) (sym ballots) votes_kept.both.cast)
             (subst (λ (y : State). HasAlso (ballot_lines t) y (take votes_kept.both.number x.ballots) votes_kept.both.state) (sym same)
@@ -443,14 +429,14 @@ module _ (t : TablesData) (r : RollData) (section : Section) (s : State) (origin
         (idle_trail m n start ops traced
         (idles-append m ends.between n
         (no_keys_idles names files c d m ends.between answer fault told faulty (of_vota words names c d m ends.between answer command ends.command))
-        (told_idles (fault_text answer) ends.between n ends.told))) stop) internal external (sym fims)
+        (told_idles (fault_text answer) ends.between n ends.told))) stop) internal external lines (sym fims)
     run_step x words c d m n answer ends files told ops done traced first held _ _ _ _ _ (emits {names} given) command states lines ballots fims stop a b internal external over =
         idle_step x done a b
         (idle_stop ops done
         (idle_trail m n start ops traced
         (idles-append m ends.between n
         (emite_idles names c d m ends.between answer (of_emite words names c d m ends.between answer command ends.command))
-        (told_idles (fault_text answer) ends.between n ends.told))) stop) internal external (sym fims)
+        (told_idles (fault_text answer) ends.between n ends.told))) stop) internal external lines (sym fims)
 
     -- what a power cut left of flashes, on which nothing is dirty, is an image of them
     left_images : (flashes : Flashes) (text : List ℕ) (left : Left) → IsLeft flashes text left → (a b : List ℕ)

@@ -59,7 +59,7 @@ module _ (t : TablesData) (s : State) (states : List State) (ballots : List Ball
       }
 
 -- nothing is told before the first byte
-commits_none : (pieces : List Piece) → commits_reached pieces 0 ≡ 0
+pub commits_none : (pieces : List Piece) → commits_reached pieces 0 ≡ 0
 commits_none [] = refl
 commits_none (piece ∷ pieces) = refl
 

@@ -1,5 +1,5 @@
 -- Calls of vota and emite one after the other, each of which the power may have stopped
-use Rattle.std.specs.Prelude.{◌≡◌, ◌⊎◌, ◌≤◌, ◌+◌, ℕ, List, [], ◌∷◌, Option, Some, None, flat_map, length, slice_get, take, Contains}
+use Rattle.std.specs.Prelude.{◌≡◌, ◌⊎◌, ◌≤◌, ◌+◌, ℕ, List, [], ◌∷◌, Option, Some, None, flat_map, length, slice_get, take}
 use Rattle.urna_outside.specs.Cabinet.{CabinetTold, Files}
 use Rattle.urna_outside.specs.Flash.{Flashes, IsClean, Op, after, flash_of, shown_by}
 use Rattle.urna_outside.specs.Started.{clean_flashes}
@@ -108,17 +108,18 @@ AreOfSittings (x ∷ more) [] = ⊥
 AreOfSittings (x ∷ more) (ballots ∷ cast) =
     ((n : ℕ) × ((n ≡ x.fims) ⊎ (IsInterrupted x.status × (n ≡ x.fims + 1))) × (n ≤ length x.ballots) × (ballots ≡ take n x.ballots)) × AreOfSittings more cast
 
--- a state whose line a call had begun to show, or where it was interrupted the next one of its run
-abbrev pub MayHave : Sitting → State → Type 0
-MayHave x u = Contains (take x.told x.states) u ⊎ (IsInterrupted x.status × (slice_get x.states x.told ≡ Some u))
+-- a call leaves of the state s that it found the one of its run whose line it had begun to show last, which is s where it began none; or
+-- where it was interrupted the next one
+abbrev pub MayLeave : State → Sitting → State → Type 0
+MayLeave s x u = (slice_get (s ∷ x.states) x.told ≡ Some u) ⊎ (IsInterrupted x.status × (slice_get (s ∷ x.states) (x.told + 1) ≡ Some u))
 
--- s, or such a state of one of the calls
+-- and many calls, each from the state that the one before it left
 abbrev pub IsReached : State → List Sitting → State → Type 0
-IsReached s sittings u = (u ≡ s) ⊎ ((x : Sitting) × Contains sittings x × MayHave x u)
+IsReached s [] u = u ≡ s
+IsReached s (x ∷ more) u = (v : State) × MayLeave s x v × IsReached v more u
 
--- What is left behind the calls is a poll of the section again, in the state s from which they began or in one that one of them told, or
--- was about to tell where it was interrupted: s with the ballots of them all whose FIM was shown, and with one more at most of each that was
--- interrupted. The frames stay.
+-- What is left behind the calls is a poll of the section again, in a state that they lead to from s: s with the ballots of them all whose
+-- FIM was shown, and with one more at most of each that was interrupted. The frames stay.
 pub record HasKept (t : TablesData) (r : RollData) (section : Section) (s : State) (start : Flashes) (sittings : List Sitting) (left : Left) : Type 0 where
   pub state : State
   pub found : AreFound t r section state (clean_flashes left.internal left.external)

@@ -79,4 +79,4 @@ returns c =
     c.in_ok-roll_text.ensures.read c.in_ok-rehearsal_keys.ensures.read (subst (λ (u : State). IsRehearsal n digest u run.0) (sym is_last) with_digest)
     (ap (λ (u : State). u.phase) is_last ∙ run_seals n t.digest last run.0 run.1)
     (c.in_ok-held.ensures.flash ∙ ap (λ (u : State). rest t (load_of t r (generated_section n)) Internal u) (sym is_last)) c.in_ok-totalled.ensures.report
-    c.in_ok-totalled.ensures.record_file c.in_ok-totalled.ensures.lines
+    c.in_ok-totalled.ensures.accepted c.in_ok-totalled.ensures.record_file c.in_ok-totalled.ensures.lines

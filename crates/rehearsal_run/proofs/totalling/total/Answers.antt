@@ -1,4 +1,4 @@
-use Rattle.std.proofs.Common.{◌≡◌, ◌∙◌, ℕ, List, length, refl, sym, ap, subst, arith}
+use Rattle.std.proofs.Common.{◌∙◌, ℕ, List, length, refl, sym, ap, subst, arith}
 use Rattle.std.specs.Prelude.{Contains}
 use Rattle.std.specs.List.{AllByRecursion}
 use Rattle.turnout.specs.Turnout.{number_came}
@@ -11,7 +11,7 @@ use Rattle.qr_text.specs.Spelling.{report_text}
 use Rattle.hash_chain.specs.Cut.{cut}
 use Rattle.section_intake.specs.Accepted.{File, IsOfSection, IsVerdictBehind, first}
 use Rattle.section_intake.specs.Intake.{accepted_files}
-use Rattle.section_intake.specs.Verdict.{IsReportFile}
+use Rattle.section_intake.specs.Verdict.{IsReportFile, IsVerdict}
 use Rattle.section_intake.specs.declared.verdict.Verdict.TheVariants as verdict
 use Rattle.result_files.specs.Reports.{report_file}
 use Rattle.result_files.proofs.Reports.{sealed_has_file, sealed_is_accepted}
@@ -57,6 +57,15 @@ rehearsal_lines-requires-clause-tables c = (c.args.tables.now.digest, c.requires
 pub returns-clause-report : goal.returns-clause-report
 returns-clause-report c =
     c.in_ok-results.ensures.report ∙ ap (λ (x : Section). report_file c.args.tables.now x c.args.state.now c.args.opened c.args.closed) c.section_of.ensures
+
+pub returns-clause-accepted : goal.returns-clause-accepted
+returns-clause-accepted c =
+    let t = c.args.tables.now in
+    let s = c.args.state.now in
+    let section = generated_section c.args.n in
+    let file = c.in_ok-results.ensures.report ∙ ap (λ (x : Section). report_file t x s c.args.opened c.args.closed) c.section_of.ensures in
+    subst (λ (bytes : List ℕ). IsVerdict t bytes (verdict.Accepted 1 1)) (sym file)
+    (sealed_is_accepted t section s c.args.opened c.args.closed c.requires.valid (section_listed c.args.n t.digest t c.requires.tables) c.requires.state c.requires.sealed).1
 
 pub returns-clause-record_file : goal.returns-clause-record_file
 returns-clause-record_file c =

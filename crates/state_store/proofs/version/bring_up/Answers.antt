@@ -1,4 +1,4 @@
-use Rattle.std.proofs.Common.{◌≡◌, ◌≢◌, ◌≤◌, inl, inr, ℕ, Bool, true, false, Option, Some, IfOk, OnOk, Result, Ok, Err, List, [], length, option_map, refl, sym, ap, subst, ◌∙◌, arith}
+use Rattle.std.proofs.Common.{◌≡◌, ◌≢◌, ◌≤◌, inl, inr, ℕ, true, false, Option, Some, IfOk, OnOk, Result, Ok, Err, List, [], length, option_map, refl, sym, ap, subst, ◌∙◌, arith}
 use Rattle.std.proofs.lemmas.Slice.Eq.{bytes_eq-Decides}
 use Rattle.std.specs.Option.{ForSome}
 use Rattle.std.specs.Str.{bytes_eq}
@@ -7,8 +7,8 @@ use Rattle.urna_outside.specs.Told.{Told, Runs}
 use Rattle.gate_slot.specs.Front.{RunsUpTo}
 use Rattle.urna_outside.proofs.Doing.{does_nothing}
 use Rattle.election_tables.specs.Limits.{most_voters}
-use Rattle.image_codec.specs.Decoded.{decoded, rank_in}
-use Rattle.image_codec.specs.Encoding.{IsEncoding, encode}
+use Rattle.image_codec.specs.Decoded.{rank_in}
+use Rattle.image_codec.specs.Encoding.{encode}
 use Rattle.image_codec.specs.Layout.{body_size}
 use Rattle.image_codec.specs.State.{rank_of}
 use Rattle.image_codec.proofs.Decoding.{decoded_back}

@@ -11,7 +11,6 @@ use Rattle.image_codec.specs.Layout.{body_size}
 use Rattle.state_store.specs.Store.{Keeps, StoreData}
 use Rattle.state_store.specs.declared.load.Load.{Load}
 use Rattle.twin_image.specs.Rewrite.{PutsAtMost, rewrite_bytes}
-use Rattle.state_store.specs.Cost.{commit_bytes}
 use Rattle.state_store.proofs.Changing.{followed_as, followed_by, followed_commits, followed_fills, followed_outranks, followed_rests, followed_stands}
 use Rattle.state_store.proofs.store.Store.commit.Goals as goal
 
