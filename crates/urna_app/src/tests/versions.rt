@@ -83,6 +83,7 @@ fn older(rt: &impl AllocGlobal, m: &Recorder, head: &[u8]) -> Result<Images, Mem
 /// The operations that bring the slots to version 2: in each two pages change, as in the commit of a voter.
 const CHANGE: u32 = 28;
 
+/// Both flashes are written, as often as in a commit. A change of version that writes the internal one alone is refused here.
 #[test]
 fn flashes_of_version_1_are_brought_to_version_2(rt: HostRuntime) -> Result<(), Fail> {
     let (_, voted) = run(&rt, VOTED, loaded(&rt, CARGA)?)?;
