@@ -2,6 +2,7 @@
 
 mod changes;
 mod confere;
+mod days;
 pub(crate) mod given;
 mod lists;
 mod polls;

@@ -106,7 +106,7 @@ M ENCERRA 20261004170000
 const DEVICE: usize = 132_608;
 
 /// Where the gates of both slots stand.
-const GATES: [usize; 2] = [512, 66_560];
+pub(crate) const GATES: [usize; 2] = [512, 66_560];
 
 /// What both devices hold.
 #[derive(Drop)]
@@ -115,7 +115,8 @@ pub(crate) struct Images {
     pub external: Vec<u8>,
 }
 
-/// What one command is given: its words, its files, and the numbers of the calls that fail.
+/// What one command is given: its words, its files, the numbers of the calls that fail, and for how many bytes that are put or shown its
+/// machine has room.
 #[derive(Clone, Copy)]
 pub(crate) struct Given<'a> {
     pub words: &'static [&'static str],
@@ -126,6 +127,7 @@ pub(crate) struct Given<'a> {
     pub list: Option<&'a [u8]>,
     pub failing: &'a [u32],
     pub failing_takes: &'a [u32],
+    pub room: u32,
 }
 
 pub(crate) const CARGA: Given = Given {
@@ -137,6 +139,7 @@ pub(crate) const CARGA: Given = Given {
     list: None,
     failing: &[],
     failing_takes: &[],
+    room: 1_500_000,
 };
 
 pub(crate) const VOTA: Given = Given {
@@ -209,17 +212,18 @@ pub(crate) fn alone(images: Images, dev: Dev) -> Images {
     }
 }
 
-/// A machine over two images, with room for some commits.
-fn machine(
+/// A machine over two images, with room for so many bytes.
+pub(super) fn machine(
     rt: &(impl Abort + AllocGlobal),
     images: Images,
+    room: u32,
     failing: &[u32],
 ) -> Result<Recorder, Memory>
     ensures { IfOk result (λ m. AreDevices (recorder_told m).sizes) }
 {
     let Images { internal, external } = images;
     assert!(rt; internal.len() == DEVICE && external.len() == DEVICE);
-    Recorder::restart(rt.alloc(), internal, external, 4_096, 1_500_000, failing)
+    Recorder::restart(rt.alloc(), internal, external, 4_096, room, failing)
 }
 
 fn place(shelf: &mut Shelf, name: &str, bytes: Option<&[u8]>) -> Result<(), Memory> {
@@ -271,7 +275,7 @@ pub(super) fn run_on(
     for word in given.words {
         words.push(String::from_str(alloc, word)?)?;
     }
-    let mut m = machine(rt, images, failing)?;
+    let mut m = machine(rt, images, given.room, failing)?;
     let status = urna(alloc, &words, &mut m, shelf);
     let has_put = shelf.get("o.bu").is_some() || shelf.get("o.rdv").is_some();
     assert!(rt; may_have_put(given.words, status) || !has_put, "{status:?}");
