@@ -1,10 +1,11 @@
-//! Calls one after another, each of which fails at an operation that a seed draws, with a power cut behind it.
+//! Calls one after another, each of which is stopped at an operation that a seed draws.
 use crate::cuts::{cut, fills};
 use crate::status::Status;
-use crate::stops::{HELD, SESSION, commit_before, is_of_port, session, told};
-use crate::tests::given::{Given, Images, LOAD, copied, left, loaded, run, run_failing};
+use crate::stops::{HELD, SESSION, operations, reached, session, told};
+use crate::tests::given::{Given, Images, LOAD, copied, left, loaded, run};
 use std::process::Abort;
 use std::test::Fail;
+use urna_outside::Recorder;
 
 const EMITE: Given = Given {
     words: &["emite", "t", "r", "o"],
@@ -23,6 +24,15 @@ struct Draws {
 }
 
 impl Draws {
+    /// The seed is spread over all bits and one number is left out, so that seeds beside each other draw even and odd numbers.
+    fn of(seed: u64) -> Draws {
+        let mut drawn = Draws {
+            state: seed.wrapping_mul(0x9E37_79B9_7F4A_7C15),
+        };
+        let _first = drawn.below(1);
+        drawn
+    }
+
     /// A number below the given one, which isn't 0.
     fn below(&mut self, many: u32) -> u32 {
         self.state = self
@@ -34,21 +44,22 @@ impl Draws {
     }
 }
 
-/// How many lines that tell a state were begun.
-fn states_begun(shown: &[u8]) -> usize {
-    shown
-        .split(|byte| *byte == b'\n')
-        .filter(|line| commit_before(line).is_some())
-        .count()
-}
-
 /// Which state of the session both images hold, by what `vota` tells.
 fn place_held(rt: &(impl Abort + AllocGlobal), images: &Images) -> Result<Option<usize>, Fail> {
     let line = told(rt, copied(rt, images)?)?;
     Ok(HELD.iter().position(|held| *held == line.as_slice()))
 }
 
-/// A command over some images fails at one of its operations: how many lines that tell a state it began, and what a power cut then leaves.
+/// How many lines that tell a state the first operations of a call begin. Before all that the lines tell come the syncs, and what a
+/// recovery writes that heals.
+fn states_begun(whole: &Recorder, ops: u32) -> usize {
+    let front = whole.trail_len().saturating_sub(operations(whole.shown()));
+    let (begun, _) = reached(whole.shown(), front, ops);
+    begun
+}
+
+/// A command over some images is stopped behind one of its operations, or before the first: how many lines that tell a state it began,
+/// and what a power cut then leaves.
 fn stopped_call(
     rt: &(impl Abort + AllocGlobal),
     drawn: &mut Draws,
@@ -56,24 +67,23 @@ fn stopped_call(
     images: Images,
     later: &Images,
 ) -> Result<(usize, Images), Fail> {
-    let (_, whole) = run(rt, given, copied(rt, &images)?)?;
-    let call = drawn.below(whole.trail_len());
-    let (status, m) = run_failing(rt, given, images, &[call])?;
+    let (status, whole) = run(rt, given, images)?;
     assert!(rt;
-        is_of_port(status) || status == Status::NotSealed,
+        status == Status::Done || status == Status::NotSealed,
         "{status:?}"
     );
+    let ops = drawn.below(whole.trail_len().saturating_add(1));
     let way = drawn.below(5) as usize;
     let Some(fill) = fills(later).get(way).copied() else {
         panic!(rt; "no such way");
     };
-    Ok((states_begun(m.shown()), cut(rt, &m, m.trail_len(), fill)?))
+    Ok((states_begun(&whole, ops), cut(rt, &whole, ops, fill)?))
 }
 
 /// Behind each call both flashes hold the state whose line it began last, or, of a session, the next; where it began none, the state that it
 /// found.
 fn check_chain(rt: &(impl Abort + AllocGlobal), seed: u64, later: &Images) -> Result<Images, Fail> {
-    let mut drawn = Draws { state: seed };
+    let mut drawn = Draws::of(seed);
     let mut images = loaded(rt, LOAD)?;
     let mut held = 0usize;
     for _ in 0..CALLS {

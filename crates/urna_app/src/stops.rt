@@ -2,8 +2,11 @@
 use crate::cuts::{cut, fills, torn};
 use crate::status::Status;
 use crate::tests::given::{
-    Given, IN_ORDER, Images, LOAD, ON, alone, copied, left, loaded, run, run_failing,
+    GATES, Given, IN_ORDER, Images, LOAD, ON, TWO_OFFICES, alone, copied, left, loaded, run,
+    run_failing,
 };
+use election_tables::Tables;
+use image_codec::{BODY_SIZE, rank_of};
 use std::process::Abort;
 use std::test::Fail;
 use urna_base::Memory;
@@ -14,6 +17,9 @@ const OPENING: u32 = 24;
 
 /// And that of a voter, which changes two.
 const COMMIT: u32 = 28;
+
+/// How many bytes that commit puts: in each of four slots two gates and two pages of 512 bytes.
+const COMMIT_BYTES: u32 = 4_104;
 
 /// The two syncs with which a session begins.
 pub(crate) const SYNCS: u32 = 2;
@@ -175,6 +181,26 @@ fn goes_on_with_one_voter(rt: &(impl Abort + AllocGlobal), images: Images) -> Re
     Ok(())
 }
 
+/// With room for one byte less its last gate isn't put; with room for just its bytes all is put, and its line isn't shown.
+#[test]
+fn the_bytes_of_a_commit(rt: HostRuntime) -> Result<(), Fail> {
+    let opened = opened(&rt)?;
+    let shown = VOTING.len() as u32;
+    for (bytes, want) in [
+        (COMMIT_BYTES - 1, Status::ExternalFlash),
+        (COMMIT_BYTES, Status::Display),
+    ] {
+        let given = Given {
+            room: shown.saturating_add(bytes),
+            ..FIRST_VOTER
+        };
+        let (status, m) = run(&rt, given, left(&rt, &opened)?)?;
+        assert_eq!(&rt; status, want);
+        assert_eq!(&rt; m.shown(), VOTING);
+    }
+    Ok(())
+}
+
 /// How many operations the commit of the state has that a line, which may be cut off, tells, if it tells one.
 pub(crate) fn commit_before(line: &[u8]) -> Option<u32> {
     if line.starts_with(b"F") {
@@ -186,9 +212,10 @@ pub(crate) fn commit_before(line: &[u8]) -> Option<u32> {
     None
 }
 
-/// How many lines that tell a state the first operations of a session show, and whether they show any.
-fn reached(shown: &[u8], ops: u32) -> (usize, bool) {
-    let mut at = SYNCS;
+/// How many lines that tell a state the first operations of a call show, and whether they show any. In front of the first line stand so
+/// many operations beside its commit.
+pub(crate) fn reached(shown: &[u8], front: u32, ops: u32) -> (usize, bool) {
+    let mut at = front;
     let mut commits = 0usize;
     let mut any = false;
     for line in shown.split(|byte| *byte == b'\n') {
@@ -205,9 +232,9 @@ fn reached(shown: &[u8], ops: u32) -> (usize, bool) {
     (commits, any)
 }
 
-/// How many operations a session has that shows these lines.
-fn operations(shown: &[u8]) -> u32 {
-    let mut count = SYNCS;
+/// How many operations these lines are, each with the commit before it.
+pub(crate) fn operations(shown: &[u8]) -> u32 {
+    let mut count = 0u32;
     for line in shown.split(|byte| *byte == b'\n') {
         if !line.is_empty() {
             let commit = commit_before(line).unwrap_or(0);
@@ -215,6 +242,58 @@ fn operations(shown: &[u8]) -> u32 {
         }
     }
     count
+}
+
+/// The voters of the section, and where a body begins behind its gate.
+const VOTERS: u32 = 3;
+
+const FRONT: usize = 512;
+
+/// The rank of the state in the slot of an image whose gate stands there, if the gate is open and the body a state's.
+fn rank_at(tables: &Tables, image: &[u8], gate: usize) -> Option<u32> {
+    if image.get(gate) != Some(&0xA5) {
+        return None;
+    }
+    let body = gate.saturating_add(FRONT);
+    let bytes = image.get(body..body.saturating_add(BODY_SIZE))?;
+    rank_of(tables, VOTERS, bytes)
+}
+
+/// The greatest rank in the slots of an image.
+fn greatest_rank(tables: &Tables, image: &[u8]) -> Option<u32> {
+    let [first, second] = GATES;
+    rank_at(tables, image, first).max(rank_at(tables, image, second))
+}
+
+/// Whether a rank is that of the state of that number, or of the next. The states of the session have the ranks 0 to 5 in their order.
+fn is_one_of(rank: Option<u32>, commits: usize) -> bool {
+    let Some(rank) = rank else {
+        return false;
+    };
+    let number = rank as usize;
+    number == commits || number == commits.saturating_add(1)
+}
+
+/// What is left, by the ranks of the bodies in the open slots, which no recovery has looked at: what `check_left` says.
+fn check_ranks(
+    rt: &(impl Abort + AllocGlobal),
+    tables: &Tables,
+    images: &Images,
+    seen: (usize, bool),
+    ops: u32,
+) -> Result<(), Fail> {
+    let internal = greatest_rank(tables, &images.internal);
+    let external = greatest_rank(tables, &images.external);
+    let both = internal.max(external);
+    let (commits, any) = seen;
+    if !any {
+        assert!(rt; both == Some(0), "after {ops}: {both:?}");
+        return Ok(());
+    }
+    for rank in [internal, external, both] {
+        assert!(rt; is_one_of(rank, commits), "after {ops}: {rank:?}");
+    }
+    Ok(())
 }
 
 /// Whether `vota` tells over these images the state of that number, or the next.
@@ -229,15 +308,18 @@ fn tells_one_of(
     Ok(Some(line.as_slice()) == one || Some(line.as_slice()) == next)
 }
 
-/// What is left after some operations of a session: where nothing is shown both flashes tell the state from which it began, and else
-/// both, and each alone, the state that was shown last, or the next.
+/// What is left after some operations of a session, by ranks and by what `vota` tells: where nothing is shown both flashes hold the state from
+/// which it began, and else both, and each alone, the state that was shown last, or the next.
 fn check_left(
     rt: &(impl Abort + AllocGlobal),
+    tables: &Tables,
     images: Images,
     shown: &[u8],
     ops: u32,
 ) -> Result<(), Fail> {
-    let (commits, any) = reached(shown, ops);
+    let seen = reached(shown, SYNCS, ops);
+    check_ranks(rt, tables, &images, seen, ops)?;
+    let (commits, any) = seen;
     if !any {
         assert!(rt; told(rt, images)?.as_slice() == HELD[0], "after {ops}");
         return Ok(());
@@ -259,12 +341,13 @@ fn check_left(
 /// The same over each way to fill dirty bytes.
 fn check_stop(
     rt: &(impl Abort + AllocGlobal),
+    tables: &Tables,
     m: &Recorder,
     ops: u32,
     later: &Images,
 ) -> Result<(), Fail> {
     for fill in fills(later) {
-        check_left(rt, cut(rt, m, ops, fill)?, m.shown(), ops)?;
+        check_left(rt, tables, cut(rt, m, ops, fill)?, m.shown(), ops)?;
     }
     Ok(())
 }
@@ -280,20 +363,62 @@ pub(crate) fn session(rt: &(impl Abort + AllocGlobal)) -> Result<(Recorder, Imag
 /// A session is stopped after each operation. One that commits but once at its end, or shows FIM after one flash, is refused here.
 #[test]
 fn each_stop_of_a_session(rt: HostRuntime) -> Result<(), Fail> {
+    let tables = Tables::read(rt.alloc(), TWO_OFFICES)?;
     let (m, sealed) = session(&rt)?;
-    assert_eq!(&rt; m.trail_len(), operations(m.shown()));
+    assert_eq!(&rt; m.trail_len(), SYNCS.saturating_add(operations(m.shown())));
     for ops in 0..=m.trail_len() {
-        check_stop(&rt, &m, ops, &sealed)?;
+        check_stop(&rt, &tables, &m, ops, &sealed)?;
     }
     Ok(())
 }
 
-/// Whether a status is that of a flash or of the display that failed.
-pub(crate) fn is_of_port(status: Status) -> bool {
-    matches!(
-        status,
-        Status::InternalFlash | Status::ExternalFlash | Status::Display
-    )
+/// Whose the calls of a session are in turn before its first line, where nothing is to be healed: each sync, the reads of each frame, those
+/// of the gates and bodies of each flash, and the same where its slots are taken over.
+const FIRST_CALLS: [(Status, u32); 8] = [
+    (Status::InternalFlash, 1),
+    (Status::ExternalFlash, 1),
+    (Status::InternalFlash, 4),
+    (Status::ExternalFlash, 3),
+    (Status::InternalFlash, 4),
+    (Status::ExternalFlash, 4),
+    (Status::InternalFlash, 4),
+    (Status::ExternalFlash, 4),
+];
+
+/// The flash of a call before the first line, if there is one of that number.
+fn flash_of_first(call: u32) -> Option<Status> {
+    let mut end = 0u32;
+    for (flash, calls) in FIRST_CALLS {
+        end = end.saturating_add(calls);
+        if call < end {
+            return Some(flash);
+        }
+    }
+    None
+}
+
+/// The flash on which a session went on that failed in the commit before its next line: in the first half of it the internal one. A page of
+/// which half was put is an operation too, and the one behind it is of the same flash.
+fn flash_of_commit(whole: &Recorder, m: &Recorder) -> Option<Status> {
+    let commit = commit_before(whole.shown().get(m.shown().len()..)?)?;
+    let before = SYNCS.saturating_add(operations(m.shown()));
+    if m.trail_len().saturating_sub(before) < commit / 2 {
+        Some(Status::InternalFlash)
+    } else {
+        Some(Status::ExternalFlash)
+    }
+}
+
+/// The status of the port of a call that failed: the display's where a line is cut off.
+fn status_of_call(whole: &Recorder, m: &Recorder, call: u32) -> Option<Status> {
+    let is_cut = m.shown().last().is_some_and(|byte| *byte != b'\n');
+    if is_cut {
+        Some(Status::Display)
+    } else if m.shown().is_empty() {
+        flash_of_first(call)
+    } else {
+        flash_of_commit(whole, m)
+    }
 }
 
 /// Whether nothing more is done where the next call fails too: so there is none.
@@ -308,27 +433,11 @@ fn is_last_call(rt: &(impl Abort + AllocGlobal), m: &Recorder, call: u32) -> Res
     )
 }
 
-/// A call of a session failed: its port is answered, the display's where a line is cut off, what is shown is a front of the session's
-/// text, and what is left is as after a stop.
-fn check_fault(
-    rt: &(impl Abort + AllocGlobal),
-    whole: &Recorder,
-    m: &Recorder,
-    status: Status,
-    later: &Images,
-) -> Result<(), Fail> {
-    let is_cut = m.shown().last().is_some_and(|byte| *byte != b'\n');
-    assert!(rt;
-        is_of_port(status) && (status == Status::Display) == is_cut,
-        "{status:?}"
-    );
-    assert!(rt; whole.shown().starts_with(m.shown()));
-    check_stop(rt, m, m.trail_len(), later)
-}
-
-/// Each call of a session fails once, and is the last. One that always answers want of memory is refused here.
+/// Each call of a session fails once, and is the last: its port is answered, what is shown is a front of the session's text, and what is left
+/// is as after a stop. One that always answers want of memory is refused here.
 #[test]
 fn each_call_of_a_session_fails_once(rt: HostRuntime) -> Result<(), Fail> {
+    let tables = Tables::read(rt.alloc(), TWO_OFFICES)?;
     let (whole, sealed) = session(&rt)?;
     for call in 0..1_000 {
         let (status, m) = run_failing(&rt, SESSION, loaded(&rt, LOAD)?, &[call])?;
@@ -337,7 +446,10 @@ fn each_call_of_a_session_fails_once(rt: HostRuntime) -> Result<(), Fail> {
             assert!(&rt; call >= whole.trail_len(), "call {call}");
             return Ok(());
         }
-        check_fault(&rt, &whole, &m, status, &sealed)?;
+        let port = status_of_call(&whole, &m, call);
+        assert!(&rt; port == Some(status), "call {call}: {status:?}");
+        assert!(&rt; whole.shown().starts_with(m.shown()), "call {call}");
+        check_stop(&rt, &tables, &m, m.trail_len(), &sealed)?;
         assert!(&rt; is_last_call(&rt, &m, call)?, "call {call}");
     }
     panic!(&rt; "a call always failed");
@@ -378,6 +490,7 @@ fn torn_at(rt: &impl AllocGlobal, new: &[u8], old: &[u8], at: usize) -> Result<V
 /// The next operation is stopped where it has put the bytes up to a place.
 #[test]
 fn a_session_stopped_inside_each_page(rt: HostRuntime) -> Result<(), Fail> {
+    let tables = Tables::read(rt.alloc(), TWO_OFFICES)?;
     let (m, _) = session(&rt)?;
     for ops in SYNCS..m.trail_len() {
         let old = torn(&rt, &m, ops, Tear::AsPut)?;
@@ -387,7 +500,7 @@ fn a_session_stopped_inside_each_page(rt: HostRuntime) -> Result<(), Fail> {
                 internal: torn_at(&rt, &new.internal, &old.internal, at)?,
                 external: torn_at(&rt, &new.external, &old.external, at)?,
             };
-            check_left(&rt, images, m.shown(), ops)?;
+            check_left(&rt, &tables, images, m.shown(), ops)?;
         }
     }
     Ok(())
