@@ -1,4 +1,4 @@
-/* For bench/run: each sync takes a tenth of a millisecond or more, as on a flash that is slower than the disk here. */
+/* For bench/run: each sync takes a tenth of a millisecond or more, as on a flash that is slower than the disk. */
 #define _GNU_SOURCE
 #include <sys/syscall.h>
 #include <time.h>
