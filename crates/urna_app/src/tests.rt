@@ -1,12 +1,61 @@
-//! Commands one after another over machines in memory, each started again on what the last one left.
+//! The program's words, and its status.
+use crate::run_program;
+use crate::words::words;
+use std::env::{Env, FillError};
+use std::process::ExitCode;
+use std::test::Fail;
+use urna_commands::Status;
 
-mod changes;
-mod confere;
-mod days;
-pub(crate) mod given;
-mod lists;
-mod polls;
-mod refused;
-mod rehearsals;
-mod results;
-mod versions;
+/// A system whose program was given these arguments, its name first.
+#[derive(Drop)]
+struct Given(&'static [&'static [u8]]);
+
+impl Env for Given {
+    fn arg(&self, i: usize, buf: &mut [u8]) -> Result<usize, FillError> {
+        let Some(word) = self.0.get(i) else {
+            return Err(FillError::NotPresent);
+        };
+        if word.len() > buf.len() {
+            return Err(FillError::TooLong);
+        }
+        buf[..word.len()].copy_from_slice(word);
+        Ok(word.len())
+    }
+
+    fn var(&self, _name: &str, _buf: &mut [u8]) -> Result<usize, FillError> {
+        Err(FillError::NotPresent)
+    }
+
+    fn var_at(&self, _i: usize, _buf: &mut [u8]) -> Result<usize, FillError> {
+        Err(FillError::NotPresent)
+    }
+}
+
+#[test]
+fn words_are_those_after_the_name_where_each_is_text(rt: HostRuntime) -> Result<(), Fail> {
+    let rows: [(&'static [&'static [u8]], &'static [&'static str]); 5] = [
+        (&[b"urna", b"carga", b"t"], &["carga", "t"]),
+        (&[b"\xff", b"carga", b"t"], &["carga", "t"]),
+        (&[b"urna", b"carga", b"\xff"], &[]),
+        (&[b"urna"], &[]),
+        (&[], &[]),
+    ];
+    for (given, told) in rows {
+        let found = words(rt.alloc(), &Given(given))?;
+        assert_eq!(rt; found.len(), told.len(), "{given:?}");
+        for (word, text) in found.iter().zip(told) {
+            assert_eq!(rt; word.as_str(), *text, "{given:?}");
+        }
+    }
+    Ok(())
+}
+
+/// The words of a test's program are no command.
+#[test]
+fn the_program_ends_with_the_status_of_its_command(rt: HostRuntime) -> Result<(), Fail> {
+    let ended = format!(in rt.alloc(); "{:?}", run_program(&rt))?;
+    let usage = format!(in rt.alloc(); "{:?}", ExitCode::from(Status::Usage.code()))?;
+    assert_eq!(rt; ended, usage);
+    assert!(rt; Status::Usage.code() != 0);
+    Ok(())
+}

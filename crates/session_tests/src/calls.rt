@@ -1,0 +1,185 @@
+//! A command over a machine and a cabinet in memory, and what it shows.
+ghost use Rattle.urna_outside.specs.Recorder.{recorder_told};
+ghost use Rattle.state_store.specs.Store.{AreDevices};
+
+use crate::flashes::{Flashes, machine};
+use crate::halt::Halt;
+use crate::papers::{Paper, cabinet_of};
+use crate::stage::Faults;
+use crate::watched::Watched;
+use std::alloc::Global;
+use std::str;
+use urna_commands::urna;
+use urna_outside::Recorder;
+
+/// The file that the keys of a session are.
+const KEYS: &str = "k";
+
+/// A command: its words, and the keys of a session, which are the file `KEYS`.
+#[derive(Drop)]
+pub(crate) struct Call {
+    pub words: String,
+    pub keys: Option<String>,
+}
+
+/// A command that has ended: its number, its machine, the files that it put, and whether another file isn't as it was given.
+#[derive(Drop)]
+pub(crate) struct Ran {
+    pub code: u8,
+    pub machine: Recorder,
+    pub made: Vec<Paper>,
+    pub spoiled: bool,
+}
+
+fn words_of(alloc: Global, line: &str) -> Result<Vec<String>, Halt> {
+    let mut words = Vec::new(alloc);
+    if !line.is_empty() {
+        for word in line.split(' ') {
+            words.push(String::from_str(alloc, word)?)?;
+        }
+    }
+    Ok(words)
+}
+
+/// The number with which `urna` ends.
+fn answer(alloc: Global, words: &[String], machine: &mut Recorder, cabinet: &mut Watched) -> u8
+    requires { AreDevices (recorder_told machine.old).sizes }
+{
+    urna(alloc, words, machine, cabinet).code()
+}
+
+/// The files that were put, in their order.
+fn made_of(alloc: Global, cabinet: &Watched) -> Result<Vec<Paper>, Halt> {
+    let mut made = Vec::new(alloc);
+    for name in &cabinet.puts {
+        if let Some(bytes) = cabinet.shelf.get(name) {
+            made.push(Paper {
+                name: name.clone()?,
+                bytes: bytes.to_vec(alloc)?,
+            })?;
+        }
+    }
+    Ok(made)
+}
+
+/// Whether a file that was given isn't as it was, but for those that the command has put, and for the keys of a session, which are its own.
+fn is_spoiled(cabinet: &Watched, papers: &[Paper], is_session: bool) -> bool {
+    papers.iter().any(|paper| {
+        let is_other = is_session && paper.name.as_str() == KEYS
+            || cabinet.puts.iter().any(|name| *name == paper.name);
+        !is_other && cabinet.shelf.get(&paper.name) != Some(paper.bytes.as_slice())
+    })
+}
+
+/// The command over these files and flashes, with these faults.
+pub(crate) fn run(
+    alloc: Global,
+    papers: &[Paper],
+    faults: &Faults,
+    call: &Call,
+    flashes: Flashes,
+) -> Result<Ran, Halt> {
+    let words = words_of(alloc, &call.words)?;
+    let mut cabinet = cabinet_of(alloc, papers, &faults.cabinet)?;
+    if let Some(keys) = &call.keys {
+        cabinet.shelf.place(KEYS, keys.as_bytes())?;
+    }
+    let mut machine = machine(alloc, flashes, faults)?;
+    let code = answer(alloc, &words, &mut machine, &mut cabinet);
+    if cabinet.lost {
+        return Err(Halt::Memory);
+    }
+    let made = made_of(alloc, &cabinet)?;
+    let spoiled = is_spoiled(&cabinet, papers, call.keys.is_some());
+    Ok(Ran {
+        code,
+        machine,
+        made,
+        spoiled,
+    })
+}
+
+/// A session of the section with these keys.
+pub(crate) fn session_of(alloc: Global, keys: String) -> Result<Call, Halt> {
+    Ok(Call {
+        words: String::from_str(alloc, "vota t r k o")?,
+        keys: Some(keys),
+    })
+}
+
+/// What a machine has shown.
+pub(crate) fn shown(m: &Recorder) -> Result<&str, Halt> {
+    match str::from_utf8(m.shown()) {
+        Ok(text) => Ok(text),
+        Err(_) => Err(Halt::Script),
+    }
+}
+
+/// How the lines that come of a line of a script begin.
+const INDENT: &str = "    ";
+
+/// Prints a text, each of its lines four places in.
+pub(crate) fn say(out: &mut String, text: &str) -> Result<(), Halt> {
+    for line in text.lines() {
+        out.push_str(INDENT)?;
+        out.push_str(line)?;
+        out.push_str("\n")?;
+    }
+    Ok(())
+}
+
+/// Prints a text of whole lines. Where the last one has no line feed, `…` stands behind it.
+pub(crate) fn say_whole(alloc: Global, text: &str, out: &mut String) -> Result<(), Halt> {
+    if text.is_empty() || text.ends_with("\n") {
+        return say(out, text);
+    }
+    say(out, &format!(in alloc; "{text}…")?)
+}
+
+/// What a command has done to files: each that it has put, and whether it has changed another one.
+fn told_files(alloc: Global, ran: &Ran) -> Result<String, Halt> {
+    let mut text = String::new(alloc);
+    for paper in &ran.made {
+        text.push_str(&format!(in alloc; "+ {}\n", paper.name)?)?;
+    }
+    if ran.spoiled {
+        text.push_str("! a file that was given\n")?;
+    }
+    Ok(text)
+}
+
+/// Puts what a command has done to files behind a text, in one line.
+pub(crate) fn push_files(alloc: Global, text: &mut String, ran: &Ran) -> Result<(), Halt> {
+    for line in told_files(alloc, ran)?.lines() {
+        text.push_str(", ")?;
+        text.push_str(line)?;
+    }
+    Ok(())
+}
+
+/// Prints what a command has shown behind what it had shown before, its number where it isn't 0, and what it has done to files. Where it
+/// shows other text than before, all of it is printed.
+pub(crate) fn say_ran(
+    alloc: Global,
+    ran: &Ran,
+    before: &str,
+    out: &mut String,
+) -> Result<(), Halt> {
+    let text = shown(&ran.machine)?;
+    match text.strip_prefix(before) {
+        Some(more) => say_whole(alloc, more, out)?,
+        None => {
+            say(out, "! other text than before")?;
+            say_whole(alloc, text, out)?;
+        }
+    }
+    say_end(alloc, ran, out)
+}
+
+/// Prints the number of a command where it isn't 0, and what it has done to files.
+pub(crate) fn say_end(alloc: Global, ran: &Ran, out: &mut String) -> Result<(), Halt> {
+    if ran.code != 0 {
+        say(out, &format!(in alloc; "= {}", ran.code)?)?;
+    }
+    say(out, &told_files(alloc, ran)?)
+}

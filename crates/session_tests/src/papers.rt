@@ -1,0 +1,85 @@
+//! The files that a command is given.
+use crate::halt::Halt;
+use crate::watched::Watched;
+use std::alloc::Global;
+use urna_base::Memory;
+use urna_outside::Shelf;
+
+/// A file of the cabinet.
+#[derive(Drop)]
+pub(crate) struct Paper {
+    pub name: String,
+    pub bytes: Vec<u8>,
+}
+
+/// For how many bytes that are put a cabinet has room: the files of results and of a rehearsal.
+const SHELF_ROOM: u32 = 300_000;
+
+/// A cabinet with these files, of which the calls of these numbers fail.
+pub(crate) fn cabinet_of(
+    alloc: Global,
+    papers: &[Paper],
+    failing: &[u32],
+) -> Result<Watched, Memory> {
+    let mut shelf = Shelf::new(alloc, SHELF_ROOM, failing)?;
+    for paper in papers {
+        shelf.place(&paper.name, &paper.bytes)?;
+    }
+    Ok(Watched {
+        shelf,
+        alloc,
+        puts: Vec::new(alloc),
+        lost: false,
+    })
+}
+
+/// The place of the file of that name.
+fn find(papers: &[Paper], name: &str) -> Option<usize> {
+    papers.iter().position(|paper| paper.name.as_str() == name)
+}
+
+/// Takes a file away, if it is there.
+pub(crate) fn remove(papers: &mut Vec<Paper>, name: &str) {
+    if let Some(place) = find(papers, name) {
+        if place < papers.len() {
+            let _paper = papers.remove(place);
+        }
+    }
+}
+
+/// Places a file, in the stead of one of the same name.
+pub(crate) fn place(
+    alloc: Global,
+    papers: &mut Vec<Paper>,
+    name: &str,
+    bytes: Vec<u8>,
+) -> Result<(), Halt> {
+    remove(papers, name);
+    papers.push(Paper {
+        name: String::from_str(alloc, name)?,
+        bytes,
+    })?;
+    Ok(())
+}
+
+/// The bytes of the file of that name.
+pub(crate) fn bytes_of<'a>(papers: &'a [Paper], name: &str) -> Result<&'a [u8], Halt> {
+    for paper in papers {
+        if paper.name.as_str() == name {
+            return Ok(&paper.bytes);
+        }
+    }
+    Err(Halt::Script)
+}
+
+/// Lines that stand in one, with ` / ` between them.
+pub(crate) fn lines_of(alloc: Global, text: &str) -> Result<Vec<u8>, Halt> {
+    let mut bytes = Vec::new(alloc);
+    if !text.is_empty() {
+        for line in text.split(" / ") {
+            bytes.extend_from_slice(line.as_bytes())?;
+            bytes.push(b'\n')?;
+        }
+    }
+    Ok(bytes)
+}

@@ -1,0 +1,77 @@
+//! Texts that come one after another, of which equal ones are printed as one.
+use crate::calls::say;
+use crate::halt::Halt;
+use std::alloc::Global;
+
+/// Lines of which those that say the same are printed as one, with the numbers of the first and the last of them.
+#[derive(Drop)]
+pub(crate) struct Runs {
+    first: u32,
+    next: u32,
+    text: String,
+}
+
+impl Runs {
+    pub(crate) fn new(alloc: Global) -> Runs {
+        Runs {
+            first: 0,
+            next: 0,
+            text: String::new(alloc),
+        }
+    }
+
+    /// Prints the lines that were added last.
+    pub(crate) fn say(&self, alloc: Global, out: &mut String) -> Result<(), Halt> {
+        if self.first == self.next {
+            return Ok(());
+        }
+        let (first, last) = (self.first, self.next.saturating_sub(1));
+        let line = format!(in alloc; "{first} to {last}: {}", self.text)?;
+        say(out, &line)
+    }
+
+    pub(crate) fn add(
+        &mut self,
+        alloc: Global,
+        text: String,
+        out: &mut String,
+    ) -> Result<(), Halt> {
+        if text != self.text {
+            self.say(alloc, out)?;
+            self.first = self.next;
+            self.text = text;
+        }
+        self.next = self.next.saturating_add(1);
+        Ok(())
+    }
+}
+
+/// What is told one way after another, of which only what isn't told of the way before is kept.
+#[derive(Drop)]
+pub(crate) struct Ways {
+    pub text: String,
+    before: String,
+}
+
+impl Ways {
+    pub(crate) fn new(alloc: Global) -> Ways {
+        Ways {
+            text: String::new(alloc),
+            before: String::new(alloc),
+        }
+    }
+
+    pub(crate) fn add(&mut self, way: &str, told: String) -> Result<(), Halt> {
+        if told == self.before {
+            return Ok(());
+        }
+        if !self.text.is_empty() {
+            self.text.push_str(" | from ")?;
+            self.text.push_str(way)?;
+            self.text.push_str(" on ")?;
+        }
+        self.text.push_str(&told)?;
+        self.before = told;
+        Ok(())
+    }
+}

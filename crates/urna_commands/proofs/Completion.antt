@@ -1,0 +1,454 @@
+-- Where a call has what it needs, each other ending shows a fault
+use Rattle.std.proofs.Common.{◌≡◌, ◌⊎◌, inl, inr, false, ℕ, zero, suc, ◌+◌, ◌≤◌, List, [], ◌∷◌, length, Option, None, Some, refl, sym, ap, subst, ◌∙◌}
+use Rattle.urna_outside.specs.Cabinet.{CabinetTold, Entry, Files, Tally}
+use Rattle.urna_outside.specs.Flash.{Flashes}
+use Rattle.urna_outside.specs.Told.{Faults, Rose, Told, faults_of, port_of}
+use Rattle.urna_outside.specs.declared.device.Dev.{Dev}
+use Rattle.urna_outside.specs.declared.device.Dev.TheVariants as dev
+use Rattle.urna_outside.specs.declared.device.Port.{Port}
+use Rattle.urna_outside.specs.declared.device.Port.TheVariants.{Internal, External, Display}
+use Rattle.election_tables.specs.Limits.{most_voters}
+use Rattle.election_tables.specs.Roll.{IsRoll, RollData}
+use Rattle.election_tables.specs.TablesData.{IsTables, TablesData}
+use Rattle.election_tables.specs.declared.tables.sections.Section.{Section}
+use Rattle.election_tables.proofs.Determined.{roll_is}
+use Rattle.key_script.specs.Laws.{OneListAnswers}
+use Rattle.key_script.specs.declared.keys.Event.{Event}
+use Rattle.image_codec.specs.State.{State}
+use Rattle.section_intake.specs.declared.verdict.Verdict.{Verdict}
+use Rattle.section_intake.specs.declared.verdict.Verdict.TheVariants as verdict
+use Rattle.state_store.specs.Calls.{AreFound, FailsToLoad, FailsToPeek}
+use Rattle.state_store.specs.Held.{HeldByNone, IsForeign}
+use Rattle.state_store.specs.Laws.{HeldIsDecoded, LoadedOrForeign}
+use Rattle.state_store.specs.declared.store.LoadError.{LoadError}
+use Rattle.state_store.specs.declared.store.LoadError.TheVariants as load
+use Rattle.state_store.specs.declared.store.StoreError.{StoreError}
+use Rattle.state_store.specs.declared.store.StoreError.TheVariants as store
+use Rattle.station.specs.Start.{FailsToStart}
+use Rattle.station.specs.declared.station.StartError.{StartError}
+use Rattle.station.specs.declared.station.StartError.TheVariants as start
+use Rattle.urna_commands.specs.Carga.{CargaEnds, IsSectionAsked, load_no_cabinet, load_no_memory, load_refused, loaded, no_section, not_loaded, not_told}
+use Rattle.urna_commands.specs.Command.{Carga, Command, Confere, Emite, ToCheck, ToEmit, ToLoad, ToRehearse, ToTotal, ToVote, Totaliza, Vota, command_of}
+use Rattle.urna_commands.specs.Completion.{CanCheck, CanEmit, CanLoad, CanTotal, CanVote, IsByVerdicts, CanDo, Completes, CompletesWhereItCan, IsDoneOrMemory, TellsOfRisenCounts, tells_of_count}
+use Rattle.urna_commands.specs.Confere.{ConfereEnds, check_no_cabinet, check_no_memory, check_not_told, check_refused, checked}
+use Rattle.urna_commands.specs.Documents.{HasDocuments, IsBad, IsFault, IsFirstFault, bad, count, first_other, first_tables, lacks, line, longer, name_line, no_document, roll_line, rule}
+use Rattle.urna_commands.specs.Emite.{EmiteEnds, emit_no_cabinet, emit_no_memory, emit_refused, emitted, files_stopped, no_files, not_emitted, not_found, not_sealed}
+use Rattle.urna_commands.specs.Ending.{CommandEnds}
+use Rattle.urna_commands.specs.Ensaio.{EnsaioEnds, not_rehearsed, rehearsal_files, rehearsal_not_put, rehearsal_not_told, rehearsed}
+use Rattle.urna_commands.specs.Errors.{load_status, port_status, start_status, store_status}
+use Rattle.urna_commands.specs.FaultLines.{Tells, fault_text}
+use Rattle.urna_commands.specs.Laws.{FoundOnce}
+use Rattle.urna_commands.specs.Putting.{PutsResults, StopPutting, no_results, result_files, results_not_made, results_not_put, results_put}
+use Rattle.urna_commands.specs.Taking.{HasTaken}
+use Rattle.urna_commands.specs.Totaliza.{HasOffered, IsListed, TotalizaEnds, list_no_cabinet, list_no_memory, list_refused, refused_count, refused_status, report_no_cabinet, report_no_memory, report_refused, totalled, totals_not_told, verdict_not_told}
+use Rattle.urna_commands.specs.Verdicts.{verdict_status}
+use Rattle.urna_commands.specs.Vota.{HasVotedTo, IsGiven, IsRefused, VotaEnds, cut, documents, keys, no_cabinet, no_memory, not_started, refused, session_held}
+use Rattle.urna_commands.specs.declared.status.Doc.{Doc}
+use Rattle.urna_commands.specs.declared.status.Doc.TheVariants as doc
+use Rattle.urna_commands.specs.declared.status.Status.{Status}
+use Rattle.urna_commands.specs.declared.status.Status.TheVariants as status
+use Rattle.urna_commands.proofs.Once.{refused_or_documents, refused_or_given, refused_or_listed, report_not_fault, same_names, same_roll, same_tables, tables_not_fault}
+use Rattle.urna_commands.proofs.Totals.{none_at_fault}
+use Rattle.urna_commands.proofs.Endings.{ends_as}
+
+-- ---- faults
+
+-- a status of a port has no line
+pub port_silent : (p : Port) (b n : Told) → Tells (fault_text (port_status p)) b n → n ≡ b
+port_silent Internal b n h = h
+port_silent External b n h = h
+port_silent Display b n h = h
+
+-- whatever the status says, no port failed before its line
+abbrev pub Calm : Status → Told → Told → Type 0
+Calm s m b = (p : Port) → s ≡ port_status p → Rose (faults_of p m.faults) (faults_of p b.faults) → ⊥
+
+pub calm : (s : Status) (m b n : Told) → ((p : Port) → ¬ Rose (faults_of p m.faults) (faults_of p n.faults)) → Tells (fault_text s) b n → Calm s m b
+calm s m b n none told p is rose =
+    let no_line = subst (λ (x : Status). Tells (fault_text x) b n) is told in
+    none p (subst (λ (x : Told). Rose (faults_of p m.faults) (faults_of p x.faults)) (sym (port_silent p b n no_line)) rose)
+
+-- a count that rose since a later moment rose since an earlier one where no call failed between
+since : (p : Port) (m between b : Told) → between.faults ≡ m.faults → Rose (faults_of p between.faults) (faults_of p b.faults)
+    → Rose (faults_of p m.faults) (faults_of p b.faults)
+since p m between b same rose = subst (λ (f : Faults). Rose (faults_of p f) (faults_of p b.faults)) same rose
+
+-- where a file was not put, the cabinet's count rose
+stopped_rose : (files : List Entry) (c d : CabinetTold) → StopPutting files c d → Rose c.tally.faults d.tally.faults
+stopped_rose [] c d h = absurd h
+stopped_rose (file ∷ files) c d (inl fails) = fails.counts.faults.rose
+stopped_rose (file ∷ files) c d (inr (between, put, rest)) =
+    subst (λ (tally : Tally). Rose tally.faults d.tally.faults) put.counts (stopped_rose files between d rest)
+
+-- ---- what is found on the flashes
+
+-- flashes that hold a poll are not foreign, and some slot stands
+not_missed : LoadedOrForeign → HeldIsDecoded → (t : TablesData) (r : RollData) → IsTables t → IsRoll r → {section : Section} {s : State} (flashes : Flashes)
+    → AreFound t r section s flashes
+    → ((d : Dev) → IsForeign t r d flashes.internal.content flashes.external.content → ⊥)
+    × (HeldByNone t (length r.titles) flashes.internal.content flashes.external.content → ⊥)
+not_missed either decoded t r valid roll {section} {s} flashes found =
+    let few : length r.titles ≤ most_voters = roll.count.1 in
+    let answers = (decoded t (length r.titles) flashes.internal.content flashes.external.content valid few).0 in (
+      λ d h. either t r section d flashes.internal.content flashes.external.content valid found.loaded h,
+      λ none. let some = (answers.0 s).0 found.held in let nothing = answers.1.0 none in absurd (cc),
+    )
+
+-- ---- vota
+
+-- a station that doesn't start
+starts : LoadedOrForeign → HeldIsDecoded → (t : TablesData) (r : RollData) → IsTables t → IsRoll r → {section : Section} {s : State} (flashes : Flashes)
+    → AreFound t r section s flashes → (m b : Told) → m.flashes ≡ Some flashes → (e : StartError) → Calm (start_status e) m b
+    → FailsToStart t r m b e → IsDoneOrMemory (start_status e)
+starts either decoded t r valid roll flashes found m b told start.Memory calm h = inr refl
+starts either decoded t r valid roll flashes found m b told (start.Port Internal) calm h = absurd (calm Internal refl h.0.faults.rose)
+starts either decoded t r valid roll flashes found m b told (start.Port External) calm h = absurd (calm External refl h.0.faults.rose)
+starts either decoded t r valid roll flashes found m b told (start.Port Display) calm h =
+    absurd (calm Display refl (since Display m h.between b h.recovered.fine.faults h.stopped.fault.faults.rose))
+starts either decoded t r valid roll flashes found m b told (start.Foreign d) calm h =
+    absurd ((not_missed either decoded t r valid roll flashes found).0 d (h.1 flashes told))
+starts either decoded t r valid roll flashes found m b told start.NoImage calm h =
+    absurd ((not_missed either decoded t r valid roll flashes found).1 ((h.1.2 flashes told).1))
+
+-- a session that was cut off
+voted_rose : (t : TablesData) (r : RollData) (es : List Event) (p : Port) (m b : Told) → HasVotedTo t r es p m b
+    → Rose (faults_of p m.faults) (faults_of p b.faults)
+voted_rose t r es p m b h =
+    since p m h.between b (h.opens.shown.fine.faults ∙ h.opens.recovered.fine.faults) h.stopped.fault.faults.rose
+
+-- files of results that are to be put
+put_ends : (out : List ℕ) (t : TablesData) (section : Section) (u : State) (c d : CabinetTold) (s : Status) → ¬ Rose c.tally.faults d.tally.faults
+    → PutsResults out t section u c d s → IsDoneOrMemory s
+put_ends out t section u c d s none (no_results unsealed same) = inl refl
+put_ends out t section u c d s none (results_put sealed put) = inl refl
+put_ends out t section u c d s none (results_not_made sealed same) = inr refl
+put_ends out t section u c d s none (results_not_put {opened} {closed} sealed stop) =
+    absurd (none (stopped_rose (result_files out t section u opened closed) c d stop))
+
+pub vota_completes : LoadedOrForeign → HeldIsDecoded → (names : Vota) (c d : CabinetTold) (m b : Told) (s : Status) (files : Files) (flashes : Flashes)
+    → c.files ≡ Some files → ¬ Rose c.tally.faults d.tally.faults → Calm s m b → m.flashes ≡ Some flashes → CanVote names (Some files) flashes
+    → VotaEnds names c d m b s → IsDoneOrMemory s
+vota_completes either decoded names c d m b s files flashes told none calm flashes_told can (refused h taken untouched) =
+    absurd (refused_or_given files names s can.t can.r can.es (subst (λ (f : Option Files). IsRefused f names s) told h) can.given)
+vota_completes either decoded names c d m b s files flashes told none calm flashes_told can (no_memory taken untouched) = inr refl
+vota_completes either decoded names c d m b s files flashes told none calm flashes_told can (no_cabinet taken untouched) =
+    absurd (none taken.counts.faults.rose)
+vota_completes either decoded names c d m b s files flashes told none calm flashes_told can (not_started {t} {r} {es} e given taken fails) =
+    let found = subst (λ (f : Option Files). IsGiven f names t r es) told given in
+    let tables = same_tables files names.tables t can.t found.tables can.given.tables in
+    let roll = same_roll files names.roll r can.r found.roll can.given.roll in
+    let same = subst (λ (x : RollData). FailsToStart can.t x m b e) roll (subst (λ (x : TablesData). FailsToStart x r m b e) tables fails) in
+    starts either decoded can.t can.r can.given.tables.valid (roll_is can.given.roll.bytes can.r can.given.roll.read) flashes can.found m b flashes_told e calm
+    same
+vota_completes either decoded names c d m b s files flashes told none calm flashes_told can (cut {t} {r} {es} p given taken voted) =
+    absurd (calm p refl (voted_rose t r es p m b voted))
+vota_completes either decoded names c d m b s files flashes told none calm flashes_told can (session_held {t} between given taken h one_of state puts) =
+    put_ends names.out t h.load.section h.last between d s (λ rose. none (subst (λ (tally : Tally). Rose tally.faults d.tally.faults) taken.counts rose)) puts
+
+-- ---- carga
+
+pub carga_completes : (names : Carga) (c d : CabinetTold) (m b : Told) (s : Status) (files : Files) (flashes : Flashes)
+    → c.files ≡ Some files → ¬ Rose c.tally.faults d.tally.faults → Calm s m b → m.flashes ≡ Some flashes → CanLoad names (Some files) flashes
+    → CargaEnds names c d m b s → IsDoneOrMemory s
+carga_completes names c d m b s files flashes told none calm flashes_told can (load_refused h taken untouched) =
+    absurd (refused_or_documents files names.tables names.roll s can.t can.r
+    (subst (λ (f : Option Files). IsFirstFault f names.tables doc.Roll names.roll s) told h) can.given)
+carga_completes names c d m b s files flashes told none calm flashes_told can (load_no_memory taken untouched) = inr refl
+carga_completes names c d m b s files flashes told none calm flashes_told can (load_no_cabinet taken untouched) =
+    absurd (none taken.counts.faults.rose)
+carga_completes names c d m b s files flashes told none calm flashes_told can (no_section {t} {r} given none_asked taken untouched) =
+    let found = subst (λ (f : Option Files). HasDocuments f names.tables names.roll t r) told given in
+    let tables = same_tables files names.tables t can.t found.tables can.given.tables in
+    let roll = same_roll files names.roll r can.r found.roll can.given.roll in
+    absurd (none_asked can.section
+    (subst (λ (x : TablesData). IsSectionAsked names x r can.section) (sym tables)
+    (subst (λ (x : RollData). IsSectionAsked names can.t x can.section) (sym roll) can.asked)))
+carga_completes names c d m b s files flashes told none calm flashes_told can (not_loaded e given asked taken fails) = loads e calm fails
+  where
+    loads : (e : LoadError) → Calm (load_status e) m b → FailsToLoad m b e → IsDoneOrMemory (load_status e)
+    loads load.Memory calm h = inr refl
+    loads (load.Flash d) calm h = absurd (calm (port_of d) refl h.0.faults.rose)
+    loads (load.Busy dev.Internal) calm h = absurd (can.free dev.Internal (h.1 flashes flashes_told))
+    loads (load.Busy dev.External) calm h = absurd (can.free dev.External ((h.1 flashes flashes_told).1))
+carga_completes names c d m b s files flashes told none calm flashes_told can (not_told between given asked taken load off) =
+    absurd (calm Display refl (since Display m between b load.fine.faults off.faults.rose))
+carga_completes names c d m b s files flashes told none calm flashes_told can (loaded between given asked taken load shown) = inl refl
+
+-- ---- emite
+
+pub emite_completes : LoadedOrForeign → HeldIsDecoded → FoundOnce → (names : Emite) (c d : CabinetTold) (m b : Told) (s : Status) (files : Files)
+    (flashes : Flashes) → c.files ≡ Some files → ¬ Rose c.tally.faults d.tally.faults → Calm s m b → m.flashes ≡ Some flashes
+    → CanEmit names (Some files) flashes → EmiteEnds names c d m b s → IsDoneOrMemory s
+emite_completes either decoded once names c d m b s files flashes told none calm flashes_told can (emit_refused h taken untouched) =
+    absurd (refused_or_documents files names.tables names.roll s can.t can.r
+    (subst (λ (f : Option Files). IsFirstFault f names.tables doc.Roll names.roll s) told h) can.given)
+emite_completes either decoded once names c d m b s files flashes told none calm flashes_told can (emit_no_memory taken untouched) = inr refl
+emite_completes either decoded once names c d m b s files flashes told none calm flashes_told can (emit_no_cabinet taken untouched) =
+    absurd (none taken.counts.faults.rose)
+emite_completes either decoded once names c d m b s files flashes told none calm flashes_told can (not_found {t} {r} e given taken fails) =
+    let found = subst (λ (f : Option Files). HasDocuments f names.tables names.roll t r) told given in
+    let tables = same_tables files names.tables t can.t found.tables can.given.tables in
+    let roll = same_roll files names.roll r can.r found.roll can.given.roll in
+    peeks e calm (subst (λ (x : RollData). FailsToPeek can.t x m b e) roll (subst (λ (x : TablesData). FailsToPeek x r m b e) tables fails))
+  where
+    whole : IsRoll can.r
+    whole = roll_is can.given.roll.bytes can.r can.given.roll.read
+
+    peeks : (e : StoreError) → Calm (store_status e) m b → FailsToPeek can.t can.r m b e → IsDoneOrMemory (store_status e)
+    peeks store.Memory calm h = inr refl
+    peeks (store.Flash d) calm h = absurd (calm (port_of d) refl h.0.faults.rose)
+    peeks (store.Foreign d) calm h =
+        absurd ((not_missed either decoded can.t can.r can.given.tables.valid whole flashes can.found).0 d (h.1 flashes flashes_told))
+    peeks store.NoImage calm h =
+        absurd ((not_missed either decoded can.t can.r can.given.tables.valid whole flashes can.found).1 ((h.1.2 flashes flashes_told).1))
+emite_completes either decoded once names c d m b s files flashes told none calm flashes_told can (not_sealed {t} {r} {section} {s = u} given taken peeked unsealed) =
+    let found = subst (λ (f : Option Files). HasDocuments f names.tables names.roll t r) told given in
+    let tables = same_tables files names.tables t can.t found.tables can.given.tables in
+    let roll = same_roll files names.roll r can.r found.roll can.given.roll in
+    let here = subst (λ (x : RollData). AreFound can.t x section u flashes) roll
+    (subst (λ (x : TablesData). AreFound x r section u flashes) tables (peeked.found flashes flashes_told)) in
+    let whole = roll_is can.given.roll.bytes can.r can.given.roll.read in
+    let same = (once can.t can.r section can.section u can.state flashes can.given.tables.valid whole here can.found).1 in
+    absurd (unsealed can.opened can.closed (ap (λ (x : State). x.phase) same ∙ can.sealed))
+emite_completes either decoded once names c d m b s files flashes told none calm flashes_told can (no_files given taken peeked sealed) = inr refl
+emite_completes either decoded once names c d m b s files flashes told none calm flashes_told can (files_stopped {t} {section} {s = u} {opened} {closed} between given taken peeked sealed stop) =
+    absurd (none (subst (λ (tally : Tally). Rose tally.faults d.tally.faults) taken.counts
+    (stopped_rose (result_files names.out t section u opened closed) between d stop)))
+emite_completes either decoded once names c d m b s files flashes told none calm flashes_told can (not_emitted put_to between given taken peeked sealed put off) =
+    absurd (calm Display refl (since Display m between b peeked.synced.fine.faults off.faults.rose))
+emite_completes either decoded once names c d m b s files flashes told none calm flashes_told can (emitted put_to between given taken peeked sealed put shown) = inl refl
+
+-- ---- totaliza
+
+pub totaliza_completes : OneListAnswers → (names : Totaliza) (c d : CabinetTold) (m b : Told) (s : Status) (files : Files) → c.files ≡ Some files
+    → ¬ Rose c.tally.faults d.tally.faults → Calm s m b → CanTotal names (Some files) → TotalizaEnds names c d m b s
+    → IsByVerdicts names (Some files) s ⊎ (s ≡ status.Memory)
+totaliza_completes answers names c d m b s files told none calm can (list_refused h taken untouched) =
+    absurd (refused_or_listed answers files names s can.t can.listed (subst (λ (f : Option Files). IsFirstFault f names.tables doc.List names.list s) told h) can.given)
+totaliza_completes answers names c d m b s files told none calm can (list_no_memory taken untouched) = inr refl
+totaliza_completes answers names c d m b s files told none calm can (list_no_cabinet taken untouched) = absurd (none taken.counts.faults.rose)
+totaliza_completes answers names c d m b s files told none calm can (report_refused {t} {listed} {left} {name} {verdicts} {accepted} given offered fault taken shown) =
+    let found = subst (λ (f : Option Files). IsListed f names t listed) told given in
+    let same = same_names files names.list listed can.listed found.list can.given.list in
+    absurd (none_at_fault files offered.names name left can.listed can.reports s (sym offered.all ∙ same) can.taken
+    (subst (λ (f : Option Files). IsFault f name doc.Report s) told fault))
+totaliza_completes answers names c d m b s files told none calm can (report_no_cabinet given offered taken shown) = absurd (none taken.counts.faults.rose)
+totaliza_completes answers names c d m b s files told none calm can (report_no_memory given offered taken shown) = inr refl
+totaliza_completes answers names c d m b s files told none calm can (verdict_not_told given offered taken off) = absurd (calm Display refl off.faults.rose)
+totaliza_completes answers names c d m b s files told none calm can (totals_not_told given totals taken off) = absurd (calm Display refl off.faults.rose)
+totaliza_completes answers names c d m b s files told none calm can (totalled {t} {listed} {verdicts} given totals taken shown) =
+    inl (record {
+      t = t;
+      listed = listed;
+      given = subst (λ (f : Option Files). IsListed f names t listed) told given;
+      verdicts = verdicts;
+      accepted = totals.accepted;
+      offered = subst (λ (f : Option Files). HasOffered f t listed [] verdicts totals.accepted) told totals.offered;
+      is = refl;
+    })
+
+-- ---- confere
+
+pub confere_completes : (names : Confere) (c d : CabinetTold) (m b : Told) (s : Status) (files : Files) → c.files ≡ Some files
+    → ¬ Rose c.tally.faults d.tally.faults → Calm s m b → CanCheck names (Some files) → ConfereEnds names c d m b s
+    → IsDoneOrMemory s ⊎ ((v : Verdict) × (s ≡ status.ReportRefused v))
+confere_completes names c d m b s files told none calm can (check_refused h taken untouched) =
+    absurd (refused (subst (λ (f : Option Files). IsFirstFault f names.tables doc.Report names.report s) told h))
+  where
+    refused : IsFirstFault (Some files) names.tables doc.Report names.report s → ⊥
+    refused (first_tables h) = tables_not_fault files names.tables s can.t h can.tables
+    refused (first_other has h) = report_not_fault files names.report can.bytes s h can.report
+confere_completes names c d m b s files told none calm can (check_no_memory taken untouched) = inl (inr refl)
+confere_completes names c d m b s files told none calm can (check_no_cabinet taken untouched) = absurd (none taken.counts.faults.rose)
+confere_completes names c d m b s files told none calm can (check_not_told given taken off) = absurd (calm Display refl off.faults.rose)
+confere_completes names c d m b s files told none calm can (checked {v} given taken shown) = by_verdict v
+  where
+    by_verdict : (v : Verdict) → IsDoneOrMemory (verdict_status v) ⊎ ((w : Verdict) × (verdict_status v ≡ status.ReportRefused w))
+    by_verdict (verdict.Accepted zone number) = inl (inl refl)
+    by_verdict (verdict.Part f) = inr (verdict.Part f, refl)
+    by_verdict (verdict.Fields f) = inr (verdict.Fields f, refl)
+    by_verdict verdict.Strange = inr (verdict.Strange, refl)
+    by_verdict (verdict.Repeated zone number) = inr (verdict.Repeated zone number, refl)
+    by_verdict (verdict.Conflict zone number) = inr (verdict.Conflict zone number, refl)
+
+-- ---- ensaio
+
+ensaio_completes : (voters : ℕ) (c d : CabinetTold) (m b : Told) (s : Status) → ¬ Rose c.tally.faults d.tally.faults → Calm s m b → EnsaioEnds voters c d m b s
+    → IsDoneOrMemory s
+ensaio_completes voters c d m b s none calm (not_rehearsed same untouched) = inr refl
+ensaio_completes voters c d m b s none calm (rehearsal_not_put {r} is stop untouched) = absurd (none (stopped_rose (rehearsal_files r) c d stop))
+ensaio_completes voters c d m b s none calm (rehearsal_not_told is put off) = absurd (calm Display refl off.faults.rose)
+ensaio_completes voters c d m b s none calm (rehearsed is put shown) = inl refl
+
+-- ---- the program
+
+completes_as : LoadedOrForeign → HeldIsDecoded → FoundOnce → OneListAnswers → (k : Command) (c d : CabinetTold) (m b : Told) (s : Status)
+    → (files : Option Files) (flashes : Option Flashes) → c.files ≡ files → m.flashes ≡ flashes → ¬ Rose c.tally.faults d.tally.faults → Calm s m b
+    → CommandEnds (Some k) c d m b s → CanDo k files flashes → Completes k files s
+completes_as either decoded once answers (ToVote names) c d m b s None flashes told shown none calm ends can = absurd can
+completes_as either decoded once answers (ToVote names) c d m b s (Some f) None told shown none calm ends can = absurd can
+completes_as either decoded once answers (ToVote names) c d m b s (Some f) (Some g) told shown none calm ends can =
+    vota_completes either decoded names c d m b s f g told none calm shown can ends
+completes_as either decoded once answers (ToLoad names) c d m b s None flashes told shown none calm ends can = absurd can
+completes_as either decoded once answers (ToLoad names) c d m b s (Some f) None told shown none calm ends can = absurd can
+completes_as either decoded once answers (ToLoad names) c d m b s (Some f) (Some g) told shown none calm ends can =
+    carga_completes names c d m b s f g told none calm shown can ends
+completes_as either decoded once answers (ToEmit names) c d m b s None flashes told shown none calm ends can = absurd can
+completes_as either decoded once answers (ToEmit names) c d m b s (Some f) None told shown none calm ends can = absurd can
+completes_as either decoded once answers (ToEmit names) c d m b s (Some f) (Some g) told shown none calm ends can =
+    emite_completes either decoded once names c d m b s f g told none calm shown can ends
+completes_as either decoded once answers (ToCheck names) c d m b s None flashes told shown none calm ends can = absurd can
+completes_as either decoded once answers (ToCheck names) c d m b s (Some f) flashes told shown none calm ends can =
+    confere_completes names c d m b s f told none calm can ends
+completes_as either decoded once answers (ToTotal names) c d m b s None flashes told shown none calm ends can = absurd can
+completes_as either decoded once answers (ToTotal names) c d m b s (Some f) flashes told shown none calm ends can =
+    totaliza_completes answers names c d m b s f told none calm can ends
+completes_as either decoded once answers (ToRehearse voters) c d m b s files flashes told shown none calm ends can =
+    ensaio_completes voters c d m b s none calm ends
+
+pub completes : LoadedOrForeign → HeldIsDecoded → FoundOnce → OneListAnswers → CompletesWhereItCan
+completes either decoded once answers words command c d m n s is failed ends can =
+    completes_as either decoded once answers command c d m ends.between s c.files m.flashes refl refl failed.cabinet
+    (calm s m ends.between n failed.ports ends.told)
+    (ends_as words command c d m ends.between s is ends.command) can
+
+-- ---- over any cabinet and machine
+
+-- nothing counted: no count rose of the cabinet's three, and none of a port before the line of the status
+record NothingCounted (c d : CabinetTold) (s : Status) (m b : Told) : Type 0 where
+  faults : ¬ Rose c.tally.faults d.tally.faults
+  missing : ¬ Rose c.tally.missing d.tally.missing
+  too_long : ¬ Rose c.tally.too_long d.tally.too_long
+  calm : Calm s m b
+
+-- a document at fault that is there tells of no count
+not_bad : (x : Doc) (bytes : List ℕ) (s : Status) → IsBad x bytes s → tells_of_count s ≡ false
+not_bad x bytes s (no_document h) = refl
+not_bad x bytes s (rule h) = refl
+not_bad x bytes s (count h) = refl
+not_bad x bytes s (roll_line h) = refl
+not_bad x bytes s (line h) = refl
+not_bad x bytes s (name_line h) = refl
+
+fault_counts : (files : Option Files) (name : List ℕ) (x : Doc) (most : ℕ) (c d : CabinetTold) (s : Status) (m b : Told) → NothingCounted c d s m b
+    → HasTaken most s c d → IsFault files name x s → tells_of_count s ≡ false
+fault_counts files name x most c d s m b none taken (lacks h) = absurd (none.missing taken.counts.missing.rose)
+fault_counts files name x most c d s m b none taken (longer h) = absurd (none.too_long taken.counts.too_long.rose)
+fault_counts files name x most c d s m b none taken (bad {bytes} held h) = not_bad x bytes s h
+
+first_counts : (files : Option Files) (tables : List ℕ) (x : Doc) (name : List ℕ) (most : ℕ) (c d : CabinetTold) (s : Status) (m b : Told)
+    → NothingCounted c d s m b → HasTaken most s c d → IsFirstFault files tables x name s → tells_of_count s ≡ false
+first_counts files tables x name most c d s m b none taken (first_tables h) = fault_counts files tables doc.Tables most c d s m b none taken h
+first_counts files tables x name most c d s m b none taken (first_other has h) = fault_counts files name x most c d s m b none taken h
+
+done_or_memory : (s : Status) → IsDoneOrMemory s → tells_of_count s ≡ false
+done_or_memory s (inl e) = ap tells_of_count e
+done_or_memory s (inr e) = ap tells_of_count e
+
+vota_counts : (names : Vota) (c d : CabinetTold) (m b : Told) (s : Status) → NothingCounted c d s m b → VotaEnds names c d m b s → tells_of_count s ≡ false
+vota_counts names c d m b s none (refused h taken untouched) = by_document h
+  where
+    by_document : IsRefused c.files names s → tells_of_count s ≡ false
+    by_document (documents h) = first_counts c.files names.tables doc.Roll names.roll 3 c d s m b none taken h
+    by_document (keys has read h) = fault_counts c.files names.keys doc.Keys 3 c d s m b none taken h
+vota_counts names c d m b s none (no_memory taken untouched) = refl
+vota_counts names c d m b s none (no_cabinet taken untouched) = absurd (none.faults taken.counts.faults.rose)
+vota_counts names c d m b s none (not_started {t} {r} e given taken fails) = starting e none.calm fails
+  where
+    starting : (e : StartError) → Calm (start_status e) m b → FailsToStart t r m b e → tells_of_count (start_status e) ≡ false
+    starting start.Memory calm h = refl
+    starting (start.Port Internal) calm h = absurd (calm Internal refl h.0.faults.rose)
+    starting (start.Port External) calm h = absurd (calm External refl h.0.faults.rose)
+    starting (start.Port Display) calm h =
+        absurd (calm Display refl (since Display m h.between b h.recovered.fine.faults h.stopped.fault.faults.rose))
+    starting (start.Foreign x) calm h = refl
+    starting start.NoImage calm h = refl
+vota_counts names c d m b s none (cut {t} {r} {es} p given taken voted) = absurd (none.calm p refl (voted_rose t r es p m b voted))
+vota_counts names c d m b s none (session_held {t} between given taken h one_of state puts) =
+    done_or_memory s (put_ends names.out t h.load.section h.last between d s
+    (λ rose. none.faults (subst (λ (tally : Tally). Rose tally.faults d.tally.faults) taken.counts rose)) puts)
+
+carga_counts : (names : Carga) (c d : CabinetTold) (m b : Told) (s : Status) → NothingCounted c d s m b → CargaEnds names c d m b s → tells_of_count s ≡ false
+carga_counts names c d m b s none (load_refused h taken untouched) = first_counts c.files names.tables doc.Roll names.roll 2 c d s m b none taken h
+carga_counts names c d m b s none (load_no_memory taken untouched) = refl
+carga_counts names c d m b s none (load_no_cabinet taken untouched) = absurd (none.faults taken.counts.faults.rose)
+carga_counts names c d m b s none (no_section given lacks_it taken untouched) = refl
+carga_counts names c d m b s none (not_loaded e given asked taken fails) = loading e none.calm fails
+  where
+    loading : (e : LoadError) → Calm (load_status e) m b → FailsToLoad m b e → tells_of_count (load_status e) ≡ false
+    loading load.Memory calm h = refl
+    loading (load.Flash x) calm h = absurd (calm (port_of x) refl h.0.faults.rose)
+    loading (load.Busy x) calm h = refl
+carga_counts names c d m b s none (not_told between given asked taken loading off) =
+    absurd (none.calm Display refl (since Display m between b loading.fine.faults off.faults.rose))
+carga_counts names c d m b s none (loaded between given asked taken loading shown) = refl
+
+emite_counts : (names : Emite) (c d : CabinetTold) (m b : Told) (s : Status) → NothingCounted c d s m b → EmiteEnds names c d m b s → tells_of_count s ≡ false
+emite_counts names c d m b s none (emit_refused h taken untouched) = first_counts c.files names.tables doc.Roll names.roll 2 c d s m b none taken h
+emite_counts names c d m b s none (emit_no_memory taken untouched) = refl
+emite_counts names c d m b s none (emit_no_cabinet taken untouched) = absurd (none.faults taken.counts.faults.rose)
+emite_counts names c d m b s none (not_found {t} {r} e given taken fails) = peeking e none.calm fails
+  where
+    peeking : (e : StoreError) → Calm (store_status e) m b → FailsToPeek t r m b e → tells_of_count (store_status e) ≡ false
+    peeking store.Memory calm h = refl
+    peeking (store.Flash x) calm h = absurd (calm (port_of x) refl h.0.faults.rose)
+    peeking (store.Foreign x) calm h = refl
+    peeking store.NoImage calm h = refl
+emite_counts names c d m b s none (not_sealed given taken peeked unsealed) = refl
+emite_counts names c d m b s none (no_files given taken peeked sealed) = refl
+emite_counts names c d m b s none (files_stopped {t} {section} {s = u} {opened} {closed} between given taken peeked sealed stop) =
+    absurd (none.faults (subst (λ (tally : Tally). Rose tally.faults d.tally.faults) taken.counts
+    (stopped_rose (result_files names.out t section u opened closed) between d stop)))
+emite_counts names c d m b s none (not_emitted put_to between given taken peeked sealed put off) =
+    absurd (none.calm Display refl (since Display m between b peeked.synced.fine.faults off.faults.rose))
+emite_counts names c d m b s none (emitted put_to between given taken peeked sealed put shown) = refl
+
+confere_counts : (names : Confere) (c d : CabinetTold) (m b : Told) (s : Status) → NothingCounted c d s m b → ConfereEnds names c d m b s
+    → tells_of_count s ≡ false
+confere_counts names c d m b s none (check_refused h taken untouched) =
+    first_counts c.files names.tables doc.Report names.report 2 c d s m b none taken h
+confere_counts names c d m b s none (check_no_memory taken untouched) = refl
+confere_counts names c d m b s none (check_no_cabinet taken untouched) = absurd (none.faults taken.counts.faults.rose)
+confere_counts names c d m b s none (check_not_told given taken off) = absurd (none.calm Display refl off.faults.rose)
+confere_counts names c d m b s none (checked {v} given taken shown) = by_verdict v
+  where
+    by_verdict : (v : Verdict) → tells_of_count (verdict_status v) ≡ false
+    by_verdict (verdict.Accepted zone number) = refl
+    by_verdict (verdict.Part f) = refl
+    by_verdict (verdict.Fields f) = refl
+    by_verdict verdict.Strange = refl
+    by_verdict (verdict.Repeated zone number) = refl
+    by_verdict (verdict.Conflict zone number) = refl
+
+totaliza_counts : (names : Totaliza) (c d : CabinetTold) (m b : Told) (s : Status) → NothingCounted c d s m b → TotalizaEnds names c d m b s
+    → tells_of_count s ≡ false
+totaliza_counts names c d m b s none (list_refused h taken untouched) =
+    first_counts c.files names.tables doc.List names.list 2 c d s m b none taken h
+totaliza_counts names c d m b s none (list_no_memory taken untouched) = refl
+totaliza_counts names c d m b s none (list_no_cabinet taken untouched) = absurd (none.faults taken.counts.faults.rose)
+totaliza_counts names c d m b s none (report_refused {listed} {name} given offered fault taken shown) =
+    fault_counts c.files name doc.Report (length listed + 2) c d s m b none taken fault
+totaliza_counts names c d m b s none (report_no_cabinet given offered taken shown) = absurd (none.faults taken.counts.faults.rose)
+totaliza_counts names c d m b s none (report_no_memory given offered taken shown) = refl
+totaliza_counts names c d m b s none (verdict_not_told given offered taken off) = absurd (none.calm Display refl off.faults.rose)
+totaliza_counts names c d m b s none (totals_not_told given totals taken off) = absurd (none.calm Display refl off.faults.rose)
+totaliza_counts names c d m b s none (totalled {verdicts} given totals taken shown) = by_count (refused_count verdicts)
+  where
+    by_count : (k : ℕ) → tells_of_count (refused_status k) ≡ false
+    by_count zero = refl
+    by_count (suc k) = refl
+
+command_counts : (k : Option Command) (c d : CabinetTold) (m b : Told) (s : Status) → NothingCounted c d s m b → CommandEnds k c d m b s
+    → tells_of_count s ≡ false
+command_counts None c d m b s none ends = ap tells_of_count ends.usage
+command_counts (Some (ToVote names)) c d m b s none ends = vota_counts names c d m b s none ends
+command_counts (Some (ToLoad names)) c d m b s none ends = carga_counts names c d m b s none ends
+command_counts (Some (ToEmit names)) c d m b s none ends = emite_counts names c d m b s none ends
+command_counts (Some (ToCheck names)) c d m b s none ends = confere_counts names c d m b s none ends
+command_counts (Some (ToTotal names)) c d m b s none ends = totaliza_counts names c d m b s none ends
+command_counts (Some (ToRehearse voters)) c d m b s none ends = done_or_memory s (ensaio_completes voters c d m b s none.faults none.calm ends)
+
+pub tells_of_risen_counts : TellsOfRisenCounts
+tells_of_risen_counts words c d m n s failed missing too_long ends =
+    command_counts (command_of words) c d m ends.between s
+    (record { faults = failed.cabinet; missing = missing; too_long = too_long; calm = calm s m ends.between n failed.ports ends.told }) ends.command

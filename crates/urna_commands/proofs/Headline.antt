@@ -1,0 +1,323 @@
+-- However a call of vota ends, what a power cut leaves keeps its votes
+use Rattle.std.proofs.Common.{◌≡◌, ◌⊎◌, inl, inr, ℕ, List, [], ◌∷◌, ◌++◌, Option, Some, None, length, refl, sym, ap, subst, ◌∙◌}
+use Rattle.std.specs.List.{concat}
+use Rattle.std.specs.Option.{ForSome}
+use Rattle.std.proofs.lemmas.List.{append-nil}
+use Rattle.urna_outside.specs.Cabinet.{CabinetTold, Files}
+use Rattle.urna_outside.specs.Flash.{Flashes, Op, after, shown_by}
+use Rattle.urna_outside.specs.Stop.{AtEachStop, Left}
+use Rattle.urna_outside.specs.Traced.{IsTraced}
+use Rattle.urna_outside.specs.Told.{Told, Does, Runs}
+use Rattle.urna_outside.specs.declared.device.Dev.{Dev}
+use Rattle.urna_outside.specs.declared.device.Dev.TheVariants as dev
+use Rattle.urna_outside.specs.declared.device.Port.{Port}
+use Rattle.urna_outside.specs.declared.device.Port.TheVariants as port
+use Rattle.urna_outside.proofs.Courses.{in_shows, stops_silent}
+use Rattle.urna_outside.proofs.Doing.{does-append, does_nothing, shown_by-append}
+use Rattle.urna_outside.proofs.Keeping.{synced_clean}
+use Rattle.urna_outside.proofs.Stops.{stops_none}
+use Rattle.urna_outside.proofs.Traced.{traced_is}
+use Rattle.election_tables.specs.Roll.{RollData}
+use Rattle.election_tables.specs.TablesData.{IsTables, TablesData}
+use Rattle.election_tables.specs.declared.tables.sections.Section.{Section}
+use Rattle.key_script.specs.Script.{events_of}
+use Rattle.key_script.specs.declared.keys.Event.{Event}
+use Rattle.vote_kinds.specs.Ballot.{ballot_lines}
+use Rattle.image_codec.specs.Also.{HasAlso}
+use Rattle.image_codec.specs.State.{State}
+use Rattle.state_store.specs.Calls.{AreFound, FromSyncs, IsUntouched, KeepFrames, Recovers, both_synced}
+use Rattle.state_store.specs.Held.{HeldByBoth, bodies_of_both}
+use Rattle.state_store.specs.Load.{IsSectionOf}
+use Rattle.state_store.specs.Played.{Survives}
+use Rattle.state_store.specs.Rest.{AreAtRest}
+use Rattle.state_store.specs.Pieces.{lines_in, state_after, text_in}
+use Rattle.state_store.specs.Load.{load_of}
+use Rattle.state_store.specs.declared.load.Load.{Load}
+use Rattle.state_store.proofs.Going.{found_once, loaded_once, loaded_or_foreign}
+use Rattle.state_store.proofs.Holding.{hold_or_none}
+use Rattle.state_store.proofs.Resting.{clean_image, frames_same}
+use Rattle.state_store.proofs.ShowStops.{text_of_lines}
+use Rattle.station.specs.Cast.{ballots_of}
+use Rattle.station.specs.Output.{Output}
+use Rattle.station.specs.Run.{IsRun}
+use Rattle.station.specs.Setting.{setting_of}
+use Rattle.station.specs.Start.{FailsToStart, IsCutAtOpening, IsRecovered, opening, opening_line}
+use Rattle.station.specs.Text.{session_pieces}
+use Rattle.station.specs.declared.station.StartError.{StartError}
+use Rattle.station.specs.declared.station.StartError.TheVariants as starting
+use Rattle.station.proofs.Performing.{tables_setting}
+use Rattle.station.proofs.Casting.{run_counts, run_last}
+use Rattle.station.proofs.RunLaws.{run_exists, run_unique}
+use Rattle.urna_commands.specs.Command.{ToVote, Vota, command_of}
+use Rattle.urna_commands.specs.Ending.{CommandEnds}
+use Rattle.urna_commands.specs.Errors.{port_status, start_status}
+use Rattle.urna_commands.specs.FaultLines.{Tells, fault_text}
+use Rattle.urna_commands.specs.Headline.{AllAreCounted, KeepsVotes, KeysHaveRun, VotesAreKept, session_of}
+use Rattle.urna_commands.specs.Putting.{PutsResults, no_results, results_not_made, results_not_put, results_put}
+use Rattle.urna_commands.specs.Vota.{HasVoted, HasVotedTo, IsGiven, VotaEnds, cut, session_held, no_cabinet, no_memory, not_started, refused, IsRefused}
+use Rattle.urna_commands.specs.declared.status.Doc.TheVariants as doc
+use Rattle.urna_commands.specs.declared.status.Status.{Status}
+use Rattle.urna_commands.specs.declared.status.Status.TheVariants as status
+use Rattle.urna_commands.proofs.Completion.{port_silent}
+use Rattle.urna_commands.proofs.Idle.{synced_both}
+use Rattle.urna_commands.proofs.Keeping.{behind_is, found_roll, kept_silent, not_done, not_within, safe_stops, session_kept}
+use Rattle.urna_commands.proofs.Once.{refused_or_given, same_bytes, same_roll, same_tables}
+use Rattle.urna_commands.proofs.Endings.{ends_as}
+
+-- ---- a session in which the opening line began, and what else there is behind the two syncs
+
+module _ (t : TablesData) (r : RollData) (s last : State) (es : List Event) (out : List Output) (run : IsRun (setting_of t r.titles) s es last out) (tables : IsTables t)
+    (section : Section) (m n : Told) (start : Flashes) (rest : List Op) (found : AreFound t r section s start) (traced : IsTraced m n start (both_synced ++ rest)) where
+  abbrev Kept : Left → Type 0
+  Kept left = KeepsVotes t r s start (session_of t s out) (ballots_of run) left
+
+  abbrev AreKept : Type 0
+  AreKept = AtEachStop (after both_synced start) rest Kept
+
+  roll : length s.came ≡ length r.titles
+  roll = found_roll t r section s start found
+
+  -- the state of a recovery is that which the flashes hold
+  found_here : (other : Section) (first : State) → AreFound t r other first start → (first ≡ s) × (other.voters ≡ length r.titles)
+  found_here other first also = (found_once t r section s first start tables found also.held, also.loaded.section_fits.voters)
+
+  recovered_here : (load : Load) (first : State) (b : Told) → IsRecovered t r load first m b → (first ≡ s) × (load.section.voters ≡ length r.titles)
+  recovered_here load first b is = found_here load.section first (is.ran.2.2.stops start traced.flashes).0
+
+  -- and its load is theirs
+  load_here : (load : Load) (first : State) (b : Told) → IsRecovered t r load first m b → load ≡ load_of t r section
+  load_here load first b is =
+      let there = (is.ran.2.2.stops start traced.flashes).0 in
+      is.same ∙ ap (λ (x : Section). load_of t r x) (loaded_once t r load.section section start.internal.content start.external.content tables there.loaded found.loaded)
+
+  -- a session that was held or cut short
+  session_stops : (load : Load) (first u : State) (b : Told) (put : List Output) → IsRecovered t r load first m b → IsRun (setting_of t r.titles) first es u put
+      → AtEachStop (after both_synced start) rest (Survives t load first (opening t first ++ session_pieces t put) start) → AreKept
+  session_stops load first u b put recovered ran survives ops stop left is =
+      let here = recovered_here load first b recovered in
+      let again : IsRun (setting_of t r.titles) s es u put = subst (λ (x : State). IsRun (setting_of t r.titles) x es u put) here.0 ran in
+      let same : put ≡ out = (run_unique (setting_of t r.titles) s u last es put out (tables_setting t r.titles tables) again run).1 in
+      session_kept t r s last es out run roll load here.1 start left
+      (subst (λ (o : List Output). Survives t load s (opening t s ++ session_pieces t o) start left) same
+      (subst (λ (x : State). Survives t load x (opening t x ++ session_pieces t put) start left) here.0 (survives ops stop left is)))
+
+  pub voted_kept : HasVoted t r es m n → AreKept
+  voted_kept voted =
+      session_stops voted.load voted.first voted.last voted.opens.between voted.out voted.opens.recovered voted.run
+      (safe_stops m n start rest traced t voted.load voted.first (opening t voted.first ++ session_pieces t voted.out) voted.survives)
+
+  pub cut_kept : (p : Port) → HasVotedTo t r es p m n → AreKept
+  cut_kept p h =
+      session_stops h.load h.first h.last h.opens.between h.out h.opens.recovered h.run
+      (safe_stops m n start rest traced t h.load h.first (opening t h.first ++ session_pieces t h.out) h.survives)
+
+  -- where it was held, both flashes are at rest with all ballots in the end
+  pub voted_counted : HasVoted t r es m n → HasAlso (ballot_lines t) s (ballots_of run) last × ForSome n.flashes (AreAtRest t (load_of t r section) last)
+  voted_counted voted =
+      let here = recovered_here voted.load voted.first voted.opens.between voted.opens.recovered in
+      let again : IsRun (setting_of t r.titles) s es voted.last voted.out = subst (λ (x : State). IsRun (setting_of t r.titles) x es voted.last voted.out) here.0 voted.run in
+      let same : voted.out ≡ out = (run_unique (setting_of t r.titles) s voted.last last es voted.out out (tables_setting t r.titles tables) again run).1 in
+      let end : state_after voted.first (session_pieces t voted.out) ≡ last =
+      ap (λ (x : State). state_after x (session_pieces t voted.out)) here.0 ∙ ap (λ (o : List Output). state_after s (session_pieces t o)) same ∙ run_last t r.titles roll run in (
+        run_counts t r.titles roll run,
+        λ x is. subst (λ (load : Load). AreAtRest t load last x) (load_here voted.load voted.first voted.opens.between voted.opens.recovered)
+            (subst (λ (y : State). AreAtRest t voted.load y x) end (voted.put.rest x is)),
+      )
+
+  -- and its whole text was shown
+  pub voted_shown : HasVoted t r es m n → shown_by rest ≡ text_in (session_of t s out)
+  voted_shown voted =
+      let recovery = voted.opens.recovered.ran in
+      let line = voted.opens.shown in
+      let here = recovered_here voted.load voted.first voted.opens.between voted.opens.recovered in
+      let again : IsRun (setting_of t r.titles) s es voted.last voted.out = subst (λ (x : State). IsRun (setting_of t r.titles) x es voted.last voted.out) here.0 voted.run in
+      let same : voted.out ≡ out = (run_unique (setting_of t r.titles) s voted.last last es voted.out out (tables_setting t r.titles tables) again run).1 in
+      let ops : List Op = recovery.0 ++ (line.ops ++ voted.put.ops) in
+      let does : Does ops m n =
+      does-append recovery.0 (line.ops ++ voted.put.ops) m voted.opens.between n recovery.1
+      (does-append line.ops voted.put.ops voted.opens.between voted.between n line.does voted.put.does) in
+      let trail : ops ≡ both_synced ++ rest = traced_is m n start (both_synced ++ rest) ops traced does in
+      let quiet : shown_by recovery.0 ≡ [] = ap shown_by recovery.2.1 ∙ in_shows _ recovery.2.0 recovery.2.2.slots.within in
+      let first : shown_by line.ops ≡ opening_line t s =
+      text_of_lines line.ops (opening_line t voted.first ∷ []) line.shown ∙ append-nil (opening_line t voted.first) ∙ ap (opening_line t) here.0 in
+      let then : shown_by voted.put.ops ≡ concat (lines_in (session_pieces t out)) =
+      text_of_lines voted.put.ops (lines_in (session_pieces t voted.out)) voted.put.shown ∙ ap (λ (o : List Output). concat (lines_in (session_pieces t o))) same in
+      sym (ap shown_by trail) ∙ shown_by-append recovery.0 (line.ops ++ voted.put.ops)
+      ∙ ap (λ (l : List ℕ). l ++ shown_by (line.ops ++ voted.put.ops)) quiet
+      ∙ shown_by-append line.ops voted.put.ops
+      ∙ ap (λ (l : List ℕ). l ++ shown_by voted.put.ops) first
+      ∙ ap (λ (l : List ℕ). opening_line t s ++ l) then
+
+  pub opening_cut_kept : IsCutAtOpening t r m n → AreKept
+  opening_cut_kept h ops stop left is =
+      let here = recovered_here h.load h.state h.between h.recovered in
+      let pieces = session_pieces t out in
+      let survives = safe_stops m n start rest traced t h.load h.state (opening t h.state ++ pieces) (h.survives pieces) ops stop left is in
+      session_kept t r s last es out run roll h.load here.1 start left (subst (λ (x : State). Survives t h.load x (opening t x ++ pieces) start left) here.0 survives)
+
+  silent : (left : Left) → left.shown ≡ [] → HeldByBoth t (length r.titles) left.internal left.external s → KeepFrames start left → Kept left
+  silent left none held frames = kept_silent t r s start (session_of t s out) (ballots_of run) left none held frames
+
+  frames_before : (left : Left) → KeepFrames (after both_synced start) left → KeepFrames start left
+  frames_before left keeps dev.Internal = keeps dev.Internal
+  frames_before left keeps dev.External = keeps dev.External
+
+  -- nothing was done behind the syncs
+  nothing_kept : (behind : List Op) → behind ≡ [] → AtEachStop (after both_synced start) behind Kept
+  nothing_kept behind none =
+      subst (λ (l : List Op). AtEachStop (after both_synced start) l Kept) (sym none) (stops_none (after both_synced start) Kept (λ left is.
+      let internal = clean_image (after both_synced start).internal left.internal (synced_clean start.internal) is.internal in
+      let external = clean_image (after both_synced start).external left.external (synced_clean start.external) is.external in
+      silent left is.shown (subst (λ (x : List ℕ). HeldByBoth t (length r.titles) x left.external s) (sym internal)
+      (subst (λ (x : List ℕ). HeldByBoth t (length r.titles) start.internal.content x s) (sym external) found.held))
+      (frames_before left (frames_same (after both_synced start) left (synced_both start) is.internal is.external))))
+
+  -- a recovery that a flash cut short
+  recovering_kept : (behind : List Op) (other : Section) (first : State) → Recovers t r other first m behind → AtEachStop (after both_synced start) behind Kept
+  recovering_kept behind other first recovers ops stop left is =
+      let at = recovers.stops start traced.flashes in
+      let here = found_here other first at.0 in
+      let held = (at.1 ops stop left is).0 in
+      silent left (stops_silent _ (after both_synced start) behind recovers.slots.within ops stop left is)
+      (subst (λ (x : State). HeldByBoth t (length r.titles) left.internal left.external x) here.0 held) (at.1 ops stop left is).1
+
+  flash_kept : Runs (FromSyncs (λ ops. (ops ≡ []) ⊎ ((other : Section) × (first : State) × IsSectionOf t r other × Recovers t r other first m ops))) m n → AreKept
+  flash_kept (ops, does, inl (inl none)) = absurd (not_done m n start rest traced (subst (λ (l : List Op). Does l m n) none does))
+  flash_kept (ops, does, inl (inr one)) = absurd (not_within m n start rest traced (subst (λ (l : List Op). Does l m n) one does))
+  flash_kept (ops, does, inr (behind, is, inl none)) =
+      subst (λ (l : List Op). AtEachStop (after both_synced start) l Kept) (behind_is m n start rest traced ops behind does is) (nothing_kept behind none)
+  flash_kept (ops, does, inr (behind, is, inr (other, first, fits, recovers))) =
+      subst (λ (l : List Op). AtEachStop (after both_synced start) l Kept) (behind_is m n start rest traced ops behind does is) (recovering_kept behind other first recovers)
+
+  pub untouched_kept : IsUntouched m n → AreKept
+  untouched_kept same = absurd (not_done m n start rest traced (subst (Does [] m) (sym same) (does_nothing m)))
+
+  -- a station that didn't start
+  pub start_cut_kept : (p : Port) → FailsToStart t r m n (starting.Port p) → AreKept
+  start_cut_kept port.Internal h = flash_kept h.1
+  start_cut_kept port.External h = flash_kept h.1
+  start_cut_kept port.Display h = opening_cut_kept h
+
+-- where a poll is found, neither flash is foreign, and a slot stands
+module _ (t : TablesData) (r : RollData) (s : State) (tables : IsTables t) (section : Section) (m b : Told) (start : Flashes) (found : AreFound t r section s start) (flashes : m.flashes ≡ Some start) where
+  pub not_foreign : (d : Dev) → FailsToStart t r m b (starting.Foreign d) → ⊥
+  not_foreign dev.Internal h =
+      loaded_or_foreign t r section dev.Internal start.internal.content start.external.content tables found.loaded (h.1 start flashes)
+  not_foreign dev.External h =
+      loaded_or_foreign t r section dev.External start.internal.content start.external.content tables found.loaded (h.1 start flashes)
+
+  pub not_empty : FailsToStart t r m b starting.NoImage → ⊥
+  not_empty h =
+      hold_or_none t (length r.titles) (bodies_of_both start.internal.content start.external.content) s (h.1.2 start flashes).1 found.held
+
+-- ---- what was given
+
+given_once : (files : Files) (names : Vota) (t u : TablesData) (r q : RollData) (es fs : List Event) → IsGiven (Some files) names t r es → IsGiven (Some files) names u q fs
+    → (t ≡ u) × (r ≡ q) × (es ≡ fs)
+given_once files names t u r q es fs a b =
+    let three = same_bytes files doc.Keys names.keys a.keys.bytes b.keys.bytes a.keys.taken b.keys.taken in
+    let first : events_of b.keys.bytes ≡ Some es = ap events_of (sym three) ∙ a.keys.read in
+    let second = b.keys.read in
+    let both : Some es ≡ Some fs = sym first ∙ second in
+    let keys : es ≡ fs = cc in
+    (same_tables files names.tables t u a.tables b.tables, same_roll files names.roll r q a.roll b.roll, keys)
+
+-- what is so of the documents that were taken
+pub of_given : (files : Files) (names : Vota) (c : CabinetTold) → c.files ≡ Some files → (t u : TablesData) (r q : RollData) (es fs : List Event)
+    (P : TablesData → RollData → List Event → Type 0) → IsGiven (Some files) names t r es → IsGiven c.files names u q fs → P u q fs → P t r es
+of_given files names c told t u r q es fs P given also h =
+    let one = given_once files names u t q r fs es (subst (λ (o : Option Files). IsGiven o names u q fs) told also) given in
+    subst (λ (x : TablesData). P x r es) one.0 (subst (λ (x : RollData). P u x es) one.1 (subst (λ (x : List Event). P u q x) one.2 h))
+
+-- ---- the headline
+
+-- where a status has no fault line, nothing is done after the command
+pub results_silent : (word : List ℕ) (t : TablesData) (section : Section) (s : State) (c d : CabinetTold) (answer : Status) (b n : Told)
+    → PutsResults word t section s c d answer → Tells (fault_text answer) b n → n ≡ b
+results_silent word t section s c d _ b n (no_results unsealed same) tells = tells
+results_silent word t section s c d _ b n (results_put sealed put) tells = tells
+results_silent word t section s c d _ b n (results_not_made sealed same) tells = tells
+results_silent word t section s c d _ b n (results_not_put sealed stop) tells = tells
+
+module _ (names : Vota) (files : Files) (c d : CabinetTold) (told : c.files ≡ Some files) (t : TablesData) (r : RollData) (es : List Event) (given : IsGiven (Some files) names t r es)
+    (section : Section) (s last : State) (out : List Output) (run : IsRun (setting_of t r.titles) s es last out) (m b n : Told) (start : Flashes) (rest : List Op)
+    (found : AreFound t r section s start) (traced : IsTraced m n start (both_synced ++ rest)) where
+  abbrev All : Type 0
+  All = AtEachStop (after both_synced start) rest (KeepsVotes t r s start (session_of t s out) (ballots_of run))
+
+  tables : IsTables t
+  tables = given.tables.valid
+
+  -- what is so of what the command did, where nothing was done after it
+  at_end : (P : Told → Type 0) → n ≡ b → P b → P n
+  at_end P same h = subst P (sym same) h
+
+  untouched : IsUntouched m b → n ≡ b → All
+  untouched h same = untouched_kept t r s last es out run tables section m n start rest found traced (at_end (λ x. IsUntouched m x) same h)
+
+  not_begun : (e : StartError) → FailsToStart t r m b e → Tells (fault_text (start_status e)) b n → All
+  not_begun starting.Memory h tells = untouched h tells
+  not_begun (starting.Port p) h tells =
+      start_cut_kept t r s last es out run tables section m n start rest found traced p
+      (at_end (λ x. FailsToStart t r m x (starting.Port p)) (port_silent p b n tells) h)
+  not_begun (starting.Foreign e) h tells = absurd (not_foreign t r s tables section m b start found traced.flashes e h)
+  not_begun starting.NoImage h tells = absurd (not_empty t r s tables section m b start found traced.flashes h)
+
+  vota_kept : (answer : Status) → VotaEnds names c d m b answer → Tells (fault_text answer) b n → All
+  vota_kept answer (refused bad taken un) tells = absurd (refused_or_given files names answer t r es (subst (λ (o : Option Files). IsRefused o names answer) told bad) given)
+  vota_kept _ (no_memory taken un) tells = untouched un tells
+  vota_kept _ (no_cabinet taken un) tells = untouched un tells
+  vota_kept _ (not_started {t = u} {r = q} {es = fs} e also taken h) tells =
+      not_begun e (of_given files names c told t u r q es fs (λ x y z. FailsToStart x y m b e) given also h) tells
+  vota_kept _ (cut {t = u} {r = q} {es = fs} p also taken h) tells =
+      cut_kept t r s last es out run tables section m n start rest found traced p
+      (at_end (λ x. HasVotedTo t r es p m x) (port_silent p b n tells) (of_given files names c told t u r q es fs (λ x y z. HasVotedTo x y z p m b) given also h))
+  vota_kept _ (session_held {t = u} {r = q} {es = fs} after also taken h one_of state put) tells =
+      voted_kept t r s last es out run tables section m n start rest found traced
+      (at_end (λ x. HasVoted t r es m x) (results_silent _ _ _ _ _ _ _ b n put tells) (of_given files names c told t u r q es fs (λ x y z. HasVoted x y z m b) given also h))
+
+  pub command_kept : (words : List (List ℕ)) (answer : Status) → command_of words ≡ Some (ToVote names) → CommandEnds (command_of words) c d m b answer → Tells (fault_text answer) b n → All
+  command_kept words answer is h tells = vota_kept answer (ends_as words (ToVote names) c d m b answer is h) tells
+
+  -- with Done
+  abbrev Counted : Type 0
+  Counted = HasAlso (ballot_lines t) s (ballots_of run) last × ForSome n.flashes (AreAtRest t (load_of t r section) last)
+
+  start_not_done : (e : StartError) → start_status e ≡ status.Done → ⊥
+  start_not_done starting.Memory is = absurd (cc)
+  start_not_done (starting.Port port.Internal) is = absurd (cc)
+  start_not_done (starting.Port port.External) is = absurd (cc)
+  start_not_done (starting.Port port.Display) is = absurd (cc)
+  start_not_done (starting.Foreign e) is = absurd (cc)
+  start_not_done starting.NoImage is = absurd (cc)
+
+  port_not_done : (p : Port) → port_status p ≡ status.Done → ⊥
+  port_not_done port.Internal is = absurd (cc)
+  port_not_done port.External is = absurd (cc)
+  port_not_done port.Display is = absurd (cc)
+
+  vota_counted : (answer : Status) → answer ≡ status.Done → VotaEnds names c d m b answer → Tells (fault_text answer) b n → Counted
+  vota_counted answer ok (refused bad taken un) tells = absurd (refused_or_given files names answer t r es (subst (λ (o : Option Files). IsRefused o names answer) told bad) given)
+  vota_counted _ ok (no_memory taken un) tells = absurd (cc)
+  vota_counted _ ok (no_cabinet taken un) tells = absurd (cc)
+  vota_counted _ ok (not_started e also taken h) tells = absurd (start_not_done e ok)
+  vota_counted _ ok (cut p also taken h) tells = absurd (port_not_done p ok)
+  vota_counted _ ok (session_held {t = u} {r = q} {es = fs} after also taken h one_of state put) tells =
+      voted_counted t r s last es out run tables section m n start rest found traced
+      (at_end (λ x. HasVoted t r es m x) (results_silent _ _ _ _ _ _ _ b n put tells) (of_given files names c told t u r q es fs (λ x y z. HasVoted x y z m b) given also h))
+
+  pub command_counted : (words : List (List ℕ)) → command_of words ≡ Some (ToVote names) → CommandEnds (command_of words) c d m b status.Done → Tells None b n → Counted
+  command_counted words is h tells = vota_counted status.Done refl (ends_as words (ToVote names) c d m b status.Done is h) tells
+
+pub votes_are_kept : VotesAreKept
+votes_are_kept t r section s start found words c d m n answer ends es ops is last out run =
+    command_kept is.names is.files c d is.cabinet t r es is.given section s last out run m ends.between n start ops found is.traced words answer
+    is.command ends.command ends.told
+
+pub all_are_counted : AllAreCounted
+all_are_counted words c d m n ends t r es start ops is section s found last out run =
+    command_counted is.names is.files c d is.cabinet t r es is.given section s last out run m ends.between n start ops found is.traced words
+    is.command ends.command ends.told
+
+pub keys_have_run : KeysHaveRun
+keys_have_run files names t r es s given = run_exists (setting_of t r.titles) s es (tables_setting t r.titles given.tables.valid)

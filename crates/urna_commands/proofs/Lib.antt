@@ -1,0 +1,17 @@
+mod Again
+mod Asked
+mod AtRest
+mod PutFiles
+mod Calls
+mod Completion
+mod Endings
+mod Faults
+mod Headline
+mod Idle
+mod Keeping
+mod Loads
+mod NeverBusy
+mod Offers
+mod Once
+mod Sessions
+mod Totals

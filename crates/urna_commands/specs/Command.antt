@@ -1,0 +1,125 @@
+-- The words of a command
+use Rattle.std.specs.Prelude.{ℕ, List, [], ◌∷◌, Option, Some, None, if◌then◌else◌, codes, nat_le, ◌&&◌}
+use Rattle.std.specs.Option.{option_and_then, option_map}
+use Rattle.std.specs.Str.{bytes_eq}
+use Rattle.urna_base.specs.Digits.{decimal_value}
+use Rattle.election_tables.specs.Limits.{greatest_section, most_voters}
+
+-- vota TABLES ROLL KEYS OUT: the names of the files
+pub record Vota : Type 0 where
+  pub tables : List ℕ
+  pub roll : List ℕ
+  pub keys : List ℕ
+  pub out : List ℕ
+
+-- carga TABLES ROLL ZONE SECTION: the names of the files, and the section's zone and number
+pub record Carga : Type 0 where
+  pub tables : List ℕ
+  pub roll : List ℕ
+  pub zone : ℕ
+  pub number : ℕ
+
+-- emite TABLES ROLL OUT: the names of the files
+pub record Emite : Type 0 where
+  pub tables : List ℕ
+  pub roll : List ℕ
+  pub out : List ℕ
+
+-- confere TABLES REPORT: the names of the files
+pub record Confere : Type 0 where
+  pub tables : List ℕ
+  pub report : List ℕ
+
+-- totaliza TABLES LIST: the names of the files
+pub record Totaliza : Type 0 where
+  pub tables : List ℕ
+  pub list : List ℕ
+
+-- a command and its names, or its number of voters
+pub data Command : Type 0 where
+  ToVote : Vota → Command
+  ToLoad : Carga → Command
+  ToEmit : Emite → Command
+  ToCheck : Confere → Command
+  ToTotal : Totaliza → Command
+  ToRehearse : ℕ → Command
+
+-- the words behind vota: TABLES ROLL KEYS OUT
+abbrev pub vota_of : List (List ℕ) → Option Command
+vota_of (tables ∷ roll ∷ keys ∷ out ∷ []) = Some (ToVote (record { tables = tables; roll = roll; keys = keys; out = out }))
+vota_of [] = None
+vota_of (a ∷ []) = None
+vota_of (a ∷ b ∷ []) = None
+vota_of (a ∷ b ∷ c ∷ []) = None
+vota_of (a ∷ b ∷ c ∷ d ∷ e ∷ more) = None
+
+-- a number that a zone or a section may have
+abbrev pub in_range : ℕ → Option ℕ
+in_range n = if nat_le 1 n && nat_le n greatest_section then Some n else None
+
+-- the number of a zone, or of a section, that a word names
+abbrev pub named_number : List ℕ → Option ℕ
+named_number word = option_and_then in_range (decimal_value word)
+
+-- the load of these documents for a zone and a section, if both are numbers
+abbrev pub carga_at : List ℕ → List ℕ → Option ℕ → Option ℕ → Option Command
+carga_at tables roll (Some zone) (Some number) = Some (ToLoad (record { tables = tables; roll = roll; zone = zone; number = number }))
+carga_at tables roll (Some zone) None = None
+carga_at tables roll None number = None
+
+-- the words behind carga: TABLES ROLL ZONE SECTION
+abbrev pub carga_of : List (List ℕ) → Option Command
+carga_of (tables ∷ roll ∷ zone ∷ number ∷ []) = carga_at tables roll (named_number zone) (named_number number)
+carga_of [] = None
+carga_of (a ∷ []) = None
+carga_of (a ∷ b ∷ []) = None
+carga_of (a ∷ b ∷ c ∷ []) = None
+carga_of (a ∷ b ∷ c ∷ d ∷ e ∷ more) = None
+
+-- the words behind emite: TABLES ROLL OUT
+abbrev pub emite_of : List (List ℕ) → Option Command
+emite_of (tables ∷ roll ∷ out ∷ []) = Some (ToEmit (record { tables = tables; roll = roll; out = out }))
+emite_of [] = None
+emite_of (a ∷ []) = None
+emite_of (a ∷ b ∷ []) = None
+emite_of (a ∷ b ∷ c ∷ d ∷ more) = None
+
+-- the words behind confere: TABLES REPORT
+abbrev pub confere_of : List (List ℕ) → Option Command
+confere_of (tables ∷ report ∷ []) = Some (ToCheck (record { tables = tables; report = report }))
+confere_of [] = None
+confere_of (a ∷ []) = None
+confere_of (a ∷ b ∷ c ∷ more) = None
+
+-- the words behind totaliza: TABLES LIST
+abbrev pub totaliza_of : List (List ℕ) → Option Command
+totaliza_of (tables ∷ list ∷ []) = Some (ToTotal (record { tables = tables; list = list }))
+totaliza_of [] = None
+totaliza_of (a ∷ []) = None
+totaliza_of (a ∷ b ∷ c ∷ more) = None
+
+-- a number of voters that a section may have
+abbrev pub in_section : ℕ → Option ℕ
+in_section n = if nat_le 1 n && nat_le n most_voters then Some n else None
+
+-- the number of voters that a word names
+abbrev pub named_voters : List ℕ → Option ℕ
+named_voters word = option_and_then in_section (decimal_value word)
+
+-- the word behind ensaio: N
+abbrev pub ensaio_of : List (List ℕ) → Option Command
+ensaio_of (voters ∷ []) = option_map ToRehearse (named_voters voters)
+ensaio_of [] = None
+ensaio_of (a ∷ b ∷ more) = None
+
+-- the command of the words, if they are one: the first one says which
+abbrev pub command_of : List (List ℕ) → Option Command
+command_of [] = None
+command_of (word ∷ names) =
+    if bytes_eq word (codes "vota") then vota_of names
+    else if bytes_eq word (codes "carga") then carga_of names
+    else if bytes_eq word (codes "emite") then emite_of names
+    else if bytes_eq word (codes "confere") then confere_of names
+    else if bytes_eq word (codes "totaliza") then totaliza_of names
+    else if bytes_eq word (codes "ensaio") then ensaio_of names
+    else None

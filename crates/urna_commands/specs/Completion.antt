@@ -1,0 +1,149 @@
+-- Calls that have what they need and meet no fault: they do all their steps, or memory was wanted
+use Rattle.std.specs.Prelude.{◌≡◌, ◌⊎◌, ℕ, Bool, true, false, List, [], Option, None, Some}
+use Rattle.std.specs.Option.{IsSomeAnd}
+use Rattle.urna_outside.specs.Cabinet.{CabinetTold, Files}
+use Rattle.urna_outside.specs.Flash.{Flashes}
+use Rattle.urna_outside.specs.Told.{Rose, Told, faults_of}
+use Rattle.urna_outside.specs.declared.device.Port.{Port}
+use Rattle.election_tables.specs.Roll.{RollData}
+use Rattle.election_tables.specs.TablesData.{TablesData}
+use Rattle.election_tables.specs.declared.tables.sections.Section.{Section}
+use Rattle.key_script.specs.declared.keys.Event.{Event}
+use Rattle.turnout.specs.declared.phase.Phase.TheVariants as phase
+use Rattle.image_codec.specs.State.{State}
+use Rattle.section_intake.specs.Accepted.{File}
+use Rattle.section_intake.specs.declared.verdict.Verdict.{Verdict}
+use Rattle.state_store.specs.Calls.{AreFound, AreFree}
+use Rattle.urna_commands.specs.Carga.{IsSectionAsked}
+use Rattle.urna_commands.specs.Command.{Carga, Command, Confere, Emite, ToCheck, ToEmit, ToLoad, ToRehearse, ToTotal, ToVote, Totaliza, Vota, command_of}
+use Rattle.urna_commands.specs.Documents.{HasDocuments, HasTables, IsTaken}
+use Rattle.urna_commands.specs.Ending.{Ends}
+use Rattle.urna_commands.specs.Totaliza.{AreTaken, HasOffered, IsListed, refused_count, refused_status}
+use Rattle.urna_commands.specs.Vota.{IsGiven}
+use Rattle.urna_commands.specs.declared.status.Doc.TheVariants as doc
+use Rattle.urna_commands.specs.declared.status.Status.{Status}
+use Rattle.urna_commands.specs.declared.status.Status.TheVariants as status
+
+-- in a call no count of faults rose: neither the cabinet's nor a port's
+pub record NothingFailed (c d : CabinetTold) (m n : Told) : Type 0 where
+  pub cabinet : ¬ Rose c.tally.faults d.tally.faults
+  pub ports : (p : Port) → ¬ Rose (faults_of p m.faults) (faults_of p n.faults)
+
+-- the call did all its steps, or memory was wanted
+abbrev pub IsDoneOrMemory : Status → Type 0
+IsDoneOrMemory s = (s ≡ status.Done) ⊎ (s ≡ status.Memory)
+
+-- the status tells of a fault of the cabinet or of a port, of a name not found, or of a file found too long
+abbrev pub tells_of_count : Status → Bool
+tells_of_count status.Cabinet = true
+tells_of_count (status.Missing d) = true
+tells_of_count (status.TooLong d) = true
+tells_of_count status.InternalFlash = true
+tells_of_count status.ExternalFlash = true
+tells_of_count status.Display = true
+tells_of_count status.Done = false
+tells_of_count status.Memory = false
+tells_of_count status.Usage = false
+tells_of_count status.TablesNotToml = false
+tells_of_count (status.TablesRule k) = false
+tells_of_count status.RollCount = false
+tells_of_count (status.RollLine k) = false
+tells_of_count (status.Line k) = false
+tells_of_count (status.ReportRefused v) = false
+tells_of_count (status.SomeRefused k) = false
+tells_of_count (status.Foreign d) = false
+tells_of_count status.NoImage = false
+tells_of_count (status.Busy d) = false
+tells_of_count status.NotSealed = false
+tells_of_count status.NoSection = false
+
+-- ---- what the commands need
+
+-- the files of these names are tables and a roll of a section that is asked for, and neither flash is in use
+pub record CanLoad (names : Carga) (files : Option Files) (flashes : Flashes) : Type 0 where
+  pub t : TablesData
+  pub r : RollData
+  pub section : Section
+  pub given : HasDocuments files names.tables names.roll t r
+  pub asked : IsSectionAsked names t r section
+  pub free : AreFree flashes
+
+-- the files of these names are tables, a roll and keys, and the flashes hold a poll of this load, as after a load and after any session,
+-- wherever it was stopped
+pub record CanVote (names : Vota) (files : Option Files) (flashes : Flashes) : Type 0 where
+  pub t : TablesData
+  pub r : RollData
+  pub es : List Event
+  pub section : Section
+  pub state : State
+  pub given : IsGiven files names t r es
+  pub found : AreFound t r section state flashes
+
+-- the files of these names are tables and a roll, and the flashes hold a sealed poll of this load
+pub record CanEmit (names : Emite) (files : Option Files) (flashes : Flashes) : Type 0 where
+  pub t : TablesData
+  pub r : RollData
+  pub section : Section
+  pub state : State
+  pub opened : ℕ
+  pub closed : ℕ
+  pub given : HasDocuments files names.tables names.roll t r
+  pub found : AreFound t r section state flashes
+  pub sealed : state.phase ≡ phase.Sealed opened closed
+
+-- the files of these names are tables, and one no longer than a report may be
+pub record CanCheck (names : Confere) (files : Option Files) : Type 0 where
+  pub t : TablesData
+  pub bytes : List ℕ
+  pub tables : HasTables files names.tables t
+  pub report : IsTaken files doc.Report names.report bytes
+
+-- the files of these names are tables and a list, and each listed report is there and no longer than a report may be
+pub record CanTotal (names : Totaliza) (files : Option Files) : Type 0 where
+  pub t : TablesData
+  pub listed : List (List ℕ)
+  pub given : IsListed files names t listed
+  pub reports : List File
+  pub taken : AreTaken files listed reports
+
+-- the status that the verdicts on all listed reports give
+pub record IsByVerdicts (names : Totaliza) (files : Option Files) (s : Status) : Type 0 where
+  pub t : TablesData
+  pub listed : List (List ℕ)
+  pub given : IsListed files names t listed
+  pub verdicts : List Verdict
+  pub accepted : List File
+  pub offered : HasOffered files t listed [] verdicts accepted
+  pub is : s ≡ refused_status (refused_count verdicts)
+
+-- ---- and then they complete
+
+-- a command has what it needs: the cabinet tells its files, one that works on the flashes finds them told too, and they are as they have to be
+abbrev pub CanDo : Command → Option Files → Option Flashes → Type 0
+CanDo (ToVote names) files flashes = IsSomeAnd files (λ f. IsSomeAnd flashes (CanVote names (Some f)))
+CanDo (ToLoad names) files flashes = IsSomeAnd files (λ f. IsSomeAnd flashes (CanLoad names (Some f)))
+CanDo (ToEmit names) files flashes = IsSomeAnd files (λ f. IsSomeAnd flashes (CanEmit names (Some f)))
+CanDo (ToCheck names) files flashes = IsSomeAnd files (λ f. CanCheck names (Some f))
+CanDo (ToTotal names) files flashes = IsSomeAnd files (λ f. CanTotal names (Some f))
+CanDo (ToRehearse voters) files flashes = Unit
+
+-- and so it ends: a check may refuse the report besides, and of the totals the verdicts say
+abbrev pub Completes : Command → Option Files → Status → Type 0
+Completes (ToVote names) files s = IsDoneOrMemory s
+Completes (ToLoad names) files s = IsDoneOrMemory s
+Completes (ToEmit names) files s = IsDoneOrMemory s
+Completes (ToCheck names) files s = IsDoneOrMemory s ⊎ ((v : Verdict) × (s ≡ status.ReportRefused v))
+Completes (ToTotal names) files s = IsByVerdicts names files s ⊎ (s ≡ status.Memory)
+Completes (ToRehearse voters) files s = IsDoneOrMemory s
+
+-- Where the cabinet tells its files and the machine its flashes, a call of the program that has what its command needs, and in which no
+-- count of faults rose, does all its steps, or memory was wanted.
+abbrev pub CompletesWhereItCan : Type 0
+CompletesWhereItCan = (words : List (List ℕ)) (command : Command) (c d : CabinetTold) (m n : Told) (s : Status) → command_of words ≡ Some command
+    → NothingFailed c d m n → Ends words c d m n s → CanDo command c.files m.flashes → Completes command c.files s
+
+-- Of any cabinet and machine: where no count rose in a call, also not that of names not found or of files found too long, the status tells
+-- of none.
+abbrev pub TellsOfRisenCounts : Type 0
+TellsOfRisenCounts = (words : List (List ℕ)) (c d : CabinetTold) (m n : Told) (s : Status) → NothingFailed c d m n
+    → ¬ Rose c.tally.missing d.tally.missing → ¬ Rose c.tally.too_long d.tally.too_long → Ends words c d m n s → tells_of_count s ≡ false

@@ -1,0 +1,183 @@
+//! The words of a command.
+ghost use Rattle.std.specs.Prelude.{◌≡◌, ◌≤◌, IfSome, map, string_bytes};
+ghost use Rattle.std.specs.Option.{option_map};
+ghost use Rattle.election_tables.specs.Limits.{most_voters};
+ghost use Rattle.urna_commands.specs.Words.{HasVoters, meant};
+ghost use Rattle.urna_commands.specs.Command.{carga_of, command_of, confere_of, emite_of, ensaio_of, named_number, named_voters, totaliza_of, vota_of};
+
+use election_tables::{GREATEST_SECTION, MOST_VOTERS};
+use urna_base::decimal;
+
+/// The names of the files of `vota`.
+#[derive(Clone, Copy)]
+pub(crate) struct VotaNames<'a> {
+    pub tables: &'a str,
+    pub roll: &'a str,
+    pub keys: &'a str,
+    pub out: &'a str,
+}
+
+/// The names of the files of `carga`, and the zone and number of the section.
+#[derive(Clone, Copy)]
+pub(crate) struct CargaNames<'a> {
+    pub tables: &'a str,
+    pub roll: &'a str,
+    pub zone: u32,
+    pub number: u32,
+}
+
+/// The names of the files of `emite`.
+#[derive(Clone, Copy)]
+pub(crate) struct EmiteNames<'a> {
+    pub tables: &'a str,
+    pub roll: &'a str,
+    pub out: &'a str,
+}
+
+/// The names of the files of `confere`.
+#[derive(Clone, Copy)]
+pub(crate) struct ConfereNames<'a> {
+    pub tables: &'a str,
+    pub report: &'a str,
+}
+
+/// The names of the files of `totaliza`.
+#[derive(Clone, Copy)]
+pub(crate) struct TotalizaNames<'a> {
+    pub tables: &'a str,
+    pub list: &'a str,
+}
+
+/// A command, with the names of its files, or its number of voters.
+#[derive(Clone, Copy)]
+pub(crate) enum Command<'a> {
+    Vota(VotaNames<'a>),
+    Carga(CargaNames<'a>),
+    Emite(EmiteNames<'a>),
+    Confere(ConfereNames<'a>),
+    Totaliza(TotalizaNames<'a>),
+    Ensaio(u32),
+}
+
+/// The command of some words: the first one says which, and the others are its names.
+pub(crate) fn command_of(words: &[String]) -> Option<Command<'_>>
+    ensures command { option_map meant result ≡ command_of (map string_bytes words.now) }
+    ensures voters { IfSome result HasVoters }
+{
+    let [word, names @ ..] = words else {
+        return None;
+    };
+    match word.as_str() {
+        "vota" => vota_of(names),
+        "carga" => carga_of(names),
+        "emite" => emite_of(names),
+        "confere" => confere_of(names),
+        "totaliza" => totaliza_of(names),
+        "ensaio" => ensaio_of(names),
+        _ => None,
+    }
+}
+
+/// TABLES ROLL KEYS OUT.
+fn vota_of(names: &[String]) -> Option<Command<'_>>
+    ensures { option_map meant result ≡ vota_of (map string_bytes names.now) }
+{
+    let [tables, roll, keys, out] = names else {
+        return None;
+    };
+    Some(Command::Vota(VotaNames {
+        tables: tables.as_str(),
+        roll: roll.as_str(),
+        keys: keys.as_str(),
+        out: out.as_str(),
+    }))
+}
+
+/// TABLES ROLL ZONE SECTION.
+fn carga_of(names: &[String]) -> Option<Command<'_>>
+    ensures { option_map meant result ≡ carga_of (map string_bytes names.now) }
+{
+    let [tables, roll, zone, number] = names else {
+        return None;
+    };
+    let zone = named_number(zone.as_str())?;
+    let number = named_number(number.as_str())?;
+    Some(Command::Carga(CargaNames {
+        tables: tables.as_str(),
+        roll: roll.as_str(),
+        zone,
+        number,
+    }))
+}
+
+/// TABLES ROLL OUT.
+fn emite_of(names: &[String]) -> Option<Command<'_>>
+    ensures { option_map meant result ≡ emite_of (map string_bytes names.now) }
+{
+    let [tables, roll, out] = names else {
+        return None;
+    };
+    Some(Command::Emite(EmiteNames {
+        tables: tables.as_str(),
+        roll: roll.as_str(),
+        out: out.as_str(),
+    }))
+}
+
+/// TABLES REPORT.
+fn confere_of(names: &[String]) -> Option<Command<'_>>
+    ensures { option_map meant result ≡ confere_of (map string_bytes names.now) }
+{
+    let [tables, report] = names else {
+        return None;
+    };
+    Some(Command::Confere(ConfereNames {
+        tables: tables.as_str(),
+        report: report.as_str(),
+    }))
+}
+
+/// TABLES LIST.
+fn totaliza_of(names: &[String]) -> Option<Command<'_>>
+    ensures { option_map meant result ≡ totaliza_of (map string_bytes names.now) }
+{
+    let [tables, list] = names else {
+        return None;
+    };
+    Some(Command::Totaliza(TotalizaNames {
+        tables: tables.as_str(),
+        list: list.as_str(),
+    }))
+}
+
+/// A number of voters.
+fn ensaio_of(names: &[String]) -> Option<Command<'_>>
+    ensures command { option_map meant result ≡ ensaio_of (map string_bytes names.now) }
+    ensures voters { IfSome result HasVoters }
+{
+    let [voters] = names else {
+        return None;
+    };
+    Some(Command::Ensaio(named_voters(voters.as_str())?))
+}
+
+/// A number of voters: a decimal from 1 to `MOST_VOTERS`.
+fn named_voters(word: &str) -> Option<u32>
+    ensures voters { result ≡ named_voters word.now }
+    ensures range { IfSome result (λ n. (1 ≤ n) × (n ≤ most_voters)) }
+{
+    match decimal(word.as_bytes()) {
+        Some(number) if 1 <= number && number <= MOST_VOTERS => Some(number as u32),
+        _ => None,
+    }
+}
+
+/// A zone or the number of a section: a decimal from 1 to `GREATEST_SECTION`.
+fn named_number(word: &str) -> Option<u32>
+    ensures { result ≡ named_number word.now }
+{
+    match decimal(word.as_bytes()) {
+        Some(number) if 1 <= number && number <= GREATEST_SECTION => Some(number as u32),
+        _ => None,
+    }
+}

@@ -1,0 +1,170 @@
+//! Taking and reading the files of a command.
+ghost use Rattle.std.specs.Prelude.{◌≡◌, ◌≢◌, ℕ, IfErr, IfOk, List, Option};
+ghost use Rattle.urna_outside.specs.Cabinet.{Files};
+ghost use Rattle.election_tables.specs.TablesData.{IsTables};
+ghost use Rattle.urna_commands.specs.Documents.{HasNames, HasTables, HasRoll, HasKeys, IsFault, IsFirstFault, IsTaken, limit_of};
+ghost use Rattle.urna_commands.specs.Taking.{HasTaken, status_in};
+
+use crate::errors::not_taken;
+use crate::status::{Doc, Status};
+use election_tables::{Roll, Tables};
+use key_script::{Names, Script};
+use result_files::MOST_REPORT_BYTES;
+use std::alloc::Global;
+use urna_outside::Cabinet;
+
+const TABLES_LIMIT: u32 = 4_194_304;
+
+const ROLL_LIMIT: u32 = 16_384;
+
+const KEYS_LIMIT: u32 = 16_777_216;
+
+const LIST_LIMIT: u32 = 1_048_576;
+
+/// The most bytes that a document may have.
+fn limit(doc: Doc) -> u32
+    ensures { result ≡ limit_of doc }
+{
+    match doc {
+        Doc::Tables => TABLES_LIMIT,
+        Doc::Roll => ROLL_LIMIT,
+        Doc::Keys => KEYS_LIMIT,
+        Doc::Report => MOST_REPORT_BYTES,
+        Doc::List => LIST_LIMIT,
+    }
+}
+
+/// The bytes of a document.
+fn take<C: Cabinet>(alloc: Global, cabinet: &mut C, name: &str, doc: Doc) -> Result<Vec<u8>, Status>
+    ensures bytes { IfOk result (λ bytes. IsTaken (C.told cabinet.old).files doc name.now bytes.items) }
+    ensures fault { IfErr result (λ s. s ≢ Status.Memory → s ≢ Status.Cabinet → IsFault (C.told cabinet.old).files name.now doc s) }
+    ensures taken { HasTaken 1 (status_in result) (C.told cabinet.old) (C.told cabinet.new) }
+{
+    match cabinet.take(alloc, name, limit(doc)) {
+        Ok(bytes) => Ok(bytes),
+        Err(error) => Err(not_taken(error, doc)),
+    }
+}
+
+/// What a command reads of one of its documents.
+pub(crate) trait Document {
+    ghost use Rattle.urna_commands.specs.declared.status.Doc.{Doc};
+
+    ghost doc: { Doc };
+
+    /// The file of a name holds it.
+    ghost held: { Option Files → List ℕ → Self → Type 0 };
+
+    /// Takes the file of a name, and reads it.
+    fn take_document<C: Cabinet>(alloc: Global, cabinet: &mut C, name: &str) -> Result<Self, Status>
+        ensures read { IfOk result (held (C.told cabinet.old).files name.now) }
+        ensures fault { IfErr result (λ s. s ≢ Status.Memory → s ≢ Status.Cabinet → IsFault (C.told cabinet.old).files name.now doc s) }
+        ensures taken { HasTaken 1 (status_in result) (C.told cabinet.old) (C.told cabinet.new) };
+}
+
+impl Document for Tables {
+    ghost use Rattle.urna_commands.specs.declared.status.Doc.TheVariants as kind;
+
+    ghost doc = { kind.Tables };
+
+    ghost held = { HasTables };
+
+    fn take_document<C: Cabinet>(
+        alloc: Global,
+        cabinet: &mut C,
+        name: &str,
+    ) -> Result<Tables, Status> {
+        let bytes = take(alloc, cabinet, name, Doc::Tables)?;
+        let tables = Tables::read(alloc, &bytes)?;
+        Ok(tables)
+    }
+}
+
+impl Document for Roll {
+    ghost use Rattle.urna_commands.specs.declared.status.Doc.TheVariants as kind;
+
+    ghost doc = { kind.Roll };
+
+    ghost held = { HasRoll };
+
+    fn take_document<C: Cabinet>(
+        alloc: Global,
+        cabinet: &mut C,
+        name: &str,
+    ) -> Result<Roll, Status> {
+        let bytes = take(alloc, cabinet, name, Doc::Roll)?;
+        let roll = Roll::read(alloc, &bytes)?;
+        Ok(roll)
+    }
+}
+
+impl Document for Script {
+    ghost use Rattle.urna_commands.specs.declared.status.Doc.TheVariants as kind;
+
+    ghost doc = { kind.Keys };
+
+    ghost held = { HasKeys };
+
+    fn take_document<C: Cabinet>(
+        alloc: Global,
+        cabinet: &mut C,
+        name: &str,
+    ) -> Result<Script, Status> {
+        let bytes = take(alloc, cabinet, name, Doc::Keys)?;
+        let script = Script::read(bytes)?;
+        Ok(script)
+    }
+}
+
+impl Document for Names {
+    ghost use Rattle.urna_commands.specs.declared.status.Doc.TheVariants as kind;
+
+    ghost doc = { kind.List };
+
+    ghost held = { HasNames };
+
+    fn take_document<C: Cabinet>(
+        alloc: Global,
+        cabinet: &mut C,
+        name: &str,
+    ) -> Result<Names, Status> {
+        let bytes = take(alloc, cabinet, name, Doc::List)?;
+        let names = Names::read(bytes)?;
+        Ok(names)
+    }
+}
+
+/// The bytes of the file of a report.
+impl Document for Vec<u8> {
+    ghost use Rattle.urna_commands.specs.declared.status.Doc.TheVariants as kind;
+
+    ghost doc = { kind.Report };
+
+    ghost held = { λ files name bytes. IsTaken files kind.Report name bytes.items };
+
+    fn take_document<C: Cabinet>(
+        alloc: Global,
+        cabinet: &mut C,
+        name: &str,
+    ) -> Result<Vec<u8>, Status> {
+        take(alloc, cabinet, name, Doc::Report)
+    }
+}
+
+/// The tables of a command and another document, in the order of its words.
+pub(crate) fn take_tables_and<C: Cabinet, D: Document>(
+    alloc: Global,
+    cabinet: &mut C,
+    tables: &str,
+    other: &str,
+) -> Result<(Tables, D), Status>
+    ensures tables { IfOk result (λ both. HasTables (C.told cabinet.old).files tables.now both.0) }
+    ensures valid { IfOk result (λ both. IsTables both.0) }
+    ensures other { IfOk result (λ both. D.held (C.told cabinet.old).files other.now both.1) }
+    ensures fault { IfErr result (λ s. s ≢ Status.Memory → s ≢ Status.Cabinet → IsFirstFault (C.told cabinet.old).files tables.now D.doc other.now s) }
+    ensures taken { HasTaken 2 (status_in result) (C.told cabinet.old) (C.told cabinet.new) }
+{
+    let tables = Tables::take_document(alloc, cabinet, tables)?;
+    let other = D::take_document(alloc, cabinet, other)?;
+    Ok((tables, other))
+}

@@ -1,0 +1,88 @@
+//! The commands of `urna`: the words name a command and its files, and the status says how the command ended.
+//!
+//! `urna` is the call by which the program does its command. What it says of the files, of the text that is shown and of each
+//! status stands in `specs/Ending.antt`, and by command in `specs/Vota.antt`, `specs/Carga.antt`, `specs/Emite.antt`,
+//! `specs/Confere.antt`, `specs/Totaliza.antt` and `specs/Ensaio.antt` (docs/RULES.md, "The run"; docs/FORMATS.md, "Statuses").
+#![tactic(auto)]
+
+ghost use Rattle.std.specs.Prelude.{map, string_bytes};
+ghost use Rattle.state_store.specs.Store.{AreDevices};
+ghost use Rattle.urna_commands.specs.Command.{command_of};
+ghost use Rattle.urna_commands.specs.Ending.{CommandEnds, Ends};
+ghost use Rattle.urna_commands.specs.Taking.{status_in};
+
+mod carga;
+mod command;
+mod confere;
+mod documents;
+mod emite;
+mod ensaio;
+mod errors;
+mod fault;
+mod laws;
+mod results;
+mod status;
+mod telling;
+mod totaliza;
+mod verdict;
+mod vota;
+
+use carga::carga;
+use command::{Command, command_of};
+use confere::confere;
+use emite::emite;
+use ensaio::ensaio;
+use fault::tell_fault;
+pub use status::{Doc, Status};
+use std::alloc::Global;
+use totaliza::totaliza;
+pub use totals::contest_of;
+use urna_outside::{Cabinet, Machine};
+use vota::vota;
+
+/// One command: the words after the program's name, over a machine with two flashes of DEVICE_SIZE bytes and a cabinet.
+///
+/// `carga TABLES ROLL ZONE SECTION` loads both flashes for a section of the tables. `vota TABLES ROLL KEYS OUT` takes the three files,
+/// recovers the poll that the flashes hold, runs the session of the keys over it, and where the poll is sealed then puts its report and
+/// its record as `OUT.bu` and `OUT.rdv`. `emite TABLES ROLL OUT` puts these two files of the sealed poll that the flashes hold, and writes
+/// nothing on a flash. `confere TABLES REPORT` tells whether the file of a report is whole and fits the tables. `totaliza TABLES LIST` tells
+/// that of each report that the list names, and the sums and the seats, or the winner, of each office over those that are accepted.
+/// `ensaio N` rehearses a whole election of N voters in memory, puts its files and tells its lines. Where the command was refused, a line
+/// tells why.
+pub fn urna<M: Machine, C: Cabinet>(
+    alloc: Global,
+    words: &[String],
+    machine: &mut M,
+    cabinet: &mut C,
+) -> Status
+    requires { AreDevices (M.told machine.old).sizes }
+    ensures { Ends (map string_bytes words.now) (C.told cabinet.old) (C.told cabinet.new) (M.told machine.old) (M.told machine.new) result }
+{
+    let status = match run_command(alloc, words, machine, cabinet) {
+        Ok(()) => Status::Done,
+        Err(status) => status,
+    };
+    tell_fault(machine, &status);
+    status
+}
+
+/// The command of the words.
+fn run_command<M: Machine, C: Cabinet>(
+    alloc: Global,
+    words: &[String],
+    machine: &mut M,
+    cabinet: &mut C,
+) -> Result<(), Status>
+    requires { AreDevices (M.told machine.old).sizes }
+    ensures { CommandEnds (command_of (map string_bytes words.now)) (C.told cabinet.old) (C.told cabinet.new) (M.told machine.old) (M.told machine.new) (status_in result) }
+{
+    match command_of(words) {
+        None => Err(Status::Usage),
+        Some(Command::Vota(names)) => vota(alloc, names, machine, cabinet),
+        Some(Command::Carga(names)) => carga(alloc, names, machine, cabinet),
+        Some(Command::Emite(names)) => emite(alloc, names, machine, cabinet),
+        Some(Command::Confere(names)) => confere(alloc, names, machine, cabinet),
+        Some(Command::Totaliza(names)) => totaliza(alloc, names, machine, cabinet),
+        Some(Command::Ensaio(voters)) => ensaio(alloc, voters, machine, cabinet),
+    }
+}

@@ -1,0 +1,108 @@
+"""The rule of docs/CRASH.md over what the scripts of cases tell of stops: behind each operation of a session both flashes, and each alone,
+hold the state whose line the display had begun last, or the next; before its first line both hold the state that it found.
+
+`violations` gives the lines of the expected text of `session_tests` that tell something else.
+"""
+
+import re
+
+# How many operations the commit has that comes before a line: of a voter, and of the opening or the closing.
+COMMITS = {"FIM": 28, "ABERTA": 24, "ENCERRADA": 24}
+RUN = re.compile(r"    (\d+) to (\d+): (.*)")
+
+
+def commit_of(line):
+    return COMMITS.get(line.split(" ")[0], 0)
+
+
+def states_of(opening, lines):
+    """What a session without presses tells of each state of a session that began with this line."""
+    word, came = opening.split(" ")[1], int(opening.split(" ")[2])
+    states = [opening]
+    for line in lines:
+        if commit_of(line):
+            came += line == "FIM"
+            word = "LACRADA" if line.startswith("ENCERRADA") else "ABERTA"
+            states.append(f"URNA {word} {came}")
+    return states
+
+
+def begun_by(lines, front, operations):
+    """How many lines, and how many that tell a state, the first operations begin; before all lines come so many others."""
+    at, shown, told = front, 0, 0
+    for line in lines:
+        at += commit_of(line)
+        if at < operations:
+            shown, told = shown + 1, told + bool(commit_of(line))
+        at += 1
+    return shown, told
+
+
+def told_in(text):
+    """What a text tells of both flashes and of each alone, of each way in which torn bytes may stand."""
+    for way in re.split(r" \| from \w+ on ", text):
+        found = re.findall(r"URNA \w+ \d+", way)
+        ranks = re.search(r"internal (\S) (\S) external (\S) (\S)", way)
+        yield found, [[int(it) for it in ranks.groups()[at : at + 2] if it != "-"] for at in (0, 2)] if ranks else []
+
+
+def is_kept(text, states, shown, told, first):
+    """Whether each state that is told, and the greatest rank on each flash, is the last one whose line was begun, or the next."""
+    allowed = states[told : told + 2]
+    for found, ranks in told_in(text):
+        if found and (found[0] not in allowed or (shown and not set(found) <= set(allowed))):
+            return False
+        greatest = [max(it, default=-1) for it in ranks]
+        held = [max(greatest)] if greatest and not shown else greatest
+        if not all(first + told <= it <= first + told + 1 for it in held):
+            return False
+    return not (not shown and any(found and found[0] != states[0] for found, _ in told_in(text)))
+
+
+def begun_before(lines, cut):
+    """How far a session is that stopped behind this line, which may be cut to its half, for each place where it may be that."""
+    for at, line in enumerate(lines):
+        if cut in (line, line[: (len(line) + 1) // 2].rstrip()):
+            yield at + 1, sum(bool(commit_of(it)) for it in lines[: at + 1])
+    if not cut:
+        yield 0, 0
+
+
+def check_runs(word, runs, session, first):
+    """The lines of one look over a session that tell what may not be."""
+    opening, lines = session[0], session[1:]
+    states = states_of(opening, lines)
+    operations = int(runs[-1][1]) + (word == "pieces")
+    front = operations - sum(1 + commit_of(line) for line in session)
+    for low, high, text in runs:
+        if word == "calls":
+            cut = re.match(r'= \d+ behind "(.*?)", left (.*)', text)
+            places = list(begun_before(session, cut[1]))
+            if not any(is_kept(cut[2], states, shown, told, first) for shown, told in places):
+                yield f"{low} to {high}: {text}"
+            continue
+        for done in range(int(low), int(high) + 1):
+            shown, told = begun_by(session, front, done)
+            if not is_kept(text, states, shown, told, first):
+                yield f"{done} of {low} to {high}: {text}"
+
+
+def violations(expected):
+    """What the expected text tells of the stops of sessions and may not be."""
+    session, look, runs, rank = [], "", [], {"PRONTA": 0}
+    for line in [*expected.splitlines(), ""]:
+        run = RUN.fullmatch(line)
+        if run and look:
+            runs.append(run.groups())
+            continue
+        if runs and session and session[0].startswith("URNA "):
+            opening = session[0].split(" ")
+            yield from check_runs(look, runs, session, 0 if opening[1] == "PRONTA" else 1 + int(opening[2]))
+        if line.startswith("    "):
+            if not re.match(r"    [=+!] ", line):
+                session.append(line[4:])
+            continue
+        runs, words = [], line.split(" ")
+        look = words[0] if words[0] in ("ranks", "pieces", "calls") or (words[0] == "stops" and len(words) == 2) else ""
+        if words[0] in ("urna", "hush", "session"):
+            session = []
