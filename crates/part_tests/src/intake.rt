@@ -1,16 +1,14 @@
-//! Files of reports, offered one behind the other (the crate `section_intake`), and the contest of their votes (the crate `totals`).
+//! Files of reports, offered one behind the other (the crate `section_intake`): their sums, also of numbers that the tables lack, and the contest
+//! of their votes (the crate `totals`).
 ghost use Rattle.std.specs.Prelude.{◌<◌};
 ghost use Rattle.section_intake.specs.Intake.{IsIntakeFor, panels_of};
 
-use crate::changes::changed;
-use crate::files::{file_of, told_verdict};
-use crate::reports::TWO_OFFICES;
+use crate::files::REPORT;
 use election_tables::Tables;
-use section_intake::Intake;
+use section_intake::{Intake, Verdict};
 use std::alloc::{AllocError, Global};
 use std::test::Fail;
 use totals::contest_of;
-use urna_base::Memory;
 
 /// Two offices and two sections.
 const TABLES: &[u8] = br#"
@@ -37,57 +35,15 @@ secao = [
 ]
 "#;
 
-/// The other section, of whose voters four came: two party votes and two null ones; then three votes for candidate 45 and a blank one.
-const OTHER_SECTION: &str =
-    "ORIG:VOTA PROC:7 DTPL:20261004 TURN:1 ZONA:2 SECA:1 APTO:5 COMP:4 FALT:1 \
+/// The report of the other section, of whose voters four came: two party votes and two null ones; then three votes for candidate 45 and a
+/// blank one.
+const OTHER_REPORT: &[u8] = b"QRBU:1:1 VRQR:U1 \
+     ORIG:VOTA PROC:7 DTPL:20261004 TURN:1 ZONA:2 SECA:1 APTO:5 COMP:4 FALT:1 \
      DTAB:20261004 HRAB:080000 DTFC:20261004 HRFC:170000 \
      CARG:13 TIPO:1 PART:45 LEGP:2 TOTP:2 APTA:5 NOMI:0 LEGC:2 BRAN:0 NULO:2 TOTC:4 \
-     CARG:11 TIPO:0 45:3 APTA:5 NOMI:3 BRAN:1 NULO:0 TOTC:4";
-
-/// A file that is offered: how the verdict is told, the fields of a report and a change of them, and a change of their file.
-type Offer<'a> = (&'a str, &'a str, &'a str, &'a str);
-
-const SAME: &str = "ORIG => ORIG";
-
-/// A report, its copy, the same with another digit, and another report of its section.
-const FIRST: &[Offer<'static>] = &[
-    ("ACEITO 1 42", TWO_OFFICES, SAME, SAME),
-    ("REPETIDO 1 42", TWO_OFFICES, SAME, SAME),
-    ("HASH 1", TWO_OFFICES, SAME, "13001:1 => 13001:2"),
-    (
-        "CONFLITO 1 42",
-        TWO_OFFICES,
-        "BRAN:1_NULO:0 => BRAN:0_NULO:1",
-        SAME,
-    ),
-    (
-        "CAMPO 27",
-        TWO_OFFICES,
-        "BRAN:1_NULO:0 => BRAN:1_NULO:00",
-        SAME,
-    ),
-    ("ESTRANHO", TWO_OFFICES, "PROC:7 => PROC:8", SAME),
-];
-
-/// The report of the other section, and that of the first one again.
-const SECOND: &[Offer<'static>] = &[
-    ("ACEITO 2 1", OTHER_SECTION, SAME, SAME),
-    ("REPETIDO 1 42", TWO_OFFICES, SAME, SAME),
-];
-
-/// The section that stands last in the tables comes first.
-const BACKWARDS: &[Offer<'static>] = &[
-    ("ACEITO 2 1", OTHER_SECTION, SAME, SAME),
-    ("ACEITO 1 42", TWO_OFFICES, SAME, SAME),
-    ("REPETIDO 2 1", OTHER_SECTION, SAME, SAME),
-    ("REPETIDO 1 42", TWO_OFFICES, SAME, SAME),
-    (
-        "CONFLITO 2 1",
-        OTHER_SECTION,
-        "HRFC:170000 => HRFC:170001",
-        SAME,
-    ),
-];
+     CARG:11 TIPO:0 45:3 APTA:5 NOMI:3 BRAN:1 NULO:0 TOTC:4 \
+     HASH:F6242FCBF6DDF5E216E03E93AE9CFFB9C74B0F93D4AB6C4081FE21D9EB8AB7F3\
+     6A006FD948E25BA5C55135A3EA6A33873015361714B398D838EFA5F63C0AF6D4\n";
 
 /// The sums of both panels, as `told_panel` tells them.
 const NO_SUMS: &str = "13001:0 13:0 45:0 99:0 L13:0 L45:0 L99:0 B:0 X:0\n\
@@ -99,53 +55,10 @@ const FIRST_SUMS: &str = "13001:1 13:0 45:0 99:0 L13:0 L45:1 L99:0 B:1 X:0\n\
 const BOTH_SUMS: &str = "13001:1 13:0 45:0 99:0 L13:0 L45:3 L99:0 B:1 X:2\n\
      13001:0 13:1 45:4 99:0 L13:0 L45:0 L99:0 B:1 X:1\n";
 
-/// The contest of the first office over the same reports.
+/// The contest of the first office over both reports.
 const CONTEST: &str = "Contest { seats: 5, parties: Contestants { items: [\
      Contestant { number: 13, party_votes: 0, candidates: Entries { items: [Entry { number: 13001, birth: 19700101, votes: 1 }] } }, \
      Contestant { number: 45, party_votes: 3, candidates: Entries { items: [Entry { number: 45001, birth: 19650520, votes: 0 }] } }] } }";
-
-/// Whether the verdict on a file that is offered is told so.
-fn is_told(
-    alloc: Global,
-    tables: &Tables,
-    intake: &mut Intake,
-    offer: &Offer<'_>,
-) -> Result<bool, Memory>
-    requires { IsIntakeFor tables.now intake.old }
-    ensures { IsIntakeFor tables.now intake.new }
-{
-    let (told, fields, change, spoiled) = offer;
-    let Some(text) = changed(alloc, fields, change)? else {
-        return Ok(false);
-    };
-    let whole = file_of(alloc, text.as_str())?;
-    let Some(file) = changed(alloc, whole.as_str(), spoiled)? else {
-        return Ok(false);
-    };
-    if file.as_bytes().len() >= 1 << 31 {
-        return Ok(false);
-    }
-    let verdict = intake.offer(tables, file.as_bytes())?;
-    Ok(told_verdict(alloc, verdict)?.as_str() == *told)
-}
-
-/// The first of some files whose verdict is told otherwise.
-fn wrong_offer(
-    alloc: Global,
-    tables: &Tables,
-    intake: &mut Intake,
-    offers: &[Offer<'_>],
-) -> Result<Option<usize>, Memory>
-    requires { IsIntakeFor tables.now intake.old }
-    ensures { IsIntakeFor tables.now intake.new }
-{
-    for (row, offer) in offers.iter().enumerate() {
-        if !is_told(alloc, tables, intake, offer)? {
-            return Ok(Some(row));
-        }
-    }
-    Ok(None)
-}
 
 /// The sums of a panel: of candidates and of parties, some of which the tables lack, and of blank and null votes.
 fn told_panel(alloc: Global, intake: &Intake, panel: u32) -> Result<String, AllocError>
@@ -181,31 +94,26 @@ fn one_report_of_each_section_counts(rt: HostRuntime) -> Result<(), Fail> {
     let mut intake = Intake::new(rt.alloc(), &tables)?;
     assert_eq!(rt; intake.accepted(), 0);
     assert_eq!(rt; told_sums(rt.alloc(), &tables, &intake)?.as_str(), NO_SUMS);
-    assert_eq!(rt; wrong_offer(rt.alloc(), &tables, &mut intake, FIRST)?, None);
+    let first = intake.offer(&tables, REPORT)?;
+    assert_eq!(rt;
+        first,
+        Verdict::Accepted {
+            zone: 1,
+            section: 42
+        }
+    );
     assert_eq!(rt; intake.accepted(), 1);
     assert_eq!(rt;
         told_sums(rt.alloc(), &tables, &intake)?.as_str(),
         FIRST_SUMS
     );
+    let second = intake.offer(&tables, OTHER_REPORT)?;
     assert_eq!(rt;
-        wrong_offer(rt.alloc(), &tables, &mut intake, SECOND)?,
-        None
-    );
-    assert_eq!(rt; intake.accepted(), 2);
-    assert_eq!(rt;
-        told_sums(rt.alloc(), &tables, &intake)?.as_str(),
-        BOTH_SUMS
-    );
-    Ok(())
-}
-
-#[test]
-fn sections_count_in_any_order(rt: HostRuntime) -> Result<(), Fail> {
-    let tables = Tables::read(rt.alloc(), TABLES)?;
-    let mut intake = Intake::new(rt.alloc(), &tables)?;
-    assert_eq!(rt;
-        wrong_offer(rt.alloc(), &tables, &mut intake, BACKWARDS)?,
-        None
+        second,
+        Verdict::Accepted {
+            zone: 2,
+            section: 1
+        }
     );
     assert_eq!(rt; intake.accepted(), 2);
     assert_eq!(rt;

@@ -1,12 +1,11 @@
-//! The tests of fourteen parts: what each answers to values from outside, and each of its public calls once on its happy path.
-//! They stand in a crate of their own because a crate with tests is proved twice, with them and without them.
+//! The tests of fourteen parts: each public call once on its happy path, and what a part answers to values from outside where no command
+//! tells it. What a command tells stands in the scripts of `session_tests`. They stand in a crate of their own because a crate with tests is
+//! proved twice, with them and without them.
 //!
 //! One module has the tests of one crate, and `reports`, `files`, `intake` and `rehearsals` have those of two each. `lines` is no test itself: it
 //! has a line that is pushed in five pieces, which `numbers` tests.
 #![tactic(auto)]
 
-#[cfg(test)]
-mod changes;
 #[cfg(test)]
 mod codec;
 #[cfg(test)]

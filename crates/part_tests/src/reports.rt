@@ -1,9 +1,7 @@
 //! The texts of reports, read and written again (the crates `poll_report` and `qr_text`).
-ghost use Rattle.std.specs.Prelude.{◌<◌, ◌^◌, length};
 ghost use Rattle.std.specs.List.{Contains};
 ghost use Rattle.image_codec.specs.Encoding.{IsStateOf};
 
-use crate::changes::{changed, row_count};
 use crate::codec::body_of;
 use election_tables::{Section, Tables};
 use image_codec::{State, decode};
@@ -16,95 +14,31 @@ use urna_base::Memory;
 
 mod texts;
 
-pub(crate) use texts::TWO_OFFICES;
-use texts::{FAULTS, GOOD};
+use texts::{GOOD, NO_PART, TWO_OFFICES};
 
-/// The fault of a text as a row says it; nothing where it has none.
-fn fault_of(alloc: Global, text: &str) -> Result<Option<String>, Memory>
-    requires { length text.now < 2 ^ 31 }
-{
+/// The first field of a text that is at fault; nothing where there is none, or a sum disagrees.
+fn field_at_fault(alloc: Global, text: &str) -> Result<Option<u32>, Memory> {
+    if text.len() >= 1 << 31 {
+        return Ok(None);
+    }
     match read_fields(alloc, text.as_bytes()) {
         Ok(_) => Ok(None),
         Err(FieldError::Memory) => Err(Memory),
-        Err(FieldError::Fault(FieldFault::Field(field))) => {
-            Ok(Some(format!(in alloc; "{field}")?))
-        }
-        Err(FieldError::Fault(FieldFault::Sum { field, sum, said })) => {
-            Ok(Some(format!(in alloc; "{field} {sum} {said}")?))
-        }
+        Err(FieldError::Fault(FieldFault::Field(field))) => Ok(Some(field)),
+        Err(FieldError::Fault(FieldFault::Sum { .. })) => Ok(None),
     }
-}
-
-/// Whether a good text with this change has this fault.
-fn has_fault(alloc: Global, good: &str, change: &str, fault: &str) -> Result<bool, Memory> {
-    let Some(text) = changed(alloc, good, change)? else {
-        return Ok(false);
-    };
-    if text.as_str().len() >= 1 << 31 {
-        return Ok(false);
-    }
-    match fault_of(alloc, text.as_str())? {
-        Some(found) => Ok(found.as_str() == fault),
-        None => Ok(false),
-    }
-}
-
-/// The first row of a table whose fault is another.
-fn wrong_row<'a>(alloc: Global, good: &str, table: &'a str) -> Result<Option<&'a str>, Memory> {
-    for row in table.lines() {
-        if let Some((fault, change)) = row.split_once(" | ") {
-            if !has_fault(alloc, good, change, fault)? {
-                return Ok(Some(row));
-            }
-        }
-    }
-    Ok(None)
 }
 
 #[test]
-fn each_text_has_its_fault(rt: HostRuntime) -> Result<(), Fail> {
-    for (good, table, rows) in FAULTS {
-        assert_eq!(rt; row_count(*table), *rows);
-        assert_eq!(rt; wrong_row(rt.alloc(), *good, *table)?, None);
+fn texts_that_no_part_holds_have_their_fault(rt: HostRuntime) -> Result<(), Fail> {
+    for (old, new, field) in NO_PART {
+        let text = TWO_OFFICES.replace(rt.alloc(), *old, *new)?;
+        assert_eq!(rt;
+            field_at_fault(rt.alloc(), text.as_str())?,
+            Some(*field),
+            "{new}"
+        );
     }
-    Ok(())
-}
-
-/// What is written of the report that a text spells; nothing where it spells none.
-fn rewritten(alloc: Global, text: &[u8]) -> Result<Option<Vec<u8>>, Memory>
-    requires { length text.now < 2 ^ 31 }
-{
-    match read_fields(alloc, text) {
-        Ok(report) => Ok(Some(write_fields(alloc, &report)?)),
-        Err(FieldError::Memory) => Err(Memory),
-        Err(FieldError::Fault(_)) => Ok(None),
-    }
-}
-
-/// Whether a text is written as it was read.
-fn is_rewritten(alloc: Global, text: &[u8]) -> Result<bool, Memory> {
-    if text.len() >= 1 << 31 {
-        return Ok(false);
-    }
-    match rewritten(alloc, text)? {
-        Some(written) => Ok(written.as_slice() == text),
-        None => Ok(false),
-    }
-}
-
-/// The first of some texts that isn't written as it was read.
-fn wrong_text<'a>(alloc: Global, texts: &[&'a str]) -> Result<Option<&'a str>, Memory> {
-    for text in texts {
-        if !is_rewritten(alloc, text.as_bytes())? {
-            return Ok(Some(*text));
-        }
-    }
-    Ok(None)
-}
-
-#[test]
-fn each_report_is_written_as_it_was_read(rt: HostRuntime) -> Result<(), Fail> {
-    assert_eq!(rt; wrong_text(rt.alloc(), GOOD)?, None);
     Ok(())
 }
 
@@ -153,6 +87,26 @@ fn is_read(alloc: Global) -> Result<bool, Memory> {
 #[test]
 fn a_text_gives_the_numbers_of_its_report(rt: HostRuntime) -> Result<(), Fail> {
     assert!(rt; is_read(rt.alloc())?);
+    Ok(())
+}
+
+/// Whether a text is written as it was read.
+fn is_rewritten(alloc: Global, text: &str) -> Result<bool, Memory> {
+    if text.len() >= 1 << 31 {
+        return Ok(false);
+    }
+    match read_fields(alloc, text.as_bytes()) {
+        Ok(report) => Ok(write_fields(alloc, &report)?.as_slice() == text.as_bytes()),
+        Err(FieldError::Memory) => Err(Memory),
+        Err(FieldError::Fault(_)) => Ok(false),
+    }
+}
+
+#[test]
+fn each_report_is_written_as_it_was_read(rt: HostRuntime) -> Result<(), Fail> {
+    for text in GOOD {
+        assert!(rt; is_rewritten(rt.alloc(), *text)?, "{text}");
+    }
     Ok(())
 }
 

@@ -1,4 +1,4 @@
-use Rattle.std.proofs.Common.{◌≡◌, ◌*◌, ℕ, Bool, List, length, map, sym, ap, subst, ◌∙◌}
+use Rattle.std.proofs.Common.{◌*◌, ℕ, Bool, List, length, map, sym, ap, subst, ◌∙◌}
 use Rattle.std.specs.List.{AllByRecursion}
 use Rattle.election_tables.specs.TablesData.{places_of}
 use Rattle.vote_kinds.specs.declared.choice.Choice.{Choice}

@@ -5,7 +5,7 @@ use Rattle.election_tables.specs.TablesData.{TablesData}
 use Rattle.std.proofs.lemmas.Bool.{eqb-true}
 use Rattle.std.proofs.lemmas.List.{append-nil}
 use Rattle.key_script.specs.declared.keys.Event.{Event}
-use Rattle.key_script.proofs.EventLaws.{yielded_more, event_valid}
+use Rattle.key_script.proofs.EventLaws.{yielded_more}
 use Rattle.image_codec.specs.State.{State}
 use Rattle.state_store.specs.Played.{HasPut, HasStopped}
 use Rattle.state_store.specs.Store.{AreDevices, StoreData}
