@@ -6,7 +6,6 @@ ghost use Rattle.section_intake.specs.Intake.{IsIntakeFor, panels_of};
 use crate::files::REPORT;
 use election_tables::Tables;
 use section_intake::{Intake, Verdict};
-use std::alloc::{AllocError, Global};
 use std::test::Fail;
 use totals::contest_of;
 
@@ -45,47 +44,48 @@ const OTHER_REPORT: &[u8] = b"QRBU:1:1 VRQR:U1 \
      HASH:F6242FCBF6DDF5E216E03E93AE9CFFB9C74B0F93D4AB6C4081FE21D9EB8AB7F3\
      6A006FD948E25BA5C55135A3EA6A33873015361714B398D838EFA5F63C0AF6D4\n";
 
-/// The sums of both panels, as `told_panel` tells them.
-const NO_SUMS: &str = "13001:0 13:0 45:0 99:0 L13:0 L45:0 L99:0 B:0 X:0\n\
-     13001:0 13:0 45:0 99:0 L13:0 L45:0 L99:0 B:0 X:0\n";
+/// The sums of a panel: of the candidates 13001, 13, 45 and 99, of the parties 13, 45 and 99, some of which the tables lack, and of blank
+/// and null votes.
+type Sums = [u64; 9];
 
-const FIRST_SUMS: &str = "13001:1 13:0 45:0 99:0 L13:0 L45:1 L99:0 B:1 X:0\n\
-     13001:0 13:1 45:1 99:0 L13:0 L45:0 L99:0 B:0 X:1\n";
+/// The sums of both panels.
+const NO_SUMS: [Sums; 2] = [[0; 9], [0; 9]];
 
-const BOTH_SUMS: &str = "13001:1 13:0 45:0 99:0 L13:0 L45:3 L99:0 B:1 X:2\n\
-     13001:0 13:1 45:4 99:0 L13:0 L45:0 L99:0 B:1 X:1\n";
+const FIRST_SUMS: [Sums; 2] = [[1, 0, 0, 0, 0, 1, 0, 1, 0], [0, 1, 1, 0, 0, 0, 0, 0, 1]];
+
+const BOTH_SUMS: [Sums; 2] = [[1, 0, 0, 0, 0, 3, 0, 1, 2], [0, 1, 4, 0, 0, 0, 0, 1, 1]];
 
 /// The contest of the first office over both reports.
 const CONTEST: &str = "Contest { seats: 5, parties: Contestants { items: [\
      Contestant { number: 13, party_votes: 0, candidates: Entries { items: [Entry { number: 13001, birth: 19700101, votes: 1 }] } }, \
      Contestant { number: 45, party_votes: 3, candidates: Entries { items: [Entry { number: 45001, birth: 19650520, votes: 0 }] } }] } }";
 
-/// The sums of a panel: of candidates and of parties, some of which the tables lack, and of blank and null votes.
-fn told_panel(alloc: Global, intake: &Intake, panel: u32) -> Result<String, AllocError>
+fn sums_of(intake: &Intake, panel: u32) -> Sums
     requires { panel < panels_of intake.now }
 {
-    let ana = intake.nominal(panel, 13_001);
-    let carla = intake.nominal(panel, 13);
-    let davi = intake.nominal(panel, 45);
-    let nobody = intake.nominal(panel, 99);
-    let pa = intake.party(panel, 13);
-    let pb = intake.party(panel, 45);
-    let none = intake.party(panel, 99);
-    let blank = intake.blank(panel);
-    let null_votes = intake.null_votes(panel);
-    format!(in alloc;
-        "13001:{ana} 13:{carla} 45:{davi} 99:{nobody} L13:{pa} L45:{pb} L99:{none} B:{blank} X:{null_votes}\n"
-    )
+    [
+        intake.nominal(panel, 13_001),
+        intake.nominal(panel, 13),
+        intake.nominal(panel, 45),
+        intake.nominal(panel, 99),
+        intake.party(panel, 13),
+        intake.party(panel, 45),
+        intake.party(panel, 99),
+        intake.blank(panel),
+        intake.null_votes(panel),
+    ]
 }
 
-fn told_sums(alloc: Global, tables: &Tables, intake: &Intake) -> Result<String, AllocError>
+/// The first panel whose sums are others.
+fn other_sums(tables: &Tables, intake: &Intake, want: &[Sums]) -> Option<u32>
     requires { IsIntakeFor tables.now intake.now }
 {
-    let mut text = String::new(alloc);
     for panel in 0..tables.panels() {
-        text.push_str(&told_panel(alloc, intake, panel)?)?;
+        if want.get(panel as usize) != Some(&sums_of(intake, panel)) {
+            return Some(panel);
+        }
     }
-    Ok(text)
+    None
 }
 
 #[test]
@@ -93,7 +93,7 @@ fn one_report_of_each_section_counts(rt: HostRuntime) -> Result<(), Fail> {
     let tables = Tables::read(rt.alloc(), TABLES)?;
     let mut intake = Intake::new(rt.alloc(), &tables)?;
     assert_eq!(rt; intake.accepted(), 0);
-    assert_eq!(rt; told_sums(rt.alloc(), &tables, &intake)?.as_str(), NO_SUMS);
+    assert_eq!(rt; other_sums(&tables, &intake, &NO_SUMS), None);
     let first = intake.offer(&tables, REPORT)?;
     assert_eq!(rt;
         first,
@@ -103,10 +103,7 @@ fn one_report_of_each_section_counts(rt: HostRuntime) -> Result<(), Fail> {
         }
     );
     assert_eq!(rt; intake.accepted(), 1);
-    assert_eq!(rt;
-        told_sums(rt.alloc(), &tables, &intake)?.as_str(),
-        FIRST_SUMS
-    );
+    assert_eq!(rt; other_sums(&tables, &intake, &FIRST_SUMS), None);
     let second = intake.offer(&tables, OTHER_REPORT)?;
     assert_eq!(rt;
         second,
@@ -116,10 +113,7 @@ fn one_report_of_each_section_counts(rt: HostRuntime) -> Result<(), Fail> {
         }
     );
     assert_eq!(rt; intake.accepted(), 2);
-    assert_eq!(rt;
-        told_sums(rt.alloc(), &tables, &intake)?.as_str(),
-        BOTH_SUMS
-    );
+    assert_eq!(rt; other_sums(&tables, &intake, &BOTH_SUMS), None);
     let contest = contest_of(rt.alloc(), &tables, &intake, 0)?;
     assert_eq!(rt; format!(in rt.alloc(); "{contest:?}")?.as_str(), CONTEST);
     Ok(())
