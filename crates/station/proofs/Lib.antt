@@ -19,3 +19,4 @@ pub mod Starting
 pub mod Fims
 pub mod Casting
 pub mod LastScreens
+pub mod Prefixes

@@ -60,14 +60,14 @@ run_prefix v s t u es more out put valid a b =
 
 -- The states that a run commits
 
-commits_of-append : (a b : List Output) → commits_of (a ++ b) ≡ commits_of a ++ commits_of b
+pub commits_of-append : (a b : List Output) → commits_of (a ++ b) ≡ commits_of a ++ commits_of b
 commits_of-append [] b = refl
 commits_of-append (Says l ∷ a) b = commits_of-append a b
 commits_of-append (Reports t s ∷ a) b = commits_of-append a b
 commits_of-append (Commits s l ∷ a) b = ap (λ (ss : List State). s ∷ ss) (commits_of-append a b)
 
 -- after a text that commits nothing
-says : (a b : List Output) → commits_of a ≡ [] → commits_of (a ++ b) ≡ commits_of b
+pub says : (a b : List Output) → commits_of a ≡ [] → commits_of (a ++ b) ≡ commits_of b
 says a b h = commits_of-append a b ∙ ap (λ (ss : List State). ss ++ commits_of b) h
 
 refusal_says : (a : ClerkAnswer) → commits_of (refusal a) ≡ []
@@ -79,7 +79,7 @@ refusal_says (answer.Cancels p) = refl
 refusal_says (answer.Suspends p) = refl
 refusal_says (answer.Seals m) = refl
 
-wait_says : (v : Setting) (s : State) (place : ℕ) (es : List Event) → commits_of (wait_outputs v s place es) ≡ []
+pub wait_says : (v : Setting) (s : State) (place : ℕ) (es : List Event) → commits_of (wait_outputs v s place es) ≡ []
 wait_says v s place [] = refl
 wait_says v s place (Voter k ∷ es) = wait_says v s place es
 wait_says v s place (Clerk c ∷ es) = says (refusal (reply_at v s (mode.Identified place) c)) _ (refusal_says (reply_at v s (mode.Identified place) c)) ∙ wait_says v s place es
@@ -99,11 +99,11 @@ line_says v s place l w [] = refl
 line_says v s place l w (Clerk c ∷ es) = says (refusal (reply_at v s (mode.Voting place) c)) _ (refusal_says (reply_at v s (mode.Voting place) c)) ∙ line_says v s place l w es
 line_says v s place l w (Voter k ∷ es) = says (echo l w k) _ (key_says l w k) ∙ line_says v s place l (w ++ k ∷ []) es
 
-votes_say : {v : Setting} {s : State} {place : ℕ} {es : List Event} {choices : List Choice} {text : List Output} → Votes v s place es choices text → commits_of text ≡ []
+pub votes_say : {v : Setting} {s : State} {place : ℕ} {es : List Event} {choices : List Choice} {text : List Output} → Votes v s place es choices text → commits_of text ≡ []
 votes_say start = refl
 votes_say {v} {s} {place} (voted {choices} {text} l on votes at visit confirms) = says text _ (votes_say votes) ∙ line_says v s place l [] on
 
-open_says : {v : Setting} {s : State} {place : ℕ} {es : List Event} {choices : List Choice} {text : List Output} → IsOpen v s place es choices text → commits_of text ≡ []
+pub open_says : {v : Setting} {s : State} {place : ℕ} {es : List Event} {choices : List Choice} {text : List Output} → IsOpen v s place es choices text → commits_of text ≡ []
 open_says {v} {s} {place} (open_at {choices} {text} l on votes at visit unconfirmed) = says text _ (votes_say votes) ∙ line_says v s place l [] on
 
 history_moved : {v : Setting} {s t : State} {a b : List State} → a ≡ b → IsHistory v s b t → IsHistory v s a t

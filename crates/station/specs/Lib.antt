@@ -12,5 +12,6 @@ pub mod Doing
 pub mod Start
 pub mod Cast
 pub mod Screens
+pub mod Prefixes
 pub mod Terminal
 pub mod Session

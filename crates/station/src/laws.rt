@@ -1,5 +1,5 @@
-//! Laws of runs (`specs/Run.antt`), of states (`specs/States.antt`), of what a station stands for (`specs/Stands.antt`) and of the
-//! screens of a visit (`specs/Screens.antt`).
+//! Laws of runs (`specs/Run.antt`), of states (`specs/States.antt`), of what a station stands for (`specs/Stands.antt`), of the screens of
+//! a visit (`specs/Screens.antt`), and of the states after prefixes of the events (`specs/Prefixes.antt`).
 ghost use Rattle.std.specs.Prelude.{◌≡◌, ◌*◌, ◌≤◌, ℕ, List, [], ◌∷◌, ◌++◌, length};
 ghost use Rattle.std.specs.List.{AllByRecursion};
 ghost use Rattle.election_tables.specs.Limits.{most_voters};
@@ -16,6 +16,7 @@ ghost use Rattle.station.specs.Output.{Output, commits_of};
 ghost use Rattle.station.specs.Run.{IsRun, Visit};
 ghost use Rattle.station.specs.Cast.{ballot_of, ballots_of, fims_reached};
 ghost use Rattle.station.specs.Screens.{AreOfLastScreens, confirmed_in};
+ghost use Rattle.station.specs.Prefixes.{StatesAreAfterPrefixes};
 ghost use Rattle.station.specs.Press.{Standing};
 ghost use Rattle.station.specs.Stands.{StandsFor};
 ghost use Rattle.station.specs.States.{IsHistory};
@@ -67,7 +68,12 @@ pub fn fims_and_ballots()
         → fims_reached (lines_in (session_pieces t out)) (length (text_in (session_pieces t out))) ≡ length (ballots_of run) }
 {}
 
-/// One event more commits at most one state more, so the committed states are those after the prefixes of the events.
+/// Each state that a run commits is the one after a prefix of its events, with the first of its texts and ballots.
+pub fn prefixes()
+    ensures { StatesAreAfterPrefixes }
+{}
+
+/// One event more commits at most one state more.
 pub fn event_commits()
     ensures { (t : TablesData) (titles : List ℕ) (s last other : State) (es : List Event) (e : Event) (out put : List Output) → IsTables t
         → IsRun (setting_of t titles) s es last out → IsRun (setting_of t titles) s (es ++ e ∷ []) other (out ++ put)
