@@ -169,3 +169,28 @@ def type_at(module):
                     if re.match(rf"\s*(pub(\(\w+\))? )?(struct|enum|trait) {name}\b", line):
                         return path, number
     return None
+
+
+def constant_in(path, name):
+    """The line of a constant of the code in a file."""
+    for number, line in enumerate(stripped(path).splitlines(), 1):
+        if re.match(rf"\s*(pub(\(\w+\))? )?const {name}\b", line):
+            return number
+    return None
+
+
+def constant_at(module, name):
+    """The path and the line of a constant that a module `declared` stands for."""
+    _, crate, _, _, *inside, _ = module.split(".")
+    for stem in ["/".join(inside)] if inside else ["lib", "main"]:
+        path = f"crates/{crate}/src/{stem}.rt"
+        line = constant_in(path, name) if os.path.exists(os.path.join(TOP, path)) else None
+        if line:
+            return path, line
+    return None
+
+
+def text_of_constant(path, line):
+    """The lines of a constant, up to the semicolon that ends it."""
+    text = "\n".join(stripped(path).splitlines()[line - 1 :])
+    return re.split(r";\s*$", text, maxsplit=1, flags=re.M)[0]
