@@ -4,7 +4,7 @@ TRIALS = 25
 MINUTES = 10
 URNA = $(CURDIR)/crates/urna_app/out/urna_app
 
-# The minutes are those of four processors. A proof that was made before and where nothing has changed takes seconds.
+# The minutes are those of four idle processors. A proof that was made before and where nothing has changed takes seconds.
 list:
 	@echo "make try          the example day, compiled without a proof: a minute"
 	@echo "make demo         urna proved and built, a rehearsal of 400 voters, and the example day on real files in out/demo: 20 minutes from nothing, then seconds"
