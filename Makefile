@@ -8,7 +8,8 @@ URNA = $(CURDIR)/crates/urna_app/out/urna_app
 list:
 	@echo "make try          the example day, compiled without a proof: a minute"
 	@echo "make demo         urna proved and built, a rehearsal of 400 voters, and the example day on real files in out/demo: 20 minutes from nothing, then seconds"
-	@echo "make test         the gate, each proof from nothing, each edit that must be refused, each test and program: an hour"
+	@echo "make urna         the program, proved and built, and beside it, in urna_app.txt, of which commit and with which kit: part of a demo"
+	@echo "make test         the gate, each proof from nothing, each edit that must be refused, each test and program, and check-house: an hour"
 	@echo "make check-house  names, sessions and lines of the documents and the sources: seconds"
 	@echo "make bench        how long sessions, commits, the reading of tables, the text of a report, its file, a check of it, the totals of many reports, the seats and a rehearsal take, as ratios to plainer programs, and what changed since the last time: a few minutes behind a demo"
 	@echo "make crash-trial  the program on real files, and as many killed sessions as TRIALS says, drawn by SEED: a few minutes behind a demo"
@@ -35,6 +36,6 @@ crash-trial: urna
 hostile: urna
 	tests/hostile "$(URNA)" $(MINUTES) $(SEED)
 
-# The program, proved and built where something has changed.
+# The program, proved and built where something has changed, and the record of that build.
 urna:
 	@tests/build

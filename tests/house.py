@@ -1,6 +1,7 @@
 """What the scripts of this folder read of the repository: its crates, and the definitions of a file with the names that they cite."""
 
 import functools
+import hashlib
 import os
 import re
 
@@ -23,6 +24,14 @@ def files(*ends, below="crates"):
         folders[:] = sorted(it for it in folders if it not in ("out", ".git"))
         found += [os.path.relpath(os.path.join(folder, it), TOP) for it in sorted(names) if it.endswith(ends)]
     return found
+
+
+def sources():
+    """A hash of all that a program is built of: the crates with their code, by name."""
+    made = hashlib.sha256()
+    for path in ["crates.txt", *(it for it in files(".rt") if "/src/" in it)]:
+        made.update(f"{path}\n{len(read(path))}\n{read(path)}".encode())
+    return made.hexdigest()
 
 
 @functools.cache
