@@ -1,5 +1,5 @@
 -- However a call of vota ends, what a power cut leaves keeps its votes
-use Rattle.std.proofs.Common.{◌≡◌, ◌⊎◌, inl, inr, ℕ, List, [], ◌∷◌, ◌++◌, Option, Some, None, length, refl, sym, ap, subst, ◌∙◌}
+use Rattle.std.proofs.Common.{◌≡◌, ◌⊎◌, inl, inr, ℕ, List, [], ◌∷◌, ◌++◌, Option, Some, length, refl, sym, ap, subst, ◌∙◌}
 use Rattle.std.specs.List.{concat}
 use Rattle.std.specs.Option.{ForSome}
 use Rattle.std.proofs.lemmas.List.{append-nil}
@@ -48,8 +48,7 @@ use Rattle.station.specs.declared.station.StartError.TheVariants as starting
 use Rattle.station.proofs.Performing.{tables_setting}
 use Rattle.station.proofs.Casting.{run_counts, run_last}
 use Rattle.station.proofs.RunLaws.{run_exists, run_unique}
-use Rattle.urna_commands.specs.Command.{ToVote, Vota, command_of}
-use Rattle.urna_commands.specs.Ending.{CommandEnds}
+use Rattle.urna_commands.specs.Command.{Vota}
 use Rattle.urna_commands.specs.Errors.{port_status, start_status}
 use Rattle.urna_commands.specs.FaultLines.{Tells, fault_text}
 use Rattle.urna_commands.specs.Headline.{AllAreCounted, KeepsVotes, KeysHaveRun, VotesAreKept, session_of}
@@ -62,14 +61,25 @@ use Rattle.urna_commands.proofs.Completion.{port_silent}
 use Rattle.urna_commands.proofs.Idle.{synced_both}
 use Rattle.urna_commands.proofs.Keeping.{behind_is, found_roll, kept_silent, not_done, not_within, safe_stops, session_kept}
 use Rattle.urna_commands.proofs.Once.{refused_or_given, same_bytes, same_roll, same_tables}
-use Rattle.urna_commands.proofs.Endings.{ends_as}
+
+-- ---- what is recovered, over flashes that hold a poll
+
+module _ (t : TablesData) (r : RollData) (tables : IsTables t) (section : Section) (s : State) (m : Told) (start : Flashes) (found : AreFound t r section s start) (flashes : m.flashes ≡ Some start) where
+  pub same_first : (load : Load) (first : State) (b : Told) → IsRecovered t r load first m b → first ≡ s
+  same_first load first b is = found_once t r section s first start tables found (is.ran.2.2.stops start flashes).0.held
+
+  pub same_load : (load : Load) (first : State) (b : Told) → IsRecovered t r load first m b → load ≡ load_of t r section
+  same_load load first b is =
+      is.same
+      ∙ ap (λ (x : Section). load_of t r x)
+      (loaded_once t r load.section section start.internal.content start.external.content tables (is.ran.2.2.stops start flashes).0.loaded found.loaded)
 
 -- ---- a session in which the opening line began, and what else there is behind the two syncs
 
 module _ (t : TablesData) (r : RollData) (s last : State) (es : List Event) (out : List Output) (run : IsRun (setting_of t r.titles) s es last out) (tables : IsTables t)
     (section : Section) (m n : Told) (start : Flashes) (rest : List Op) (found : AreFound t r section s start) (traced : IsTraced m n start (both_synced ++ rest)) where
   abbrev Kept : Left → Type 0
-  Kept left = KeepsVotes t r s start (session_of t s out) (ballots_of run) left
+  Kept left = KeepsVotes t r s start es out (ballots_of run) left
 
   abbrev AreKept : Type 0
   AreKept = AtEachStop (after both_synced start) rest Kept
@@ -84,12 +94,6 @@ module _ (t : TablesData) (r : RollData) (s last : State) (es : List Event) (out
   recovered_here : (load : Load) (first : State) (b : Told) → IsRecovered t r load first m b → (first ≡ s) × (load.section.voters ≡ length r.titles)
   recovered_here load first b is = found_here load.section first (is.ran.2.2.stops start traced.flashes).0
 
-  -- and its load is theirs
-  load_here : (load : Load) (first : State) (b : Told) → IsRecovered t r load first m b → load ≡ load_of t r section
-  load_here load first b is =
-      let there = (is.ran.2.2.stops start traced.flashes).0 in
-      is.same ∙ ap (λ (x : Section). load_of t r x) (loaded_once t r load.section section start.internal.content start.external.content tables there.loaded found.loaded)
-
   -- a session that was held or cut short
   session_stops : (load : Load) (first u : State) (b : Told) (put : List Output) → IsRecovered t r load first m b → IsRun (setting_of t r.titles) first es u put
       → AtEachStop (after both_synced start) rest (Survives t load first (opening t first ++ session_pieces t put) start) → AreKept
@@ -97,7 +101,7 @@ module _ (t : TablesData) (r : RollData) (s last : State) (es : List Event) (out
       let here = recovered_here load first b recovered in
       let again : IsRun (setting_of t r.titles) s es u put = subst (λ (x : State). IsRun (setting_of t r.titles) x es u put) here.0 ran in
       let same : put ≡ out = (run_unique (setting_of t r.titles) s u last es put out (tables_setting t r.titles tables) again run).1 in
-      session_kept t r s last es out run roll load here.1 start left
+      session_kept t r s last es out run roll start left load here.1
       (subst (λ (o : List Output). Survives t load s (opening t s ++ session_pieces t o) start left) same
       (subst (λ (x : State). Survives t load x (opening t x ++ session_pieces t put) start left) here.0 (survives ops stop left is)))
 
@@ -120,7 +124,7 @@ module _ (t : TablesData) (r : RollData) (s last : State) (es : List Event) (out
       let end : state_after voted.first (session_pieces t voted.out) ≡ last =
       ap (λ (x : State). state_after x (session_pieces t voted.out)) here.0 ∙ ap (λ (o : List Output). state_after s (session_pieces t o)) same ∙ run_last t r.titles roll run in (
         run_counts t r.titles roll run,
-        λ x is. subst (λ (load : Load). AreAtRest t load last x) (load_here voted.load voted.first voted.opens.between voted.opens.recovered)
+        λ x is. subst (λ (load : Load). AreAtRest t load last x) (same_load t r tables section s m start found traced.flashes voted.load voted.first voted.opens.between voted.opens.recovered)
             (subst (λ (y : State). AreAtRest t voted.load y x) end (voted.put.rest x is)),
       )
 
@@ -153,10 +157,10 @@ module _ (t : TablesData) (r : RollData) (s last : State) (es : List Event) (out
       let here = recovered_here h.load h.state h.between h.recovered in
       let pieces = session_pieces t out in
       let survives = safe_stops m n start rest traced t h.load h.state (opening t h.state ++ pieces) (h.survives pieces) ops stop left is in
-      session_kept t r s last es out run roll h.load here.1 start left (subst (λ (x : State). Survives t h.load x (opening t x ++ pieces) start left) here.0 survives)
+      session_kept t r s last es out run roll start left h.load here.1 (subst (λ (x : State). Survives t h.load x (opening t x ++ pieces) start left) here.0 survives)
 
   silent : (left : Left) → left.shown ≡ [] → HeldByBoth t (length r.titles) left.internal left.external s → KeepFrames start left → Kept left
-  silent left none held frames = kept_silent t r s start (session_of t s out) (ballots_of run) left none held frames
+  silent left none held frames = kept_silent t r s last es out run roll start left none held frames
 
   frames_before : (left : Left) → KeepFrames (after both_synced start) left → KeepFrames start left
   frames_before left keeps dev.Internal = keeps dev.Internal
@@ -212,7 +216,7 @@ module _ (t : TablesData) (r : RollData) (s : State) (tables : IsTables t) (sect
 
 -- ---- what was given
 
-given_once : (files : Files) (names : Vota) (t u : TablesData) (r q : RollData) (es fs : List Event) → IsGiven (Some files) names t r es → IsGiven (Some files) names u q fs
+pub given_once : (files : Files) (names : Vota) (t u : TablesData) (r q : RollData) (es fs : List Event) → IsGiven (Some files) names t r es → IsGiven (Some files) names u q fs
     → (t ≡ u) × (r ≡ q) × (es ≡ fs)
 given_once files names t u r q es fs a b =
     let three = same_bytes files doc.Keys names.keys a.keys.bytes b.keys.bytes a.keys.taken b.keys.taken in
@@ -239,11 +243,25 @@ results_silent word t section s c d _ b n (results_put sealed put) tells = tells
 results_silent word t section s c d _ b n (results_not_made sealed same) tells = tells
 results_silent word t section s c d _ b n (results_not_put sealed stop) tells = tells
 
+-- no error is Done
+pub start_not_done : (e : StartError) → start_status e ≡ status.Done → ⊥
+start_not_done starting.Memory is = absurd (cc)
+start_not_done (starting.Port port.Internal) is = absurd (cc)
+start_not_done (starting.Port port.External) is = absurd (cc)
+start_not_done (starting.Port port.Display) is = absurd (cc)
+start_not_done (starting.Foreign e) is = absurd (cc)
+start_not_done starting.NoImage is = absurd (cc)
+
+pub port_not_done : (p : Port) → port_status p ≡ status.Done → ⊥
+port_not_done port.Internal is = absurd (cc)
+port_not_done port.External is = absurd (cc)
+port_not_done port.Display is = absurd (cc)
+
 module _ (names : Vota) (files : Files) (c d : CabinetTold) (told : c.files ≡ Some files) (t : TablesData) (r : RollData) (es : List Event) (given : IsGiven (Some files) names t r es)
     (section : Section) (s last : State) (out : List Output) (run : IsRun (setting_of t r.titles) s es last out) (m b n : Told) (start : Flashes) (rest : List Op)
     (found : AreFound t r section s start) (traced : IsTraced m n start (both_synced ++ rest)) where
   abbrev All : Type 0
-  All = AtEachStop (after both_synced start) rest (KeepsVotes t r s start (session_of t s out) (ballots_of run))
+  All = AtEachStop (after both_synced start) rest (KeepsVotes t r s start es out (ballots_of run))
 
   tables : IsTables t
   tables = given.tables.valid
@@ -263,7 +281,7 @@ module _ (names : Vota) (files : Files) (c d : CabinetTold) (told : c.files ≡ 
   not_begun (starting.Foreign e) h tells = absurd (not_foreign t r s tables section m b start found traced.flashes e h)
   not_begun starting.NoImage h tells = absurd (not_empty t r s tables section m b start found traced.flashes h)
 
-  vota_kept : (answer : Status) → VotaEnds names c d m b answer → Tells (fault_text answer) b n → All
+  pub vota_kept : (answer : Status) → VotaEnds names c d m b answer → Tells (fault_text answer) b n → All
   vota_kept answer (refused bad taken un) tells = absurd (refused_or_given files names answer t r es (subst (λ (o : Option Files). IsRefused o names answer) told bad) given)
   vota_kept _ (no_memory taken un) tells = untouched un tells
   vota_kept _ (no_cabinet taken un) tells = untouched un tells
@@ -276,27 +294,11 @@ module _ (names : Vota) (files : Files) (c d : CabinetTold) (told : c.files ≡ 
       voted_kept t r s last es out run tables section m n start rest found traced
       (at_end (λ x. HasVoted t r es m x) (results_silent _ _ _ _ _ _ _ b n put tells) (of_given files names c told t u r q es fs (λ x y z. HasVoted x y z m b) given also h))
 
-  pub command_kept : (words : List (List ℕ)) (answer : Status) → command_of words ≡ Some (ToVote names) → CommandEnds (command_of words) c d m b answer → Tells (fault_text answer) b n → All
-  command_kept words answer is h tells = vota_kept answer (ends_as words (ToVote names) c d m b answer is h) tells
-
   -- with Done
   abbrev Counted : Type 0
   Counted = HasAlso (ballot_lines t) s (ballots_of run) last × ForSome n.flashes (AreAtRest t (load_of t r section) last)
 
-  start_not_done : (e : StartError) → start_status e ≡ status.Done → ⊥
-  start_not_done starting.Memory is = absurd (cc)
-  start_not_done (starting.Port port.Internal) is = absurd (cc)
-  start_not_done (starting.Port port.External) is = absurd (cc)
-  start_not_done (starting.Port port.Display) is = absurd (cc)
-  start_not_done (starting.Foreign e) is = absurd (cc)
-  start_not_done starting.NoImage is = absurd (cc)
-
-  port_not_done : (p : Port) → port_status p ≡ status.Done → ⊥
-  port_not_done port.Internal is = absurd (cc)
-  port_not_done port.External is = absurd (cc)
-  port_not_done port.Display is = absurd (cc)
-
-  vota_counted : (answer : Status) → answer ≡ status.Done → VotaEnds names c d m b answer → Tells (fault_text answer) b n → Counted
+  pub vota_counted : (answer : Status) → answer ≡ status.Done → VotaEnds names c d m b answer → Tells (fault_text answer) b n → Counted
   vota_counted answer ok (refused bad taken un) tells = absurd (refused_or_given files names answer t r es (subst (λ (o : Option Files). IsRefused o names answer) told bad) given)
   vota_counted _ ok (no_memory taken un) tells = absurd (cc)
   vota_counted _ ok (no_cabinet taken un) tells = absurd (cc)
@@ -306,18 +308,13 @@ module _ (names : Vota) (files : Files) (c d : CabinetTold) (told : c.files ≡ 
       voted_counted t r s last es out run tables section m n start rest found traced
       (at_end (λ x. HasVoted t r es m x) (results_silent _ _ _ _ _ _ _ b n put tells) (of_given files names c told t u r q es fs (λ x y z. HasVoted x y z m b) given also h))
 
-  pub command_counted : (words : List (List ℕ)) → command_of words ≡ Some (ToVote names) → CommandEnds (command_of words) c d m b status.Done → Tells None b n → Counted
-  command_counted words is h tells = vota_counted status.Done refl (ends_as words (ToVote names) c d m b status.Done is h) tells
-
 pub votes_are_kept : VotesAreKept
-votes_are_kept t r section s start found words c d m n answer ends es ops is last out run =
-    command_kept is.names is.files c d is.cabinet t r es is.given section s last out run m ends.between n start ops found is.traced words answer
-    is.command ends.command ends.told
+votes_are_kept t r section s start found names c d m n answer es ops is last out run =
+    vota_kept names is.files c d is.cabinet t r es is.given section s last out run m is.between n start ops found is.traced answer is.ends is.told
 
 pub all_are_counted : AllAreCounted
-all_are_counted words c d m n ends t r es start ops is section s found last out run =
-    command_counted is.names is.files c d is.cabinet t r es is.given section s last out run m ends.between n start ops found is.traced words
-    is.command ends.command ends.told
+all_are_counted names c d m n t r es start ops is section s found last out run =
+    vota_counted names is.files c d is.cabinet t r es is.given section s last out run m is.between n start ops found is.traced status.Done refl is.ends is.told
 
 pub keys_have_run : KeysHaveRun
 keys_have_run files names t r es s given = run_exists (setting_of t r.titles) s es (tables_setting t r.titles given.tables.valid)

@@ -15,3 +15,9 @@ mod Offers
 mod Once
 mod Sessions
 mod Totals
+mod Accepting
+mod Leaving
+mod Opened
+mod Refused
+mod Touching
+mod Begun

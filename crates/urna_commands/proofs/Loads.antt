@@ -1,9 +1,26 @@
 -- What carga leaves is a poll before it begins
-use Rattle.std.proofs.Common.{◌≡◌, ℕ, List, [], ◌∷◌, Option, Some, length, refl, sym, ap, subst, ◌∙◌}
+use Rattle.urna_outside.proofs.Traced.{traced_is}
+use Rattle.urna_outside.proofs.Doing.{told_after}
+use Rattle.urna_outside.proofs.Stops.{stop-append, stop_whole}
+use Rattle.std.specs.Option.{option_map}
+use Rattle.urna_commands.proofs.Idle.{idle_left, idle_stop, idle_trail, told_idles}
+use Rattle.urna_commands.specs.FaultLines.{fault_text}
+use Rattle.urna_outside.specs.Started.{clean_flashes}
+use Rattle.state_store.proofs.Resting.{at_end, clean_image}
+use Rattle.image_codec.specs.State.{State}
+use Rattle.urna_outside.specs.Traced.{IsTraced}
+use Rattle.state_store.specs.Rest.{IsInUse}
+use Rattle.urna_commands.proofs.NeverBusy.{DoesLoad, carga_does, load_leaves_free}
+use Rattle.urna_outside.specs.declared.device.Dev.{Dev}
+use Rattle.urna_outside.specs.Stop.{AtEachStop, IsLeft, IsStop, Left, left_on}
+use Rattle.state_store.specs.Laws.{AreWhole}
+use Rattle.urna_commands.specs.Idle.{AreIdle}
+use Rattle.state_store.specs.Calls.{AreFree, Loads, both_synced}
+use Rattle.std.proofs.Common.{◌≡◌, ℕ, List, [], ◌∷◌, Option, Some, length, refl, sym, ap, subst, ◌∙◌, None, inl, inr, ◌++◌, ◌⊎◌}
 use Rattle.urna_outside.specs.Cabinet.{CabinetTold, Files}
-use Rattle.urna_outside.specs.Flash.{Flashes}
+use Rattle.urna_outside.specs.Flash.{Flashes, IsClean, Op, flash_of, shown_by, after}
 use Rattle.urna_outside.specs.ShownLines.{shows}
-use Rattle.urna_outside.specs.Told.{Told}
+use Rattle.urna_outside.specs.Told.{Told, Does, Runs}
 use Rattle.urna_outside.specs.declared.device.Dev.TheVariants as dev
 use Rattle.urna_outside.proofs.Showing.{shows_keep}
 use Rattle.urna_outside.proofs.ShowingLines.{shows_lines}
@@ -19,12 +36,14 @@ use Rattle.state_store.proofs.Loaded.{rest_found, rest_whole}
 use Rattle.urna_commands.specs.Carga.{CargaEnds, HasLoaded, IsSectionAsked, load_no_cabinet, load_no_memory, load_refused, loaded, loaded_line, no_section, not_loaded, not_told}
 use Rattle.urna_commands.specs.Documents.{HasDocuments, IsFirstFault}
 use Rattle.urna_commands.specs.Command.{Carga, ToLoad, command_of}
-use Rattle.urna_commands.specs.Ending.{CommandEnds}
+use Rattle.urna_commands.specs.Ending.{CommandEnds, Ends}
 use Rattle.urna_commands.specs.Errors.{load_status}
-use Rattle.urna_commands.specs.Again.{AreReady, LoadMakesReady}
+use Rattle.urna_commands.specs.Again.{AreReady, LoadMakesReady, Call, IsCall, IsNext, LoadMayFollow, cut_behind, cut, ended}
 use Rattle.urna_commands.specs.declared.status.Doc.TheVariants as doc
 use Rattle.urna_commands.specs.declared.status.Status.{Status}
 use Rattle.urna_commands.specs.declared.status.Status.TheVariants as status
+use Rattle.urna_commands.proofs.Again.{clean_is_clean}
+use Rattle.urna_commands.proofs.NeverBusy.{then_idles}
 use Rattle.urna_commands.proofs.Once.{refused_or_documents, same_roll, same_tables}
 use Rattle.urna_commands.proofs.Endings.{ends_as}
 
@@ -38,10 +57,29 @@ error_not_done (load.Flash dev.Internal) is = absurd (cc)
 error_not_done (load.Flash dev.External) is = absurd (cc)
 error_not_done (load.Busy d) is = absurd (cc)
 
+-- behind a load neither flash is in use, as at each of its stops
+loads_free : (m b : Told) (start : Flashes) → Runs (λ ops. (rest : List Op) × (ops ≡ both_synced ++ rest) × Loads m rest) m b → b.flashes ≡ Some start → AreFree start
+loads_free m b start (ops, does, (rest, is, loads)) told = go m.flashes refl
+  where
+    free_on : (rest : List Op) (first : Flashes) (d : Dev)
+        → ((e : Dev) → ¬ IsInUse (left_on e (record { internal = (after rest (after both_synced first)).internal.content; external = (after rest (after both_synced first)).external.content; shown = shown_by rest })))
+        → ¬ IsInUse (flash_of d (after rest (after both_synced first))).content
+    free_on rest first dev.Internal free = free dev.Internal
+    free_on rest first dev.External free = free dev.External
+
+    go : (o : Option Flashes) → m.flashes ≡ o → AreFree start
+    go None none = absurd (let both : Some start ≡ None = sym told ∙ does.flashes ∙ ap (λ (x : Option Flashes). option_map (after ops) x) none in cc)
+    go (Some first) some =
+        let both : Some start ≡ Some (after ops first) = sym told ∙ does.flashes ∙ ap (λ (x : Option Flashes). option_map (after ops) x) some in
+        let same : start ≡ after ops first = cc in
+        let free = at_end (after both_synced first) rest (λ left. (d : Dev) → ¬ IsInUse (left_on d left)) (loads.stops first some) in
+        let last : after rest (after both_synced first) ≡ start = sym (same ∙ ap (λ (l : List Op). after l first) is) in
+        subst AreFree last (λ d. free_on rest first d free)
+
 module _ (files : Files) (names : Carga) (c d : CabinetTold) (told : c.files ≡ Some files) (t : TablesData) (r : RollData) (given : HasDocuments (Some files) names.tables names.roll t r) (m b : Told)
     (start : Flashes) (flashes : b.flashes ≡ Some start) where
   abbrev Begins : Type 0
-  Begins = (section : Section) × IsSectionAsked names t r section × AreReady t r section (ready_state t (length r.titles)) start
+  Begins = (section : Section) × IsSectionAsked names t r section × AreReady t r section (ready_state t (length r.titles)) start × AreFree start
 
   begins : (section : Section) (between : Told) → IsSectionAsked names t r section → HasLoaded t r section m between → between.flashes ≡ Some start → Begins
   begins section between asked done there =
@@ -51,10 +89,13 @@ module _ (files : Files) (names : Carga) (c d : CabinetTold) (told : c.files ≡
         section,
         asked,
         record {
+          tables = given.tables.valid;
+          roll = roll;
           whole = rest_whole t r section (ready_state t (length r.titles)) start given.tables.valid roll asked.fits of rest;
           clean = rest.clean;
           found = rest_found t r section (ready_state t (length r.titles)) start given.tables.valid roll asked.fits of rest;
         },
+        loads_free m between start done.ran there,
       )
 
   carga_begins : (answer : Status) → answer ≡ status.Done → CargaEnds names c d m b answer → Begins
@@ -79,3 +120,122 @@ module _ (files : Files) (names : Carga) (c d : CabinetTold) (told : c.files ≡
 pub load_makes_ready : LoadMakesReady
 load_makes_ready words c d m n ends names files t r is told given start flashes =
     command_begins files names c d told t r given m ends.between start (ap (λ (x : Told). x.flashes) (sym ends.told) ∙ flashes) words is ends.command
+
+-- ---- a load over another
+
+-- flashes of which nothing is dirty have one image
+clean_left : (start : Flashes) (text : List ℕ) (left : Left) → ((d : Dev) → IsClean (flash_of d start)) → IsLeft start text left
+    → (left.internal ≡ start.internal.content) × (left.external ≡ start.external.content)
+clean_left start text left clean is = (clean_image start.internal left.internal (clean dev.Internal) is.internal, clean_image start.external left.external (clean dev.External) is.external)
+
+-- so what is ready is ready behind a power cut
+ready_left : (t : TablesData) (r : RollData) (section : Section) (s : State) (start : Flashes) (text : List ℕ) (left : Left) → AreReady t r section s start → IsLeft start text left
+    → AreReady t r section s (clean_flashes left.internal left.external)
+ready_left t r section s start text left ready is =
+    let (i, e) = clean_left start text left ready.clean is in
+    subst (λ (x : List ℕ). AreReady t r section s (clean_flashes x left.external)) (sym i)
+    (subst (λ (y : List ℕ). AreReady t r section s (clean_flashes start.internal.content y)) (sym e)
+    (record {
+      tables = ready.tables;
+      roll = ready.roll;
+      whole = whole;
+      clean = clean;
+      found = record { loaded = ready.found.loaded; held = ready.found.held };
+    }))
+  where
+    whole : AreWhole (clean_flashes start.internal.content start.external.content)
+    whole dev.Internal = ready.whole dev.Internal
+    whole dev.External = ready.whole dev.External
+
+    clean : (d : Dev) → IsClean (flash_of d (clean_flashes start.internal.content start.external.content))
+    clean dev.Internal = clean_is_clean start.internal.content
+    clean dev.External = clean_is_clean start.external.content
+
+-- within the two syncs nothing is put
+synced_stop_idle : (done : List Op) → IsStop both_synced done → AreIdle done
+synced_stop_idle done stop = idle_stop both_synced done (tt, (tt, tt)) stop
+
+module _ (t : TablesData) (r : RollData) (section : Section) (start next : Flashes) (x : Call) (names : Carga) (ready : AreReady t r section (ready_state t (length r.titles)) start) (free : AreFree start)
+    (is : IsCall start x next) (command : command_of x.words ≡ Some (ToLoad names)) where
+  ends : CargaEnds names is.cabinet is.cabinet_after is.machine is.ends.between is.answer
+  ends = ends_as x.words (ToLoad names) is.cabinet is.cabinet_after is.machine is.ends.between is.answer command is.ends.command
+
+  ran : DoesLoad is.machine is.machine_after
+  ran =
+      then_idles is.machine is.ends.between is.machine_after (carga_does names is.cabinet is.cabinet_after is.machine is.ends.between is.answer ends)
+      (told_idles (fault_text is.answer) is.ends.between is.machine_after is.ends.told)
+
+  flashes_after : is.machine_after.flashes ≡ Some (after is.ops start)
+  flashes_after = elim ran [ inl idles ↦ after_these idles.0 idles.1 | inr run ↦ after_these run.0 run.1 ]
+    where
+      after_these : (done : List Op) → Does done is.machine is.machine_after → is.machine_after.flashes ≡ Some (after is.ops start)
+      after_these done does =
+          subst (λ (l : List Op). is.machine_after.flashes ≡ Some (after l start)) (traced_is is.machine is.machine_after start is.ops done is.traced does)
+          (told_after done is.machine is.machine_after start does is.traced.flashes)
+
+  -- what was done is idle, or has both syncs first
+  does : AreIdle is.ops ⊎ ((rest : List Op) × (is.ops ≡ both_synced ++ rest))
+  does = elim ran [
+    | inl idles ↦ inl (idle_trail is.machine is.machine_after start is.ops is.traced idles)
+    | inr run ↦ inr (run.2.0 ++ run.2.1, sym (traced_is is.machine is.machine_after start is.ops run.0 is.traced run.1) ∙ run.2.2)
+  ]
+
+  abbrev free_at : Left → Type 0
+  free_at left = AreFree (clean_flashes left.internal left.external)
+
+  free_idle : (done : List Op) (left : Left) → AreIdle done → IsLeft (after done start) (shown_by done) left → free_at left
+  free_idle done left idle at =
+      let (i, e) = clean_left start (shown_by done) left ready.clean (idle_left done start (shown_by done) left idle at) in
+      free_both left i e
+    where
+      free_both : (left : Left) → left.internal ≡ start.internal.content → left.external ≡ start.external.content → free_at left
+      free_both left i e dev.Internal = subst (λ (y : List ℕ). ¬ IsInUse y) (sym i) (free dev.Internal)
+      free_both left i e dev.External = subst (λ (y : List ℕ). ¬ IsInUse y) (sym e) (free dev.External)
+
+  -- at each stop of the call neither is in use
+  free_stops : AtEachStop start is.ops free_at
+  free_stops done stop left at = elim does [
+    | inl idle ↦ free_idle done left (idle_stop is.ops done idle stop) at
+    | inr (rest, front) ↦ elim (stop-append both_synced rest done (subst (λ (l : List Op). IsStop l done) front stop)) [
+      | inl before_them ↦ free_idle done left (synced_stop_idle done before_them) at
+      | inr (more, all, late) ↦
+          let there : IsLeft (after more (after both_synced start)) (shown_by more) left =
+          subst (λ (l : List Op). IsLeft (after l start) (shown_by l) left) all at in
+          load_leaves_free x.words is.cabinet is.cabinet_after is.machine is.machine_after is.answer is.ends names command start rest
+          (subst (λ (l : List Op). IsTraced is.machine is.machine_after start l) front is.traced) free more late left there
+    ]
+  ]
+
+  free_content : (flashes : Flashes) → free_at (record { internal = flashes.internal.content; external = flashes.external.content; shown = [] }) → AreFree flashes
+  free_content flashes at dev.Internal = at dev.Internal
+  free_content flashes at dev.External = at dev.External
+
+  free_next : (done : List Op) (over : Option Status) → IsNext start is.ops is.answer done over next → AreFree next
+  free_next done over goes = free_goes done over next goes
+    where
+      free_goes : (done : List Op) (over : Option Status) (after_it : Flashes) → IsNext start is.ops is.answer done over after_it → AreFree after_it
+      free_goes done _ _ ended =
+          free_content (after is.ops start) (at_end start is.ops (λ left. free_at left) free_stops)
+      free_goes done _ _ (cut_behind {left} at) = free_stops is.ops (stop_whole is.ops) left (record { internal = at.internal; external = at.external; shown = at.shown })
+      free_goes done _ _ (cut {left} stop at) = free_stops done stop left at
+
+  abbrev Anew : Flashes → Type 0
+  Anew flashes = (u : TablesData) (q : RollData) → HasDocuments (Some x.files) names.tables names.roll u q
+      → (asked : Section) × IsSectionAsked names u q asked × AreReady u q asked (ready_state u (length q.titles)) flashes
+
+  anew_at_end : is.answer ≡ status.Done → Anew (after is.ops start)
+  anew_at_end done u q given =
+      let made = load_makes_ready x.words is.cabinet is.cabinet_after is.machine is.machine_after
+      (subst (Ends x.words is.cabinet is.cabinet_after is.machine is.machine_after) done is.ends) names x.files u q command is.told given (after is.ops start) flashes_after in
+      (made.0, made.1, made.2)
+
+  anew : (done : List Op) (over : Option Status) (after_it : Flashes) → IsNext start is.ops is.answer done over after_it → over ≡ Some status.Done → Anew after_it
+  anew done _ _ ended well u q given = anew_at_end (let same : is.answer ≡ status.Done = cc in same) u q given
+  anew done _ _ (cut_behind {left} at) well u q given =
+      let (asked, of, made) = anew_at_end (let same : is.answer ≡ status.Done = cc in same) u q given in
+      (asked, of, ready_left u q asked (ready_state u (length q.titles)) (after is.ops start) (shown_by is.ops) left made at)
+  anew done _ _ (cut stop at) well u q given = absurd (cc)
+
+pub load_may_follow : LoadMayFollow
+load_may_follow t r section start next x names ready free is command =
+    (free_next t r section start next x names ready free is command is.done x.status is.goes_on, λ well. anew t r section start next x names ready free is command is.done x.status next is.goes_on well)

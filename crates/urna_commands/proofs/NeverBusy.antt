@@ -26,17 +26,18 @@ use Rattle.urna_commands.specs.NeverBusy.{LoadIsNotBusy, LoadLeavesFree}
 use Rattle.urna_commands.specs.declared.status.Doc.{Doc}
 use Rattle.urna_commands.specs.declared.status.Status.{Status}
 use Rattle.urna_commands.specs.declared.status.Status.TheVariants as status
-use Rattle.urna_commands.proofs.Idle.{AreIdle, Idles, cut_idles, idle-append, idle_left, idle_stop, idles-append, shown_idles, synced_both, synced_idles, told_idles, untouched_idles}
+use Rattle.urna_commands.specs.Idle.{AreIdle}
+use Rattle.urna_commands.proofs.Idle.{Idles, cut_idles, idle-append, idle_left, idle_stop, idles-append, shown_idles, synced_both, synced_idles, told_idles, untouched_idles}
 use Rattle.urna_commands.proofs.Endings.{ends_as}
 
 -- ---- what carga does
 
 -- it loads behind the two syncs, and then writes nothing
-abbrev LoadsThen : Told → List Op → Type 0
+abbrev pub LoadsThen : Told → List Op → Type 0
 LoadsThen m done = (rest tail : List Op) × (done ≡ both_synced ++ (rest ++ tail)) × Loads m rest × AreIdle tail
 
 -- or it writes nothing
-abbrev DoesLoad : Told → Told → Type 0
+abbrev pub DoesLoad : Told → Told → Type 0
 DoesLoad m n = Idles m n ⊎ Runs (LoadsThen m) m n
 
 loads_then : (m b n : Told) → Runs (λ done. (rest : List Op) × (done ≡ both_synced ++ rest) × Loads m rest) m b → Idles b n → DoesLoad m n
@@ -47,7 +48,7 @@ loads_then m b n (done, does, (rest, is, loads)) (tail, then, idle) =
       (rest, tail, ap (λ (l : List Op). l ++ tail) is, loads, idle),
     )
 
-then_idles : (m b n : Told) → DoesLoad m b → Idles b n → DoesLoad m n
+pub then_idles : (m b n : Told) → DoesLoad m b → Idles b n → DoesLoad m n
 then_idles m b n (inl before) idles = inl (idles-append m b n before idles)
 then_idles m b n (inr (done, does, (rest, tail, is, loads, idle))) (more, then, idle_more) =
     inr (
@@ -62,7 +63,7 @@ then_idles m b n (inr (done, does, (rest, tail, is, loads, idle))) (more, then, 
       ),
     )
 
-within_idle : (ops : List Op) → IsWithinSyncs ops → AreIdle ops
+pub within_idle : (ops : List Op) → IsWithinSyncs ops → AreIdle ops
 within_idle ops (inl none) = subst AreIdle (sym none) tt
 within_idle ops (inr one) = subst AreIdle (sym one) (tt, tt)
 
@@ -75,7 +76,7 @@ fails_to_load m b (load.Flash d) (ends, (done, does, inr (rest, is, inl none))) 
 fails_to_load m b (load.Flash d) (ends, (done, does, inr (rest, is, inr loads))) =
     inr (done, does, (rest, [], is ∙ ap (λ (l : List Op). both_synced ++ l) (sym (append-nil rest)), loads, tt))
 
-carga_does : (names : Carga) (c d : CabinetTold) (m b : Told) (answer : Status) → CargaEnds names c d m b answer → DoesLoad m b
+pub carga_does : (names : Carga) (c d : CabinetTold) (m b : Told) (answer : Status) → CargaEnds names c d m b answer → DoesLoad m b
 carga_does names c d m b _ (load_refused why taken un) = inl (untouched_idles m b un)
 carga_does names c d m b _ (load_no_memory taken un) = inl (untouched_idles m b un)
 carga_does names c d m b _ (load_no_cabinet taken un) = inl (untouched_idles m b un)

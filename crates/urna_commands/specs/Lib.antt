@@ -1,3 +1,4 @@
+pub mod Accepting
 pub mod Again
 pub mod AtRest
 pub mod Carga
@@ -13,6 +14,7 @@ pub mod Errors
 pub mod FaultLines
 pub mod Headline
 pub mod Holding
+pub mod Idle
 pub mod Laws
 pub mod NeverBusy
 pub mod Offering
@@ -20,6 +22,7 @@ pub mod Putting
 pub mod Results
 pub mod Taking
 pub mod Totaliza
+pub mod Touching
 pub mod Verdicts
 pub mod Vota
 pub mod Words

@@ -1,19 +1,26 @@
-//! Laws of endings (`specs/Laws.antt`, `specs/Completion.antt`), of files that are put (`specs/Putting.antt`, `specs/Ensaio.antt`), of what is
-//! left at rest (`specs/AtRest.antt`), and the headline (`specs/Headline.antt`).
-ghost use Rattle.urna_commands.specs.Again.{CallsKeepVotes, LoadMakesReady, NextIsSafe};
-ghost use Rattle.urna_commands.specs.AtRest.{SameAtRest};
+//! The headline (`specs/Headline.antt`), and the same of any calls one after the other (`specs/Again.antt`); laws of what lies at rest
+//! (`specs/AtRest.antt`), of reports that are accepted (`specs/Accepting.antt`), of what puts nothing on a flash (`specs/Idle.antt`,
+//! `specs/NeverBusy.antt`), of what each command may touch (`specs/Touching.antt`), of endings (`specs/Laws.antt`, `specs/Completion.antt`), and of
+//! files that are put (`specs/Putting.antt`, `specs/Ensaio.antt`).
+ghost use Rattle.urna_commands.specs.Accepting.{EmittedIsAccepted, VotedIsAccepted};
+ghost use Rattle.urna_commands.specs.Again.{CallsKeepVotes, LoadMakesReady, LoadMayFollow, NextIsSafe, OpenedStays};
+ghost use Rattle.urna_commands.specs.AtRest.{DoneIsWhole, LateFaultIsSealed, RestsWhereNoFlashFailed, SameAtRest, SameInAnyOrder};
 ghost use Rattle.urna_commands.specs.Completion.{CompletesWhereItCan, TellsOfRisenCounts};
 ghost use Rattle.urna_commands.specs.Ensaio.{OnlySixChange, SixAreThere};
-ghost use Rattle.urna_commands.specs.Headline.{AllAreCounted, KeysHaveRun, VotesAreKept};
-ghost use Rattle.urna_commands.specs.Laws.{FoundOnce, OneTotalStatus, RefusedOnce, RefusedOrGiven, TotalEndsSo};
+ghost use Rattle.urna_commands.specs.Headline.{AllAreCounted, AloneFromTheFirstShow, KeysHaveRun, VotesAreKept};
+ghost use Rattle.urna_commands.specs.Idle.{IdleEndings, IdleLeavesNoMore, LoadIsKeptOut, OpenedIsInUse, OthersAreKeptOut};
+ghost use Rattle.urna_commands.specs.Laws.{FoundOnce, OneTotalStatus, RefusedEndSo, RefusedOnce, RefusedOrGiven, TotalEndsSo, VerdictEndsSo};
 ghost use Rattle.urna_commands.specs.NeverBusy.{LoadIsNotBusy, LoadLeavesFree};
 ghost use Rattle.urna_commands.specs.Putting.{BothAreThere};
+ghost use Rattle.urna_commands.specs.Touching.{EachTouchesAtMost};
 
 /// Where the cabinet tells its files, the words and the files determine whether they are refused, with which status, and which verdict
-/// `confere` gives. So they do the status of `totaliza`, which ends with it unless memory was wanted or the cabinet or the display failed.
+/// `confere` gives. A command ends so, unless memory was wanted, or the cabinet or, of `confere` and `totaliza`, the display failed.
 pub fn one_ending()
     ensures once { RefusedOnce }
     ensures either { RefusedOrGiven }
+    ensures refused { RefusedEndSo }
+    ensures verdict { VerdictEndsSo }
     ensures total { OneTotalStatus }
     ensures so { TotalEndsSo }
 {
@@ -42,28 +49,65 @@ pub fn completion()
 }
 
 /// The headline. Wherever the power stops a call of `vota` behind its two opening syncs, both flashes, and from the first shown byte on
-/// each alone, hold the poll that was found with the ballots whose FIM was shown, and with at most one more: that poll, or one of the
-/// states that the run commits. Where a call ends with Done they hold all ballots of its run. Each list of keys has a run.
+/// each alone, hold the state after a prefix of the presses: the poll that was found with the ballots whose FIM was shown, and with at most
+/// one more. Where a call ends with Done they hold all ballots of its run. Each list of keys has a run.
 pub fn votes_are_kept()
     ensures kept { VotesAreKept }
+    ensures alone { AloneFromTheFirstShow }
     ensures counted { AllAreCounted }
     ensures run { KeysHaveRun }
 {}
 
-/// Calls of `vota` and `emite` over flashes that a load made ready, one after the other, each of which the power stops anywhere or which
-/// ends: what is left behind them has the ballots whose FIM was shown in any of them, and at most one more of each that was stopped or
-/// that a flash or the display failed. The next call finds such a poll, and the headline holds of it.
+/// Calls of any words over flashes that a load made ready, one after the other, each of which the power stops anywhere or which ends: what
+/// is left behind them is the poll to which prefixes of the presses of the calls of `vota` lead, with the ballots whose FIM was shown in any of
+/// them, and at most one more of each that was stopped or that a flash or the display failed. A poll that was opened stays one that was, and no
+/// `carga` takes it away. The next call finds such a poll, and the headline holds of it. While the poll is still ready a `carga` may load anew,
+/// and with one that is Done the list begins anew.
 pub fn again_and_again()
     ensures kept { CallsKeepVotes }
     ensures next { NextIsSafe }
+    ensures opened { OpenedStays }
     ensures load { LoadMakesReady }
+    ensures anew { LoadMayFollow }
+{}
+
+/// Over a machine that tells its flashes: where `vota` is Done, the text of the whole run was shown, both flashes are at rest with its last
+/// state, and where that is sealed the two files of results are there and all other names are as before. Where memory was wanted or the
+/// cabinet failed, it made no call of the machine, or that state is sealed and at rest. However it ends, where no flash failed it made no call of
+/// the machine, or both flashes are at rest with the state after a prefix of the presses.
+pub fn what_vota_leaves()
+    ensures done { DoneIsWhole }
+    ensures late { LateFaultIsSealed }
+    ensures rest { RestsWhereNoFlashFailed }
+{}
+
+/// The report that a `vota` or an `emite` put that is Done is accepted by a `confere` of it with the same tables.
+pub fn put_and_accepted()
+    ensures voted { VotedIsAccepted }
+    ensures emitted { EmittedIsAccepted }
 {}
 
 /// Where neither flash is in use when `carga` has synced both, neither is at any later stop of the call; and where neither is, `carga`
-/// doesn't answer that one is. So a load that is stopped keeps no later load from its work.
+/// doesn't answer that one is. So a load that is stopped keeps no later load from its work. Where one is in use, `carga` puts nothing, and
+/// behind its syncs it answers so, or a flash failed. One is in use wherever the flashes hold a poll that was opened.
 pub fn never_busy()
     ensures free { LoadLeavesFree }
     ensures answer { LoadIsNotBusy }
+    ensures busy { LoadIsKeptOut }
+    ensures opened { OpenedIsInUse }
+{}
+
+/// The endings with which a command has put nothing on a flash. Over flashes that hold a poll `vota` puts nothing where it is given other tables
+/// or another roll. Where the power stops such a call, what it leaves it might have left before.
+pub fn puts_nothing()
+    ensures endings { IdleEndings }
+    ensures others { OthersAreKeptOut }
+    ensures stops { IdleLeavesNoMore }
+{}
+
+/// What each command may touch, however it ends.
+pub fn what_is_touched()
+    ensures { EachTouchesAtMost }
 {}
 
 /// Where both files of results were put, both are in the cabinet, under two names, and all other names are as before.
@@ -78,9 +122,10 @@ pub fn six_files()
 {}
 
 /// Two polls of one load with the same moments, voters and votes leave the same flashes and the same files of results, in whatever order
-/// the voters came and whoever chose what.
+/// the voters came and whoever chose what. So do two sessions over one poll whose ballots are the same in another order.
 pub fn no_order()
-    ensures { SameAtRest }
+    ensures states { SameAtRest }
+    ensures sessions { SameInAnyOrder }
 {
     image_codec::laws::order();
 }

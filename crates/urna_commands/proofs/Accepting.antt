@@ -1,0 +1,131 @@
+-- The report that a call put is accepted by the next
+use Rattle.std.proofs.Common.{◌≡◌, ◌≢◌, ◌⊎◌, inl, inr, ℕ, List, [], ◌∷◌, ◌++◌, Option, Some, refl, ap, subst, ◌∙◌}
+use Rattle.std.specs.Prelude.{Contains, codes}
+use Rattle.urna_outside.specs.Cabinet.{CabinetTold, Files, Holds, file_at}
+use Rattle.urna_outside.specs.ShownLines.{HasShown}
+use Rattle.urna_outside.specs.Told.{Told}
+use Rattle.urna_outside.specs.declared.device.Dev.TheVariants as dev
+use Rattle.election_tables.specs.Roll.{RollData}
+use Rattle.election_tables.specs.TablesData.{TablesData}
+use Rattle.election_tables.specs.declared.tables.sections.Section.{Section}
+use Rattle.turnout.specs.declared.phase.Phase.TheVariants as phase
+use Rattle.section_intake.specs.declared.verdict.Verdict.{Verdict}
+use Rattle.section_intake.specs.declared.verdict.Verdict.TheVariants as verdict
+use Rattle.image_codec.specs.Encoding.{IsStateOf}
+use Rattle.image_codec.specs.State.{State}
+use Rattle.state_store.specs.declared.store.StoreError.{StoreError}
+use Rattle.state_store.specs.declared.store.StoreError.TheVariants as store
+use Rattle.result_files.specs.Reports.{report_file}
+use Rattle.result_files.proofs.Reports.{sealed_is_accepted}
+use Rattle.urna_commands.specs.Accepting.{EmittedIsAccepted, IsAccepted, VotedIsAccepted}
+use Rattle.urna_commands.specs.Command.{Confere, Emite}
+use Rattle.urna_commands.specs.Confere.{ConfereEnds, HasVerdict, check_no_cabinet, check_no_memory, check_not_told, check_refused, checked}
+use Rattle.urna_commands.specs.Documents.{HasDocuments, HasTables, IsFirstFault}
+use Rattle.urna_commands.specs.AtRest.{AreResults, both_files, no_files}
+use Rattle.urna_commands.specs.Emite.{EmiteEnds, emit_no_cabinet, emit_no_memory, emit_refused, emitted, emitted_line, files_stopped, not_emitted, not_found, not_sealed}
+use Rattle.urna_commands.specs.Emite.{no_files as no_files_made}
+use Rattle.urna_commands.specs.Errors.{store_status}
+use Rattle.urna_commands.specs.Verdicts.{verdict_line, verdict_status}
+use Rattle.urna_commands.specs.declared.status.Doc.TheVariants as doc
+use Rattle.urna_commands.specs.declared.status.Status.{Status}
+use Rattle.urna_commands.specs.declared.status.Status.TheVariants as status
+use Rattle.urna_commands.proofs.AtRest.{done_is_whole}
+use Rattle.urna_commands.proofs.Once.{one_verdict_on, refused_or_checked, refused_or_documents}
+use Rattle.urna_commands.proofs.PutFiles.{both_are_there}
+
+-- what a name has of the files that there are
+there : (name bytes : List ℕ) (now x : Files) → Some now ≡ Some x → Holds name bytes now → Holds name bytes x
+there name bytes now x is held =
+    let same : now ≡ x = cc in
+    subst (Holds name bytes) same held
+
+-- tables whose name stays are there still
+tables_stay : (name : List ℕ) (t : TablesData) (before now : Files) → file_at name now ≡ file_at name before → HasTables (Some before) name t → HasTables (Some now) name t
+tables_stay name t before now same has =
+    record {
+      bytes = has.bytes;
+      taken = record { held = λ x is. there name has.bytes now x is (same ∙ has.taken.held before refl); short = has.taken.short };
+      read = has.read;
+      valid = has.valid;
+    }
+
+module _ (now : Files) (tables out : List ℕ) (t : TablesData) (section : Section) (s : State) (opened closed : ℕ) (has : HasTables (Some now) tables t) (listed : Contains t.sections section)
+    (of : IsStateOf t section.voters s) (sealed : s.phase ≡ phase.Sealed opened closed) (held : Holds (out ++ codes ".bu") (report_file t section s opened closed) now) where
+  abbrev names : Confere
+  names = record { tables = tables; report = out ++ codes ".bu" }
+
+  abbrev fine : Verdict
+  fine = verdict.Accepted section.zone section.number
+
+  verdict_there : HasVerdict (Some now) names fine
+  verdict_there =
+      let ok = sealed_is_accepted t section s opened closed has.valid listed of sealed in
+      record {
+        t = t;
+        bytes = report_file t section s opened closed;
+        tables = has;
+        report = record { held = λ x is. there (out ++ codes ".bu") (report_file t section s opened closed) now x is held; short = ok.0 };
+        verdict = ok.1;
+      }
+
+  abbrev Result : Told → Told → Status → Type 0
+  Result m n answer = ((answer ≡ status.Done) × HasShown (verdict_line fine ∷ []) m n) ⊎ (answer ≡ status.Memory) ⊎ (answer ≡ status.Cabinet) ⊎ (answer ≡ status.Display)
+
+  confere_tells : (c d : CabinetTold) (m n : Told) (answer : Status) → c.files ≡ Some now → ConfereEnds names c d m n answer → Result m n answer
+  confere_tells c d m n answer told (check_refused why taken un) =
+      absurd (refused_or_checked now names answer fine (subst (λ (o : Option Files). IsFirstFault o tables doc.Report (out ++ codes ".bu") answer) told why) verdict_there)
+  confere_tells c d m n _ told (check_no_memory taken un) = inr (inl refl)
+  confere_tells c d m n _ told (check_no_cabinet taken un) = inr (inr (inl refl))
+  confere_tells c d m n _ told (check_not_told is taken off) = inr (inr (inr refl))
+  confere_tells c d m n _ told (checked {v} is taken shown) =
+      let same : v ≡ fine = one_verdict_on now names v fine (subst (λ (o : Option Files). HasVerdict o names v) told is) verdict_there in
+      inl (ap verdict_status same, subst (λ (w : Verdict). HasShown (verdict_line w ∷ []) m n) same shown)
+
+  pub accepted_after : (d : CabinetTold) → d.files ≡ Some now → IsAccepted tables out section d
+  accepted_after d told c e m n answer ends same = confere_tells c e m n answer (same ∙ told) ends
+
+pub voted_is_accepted : VotedIsAccepted
+voted_is_accepted names c d m n t r es section s files is last out run opened closed sealed own =
+    let whole = done_is_whole names c d m n t r es section s files is last out run in
+    go whole.1 whole.2 whole.0.valid whole.3
+  where
+    go : (now : Files) → d.files ≡ Some now → IsStateOf t section.voters last → AreResults names.out t section last files now → IsAccepted names.tables names.out section d
+    go now told valid (no_files unsealed same) = absurd (unsealed opened closed sealed)
+    go now told valid (both_files {opened = o} {closed = k} at report rows others) =
+        accepted_after now names.tables names.out t section last o k
+        (tables_stay names.tables t files now (others names.tables own.0 own.1) is.given.tables) is.found.loaded.section_fits.listed valid at report d told
+
+store_not_done : (e : StoreError) → store_status e ≡ status.Done → ⊥
+store_not_done store.Memory is = absurd (cc)
+store_not_done (store.Flash dev.Internal) is = absurd (cc)
+store_not_done (store.Flash dev.External) is = absurd (cc)
+store_not_done (store.Foreign d) is = absurd (cc)
+store_not_done store.NoImage is = absurd (cc)
+
+module _ (names : Emite) (files : Files) (c d : CabinetTold) (told : c.files ≡ Some files) (t : TablesData) (r : RollData) (given : HasDocuments (Some files) names.tables names.roll t r)
+    (own : (names.tables ≢ names.out ++ codes ".bu") × (names.tables ≢ names.out ++ codes ".rdv")) (m n : Told) where
+  abbrev Emitted : Type 0
+  Emitted = (section : Section) × (between : Told) × HasShown (emitted_line section ∷ []) between n × IsAccepted names.tables names.out section d
+
+  emite_done : (answer : Status) → answer ≡ status.Done → EmiteEnds names c d m n answer → Emitted
+  emite_done answer done (emit_refused why taken un) =
+      absurd (refused_or_documents files names.tables names.roll answer t r (subst (λ (o : Option Files). IsFirstFault o names.tables doc.Roll names.roll answer) told why) given)
+  emite_done _ done (emit_no_memory taken un) = absurd (cc)
+  emite_done _ done (emit_no_cabinet taken un) = absurd (cc)
+  emite_done _ done (not_found e also taken h) = absurd (store_not_done e done)
+  emite_done _ done (not_sealed also taken h unsealed) = absurd (cc)
+  emite_done _ done (no_files_made also taken h sealed) = absurd (cc)
+  emite_done _ done (files_stopped after also taken h sealed put) = absurd (cc)
+  emite_done _ done (not_emitted after between also taken h sealed put off) = absurd (cc)
+  emite_done _ done (emitted {t = u} {r = q} {section} {s} {opened} {closed} after between also taken h sealed put shown) =
+      let (now, is, report, rows, others) = both_are_there names.out u section s opened closed after d files (taken.files ∙ told) put in
+      let has : HasDocuments (Some files) names.tables names.roll u q = subst (λ (o : Option Files). HasDocuments o names.tables names.roll u q) told also in (
+        section,
+        between,
+        shown,
+        accepted_after now names.tables names.out u section s opened closed (tables_stay names.tables u files now (others names.tables own.0 own.1) has.tables) h.one_of.listed h.state
+            sealed report d is,
+      )
+
+pub emitted_is_accepted : EmittedIsAccepted
+emitted_is_accepted names c d m n ends files t r told given own = emite_done names files c d told t r given own m n status.Done refl ends
