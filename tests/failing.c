@@ -7,6 +7,10 @@
    says so; `end`, where none are and it says so; or `kill`, where the process is killed in the middle of a write, and right behind any
    other call.
 
+   Where N is `A-B`, each of these calls goes HOW in a copy of the process, a few of which run at once, and in the process itself none does.
+   A copy touches no file: right before a call that isn't for memory it ends with the status 99. URNA_TELL gets a line `copy - N STATUS`
+   for each, with a signal as a number below zero, before the next call that isn't for memory, and none of a copy's calls.
+
    URNA_TELL names a file that gets a line `CALL NAME AT ANSWER` for each call, and behind that of a write the bytes that it put: AT is the
    place of a write, and ANSWER how many bytes were moved, or what another call answered. Before the line of a call that went another way
    stands a line `fault`. */
@@ -19,11 +23,14 @@
 #include <stdlib.h>
 #include <string.h>
 #include <sys/file.h>
+#include <sys/prctl.h>
 #include <sys/stat.h>
 #include <sys/syscall.h>
+#include <sys/wait.h>
 #include <unistd.h>
 
 #define NAME 4096
+#define AT_ONCE 8
 
 void *__libc_malloc(size_t);
 void *__libc_calloc(size_t, size_t);
@@ -32,15 +39,26 @@ void *__libc_memalign(size_t, size_t);
 
 static struct {
     char call[16], ending[64], how[16];
-    long number;
+    long number, last;
 } asked;
 static long calls;
 static int told = -1, begun;
 
+/* The copies that run, each with the number of the call that goes another way in it. */
+static struct {
+    pid_t process;
+    long number;
+} copies[AT_ONCE];
+static int running, is_copy;
+
 /* Reads what is asked for, before the program begins. What is told goes to a descriptor above those that a program has. */
 __attribute__((constructor)) static void begin(void) {
     const char *fail = getenv("URNA_FAIL"), *tell = getenv("URNA_TELL");
-    if (fail && sscanf(fail, "%15s %63s %ld %15s", asked.call, asked.ending, &asked.number, asked.how) != 4) {
+    char number[64];
+    if (fail && sscanf(fail, "%15s %63s %63s %15s", asked.call, asked.ending, number, asked.how) != 4) {
+        abort();
+    }
+    if (fail && sscanf(number, "%ld-%ld", &asked.number, &asked.last) < 1) {
         abort();
     }
     int file = tell ? open(tell, O_WRONLY | O_APPEND | O_CREAT | O_CLOEXEC, 0600) : -1;
@@ -92,12 +110,67 @@ static void tell(const char *call, const char *name, long at, long count, const 
     errno = error;
 }
 
+/* Waits until no more copies run than these, and tells each that ended. */
+static void wait_for_copies(int most) {
+    int status, error = errno;
+    while (running > most) {
+        pid_t ended = waitpid(-1, &status, 0);
+        if (ended < 0) {
+            abort();
+        }
+        int at = 0;
+        while (copies[at].process != ended) {
+            at += 1;
+        }
+        tell("copy", "-", copies[at].number, WIFSIGNALED(status) ? -WTERMSIG(status) : WEXITSTATUS(status), NULL);
+        running -= 1;
+        copies[at] = copies[running];
+    }
+    errno = error;
+}
+
+/* Copies the process. Answers whether this is the copy. */
+static int is_in_copy(void) {
+    wait_for_copies(AT_ONCE - 1);
+    pid_t copy = fork();
+    if (copy < 0) {
+        abort();
+    }
+    if (copy == 0) {
+        prctl(PR_SET_PDEATHSIG, SIGKILL);
+        is_copy = 1;
+        running = 0;
+        told = -1;
+        asked.number = calls;
+        asked.last = 0;
+        return 1;
+    }
+    copies[running].process = copy;
+    copies[running].number = calls;
+    running += 1;
+    return 0;
+}
+
+/* Where the process made no further call. */
+__attribute__((destructor)) static void end(void) {
+    wait_for_copies(0);
+}
+
 /* How this call goes, where it goes another way than it would. */
 static const char *other_way(const char *call, const char *name) {
+    if (strcmp(call, "memory") != 0) {
+        if (is_copy) {
+            _exit(99);
+        }
+        wait_for_copies(0);
+    }
     if (!begun || strcmp(call, asked.call) != 0 || !ends_in(name, asked.ending)) {
         return NULL;
     }
     calls += 1;
+    if (asked.last) {
+        return asked.number <= calls && calls <= asked.last && is_in_copy() ? asked.how : NULL;
+    }
     if (calls < asked.number || (calls > asked.number && *asked.how != '+')) {
         return NULL;
     }

@@ -28,7 +28,7 @@ FAULTS = {
 }
 # The documents of all commands, and the results, which a put replaces.
 DOCUMENTS = ("tables", "roll", "keys", "list", "a.bu", "b.bu", "c.bu")
-RESULTS = ("o.bu", "o.rdv", "p.bu", "p.rdv", *(f"ensaio.{end}" for end in ("toml", "rol", "teclas", "flash", "bu", "rdv")))
+RESULTS = ("o.bu", "o.rdv", "p.bu", "p.rdv", *memory.REHEARSED)
 
 
 class Case(NamedTuple):
@@ -89,7 +89,7 @@ def drawn_case(runs, draw):
         files = with_flashes(day, "", day.flashes(draw.choice((1, 2)), day.last))
         return case(runs, EMITE, {**files, **dict.fromkeys(draw.choice([(), ("p.bu", "p.rdv")]), b"old")})
     if kind == "ensaio":
-        return case(runs, memory.ENSAIO, dict.fromkeys(draw.choice([(), RESULTS[4:]]), b"old"))
+        return case(runs, memory.ENSAIO, dict.fromkeys(draw.choice([(), memory.REHEARSED]), b"old"))
     return case(runs, draw.choice((memory.TOTALIZA, memory.CONFERE)), memory.listed_reports())
 
 

@@ -10,6 +10,47 @@ from parts import parts_file
 from polls import FLASHES, LENGTH
 
 CONFERE, TOTALIZA, ENSAIO = ["confere", "tables", "a.bu"], ["totaliza", "tables", "list"], ["ensaio", "1"]
+# The files of a rehearsal.
+REHEARSED = tuple(f"ensaio.{end}" for end in ("toml", "rol", "teclas", "flash", "bu", "rdv"))
+# How many allocations one run refuses, each in a copy of its process.
+IN_A_RUN = 1000
+
+# The report of a second section for the worked list, of whose five voters four came, and what is told of that list up to the sums.
+SECOND_FIELDS = (
+    "ORIG:VOTA PROC:7 DTPL:20261004 TURN:1 ZONA:2 SECA:1 APTO:5 COMP:4 FALT:1 DTAB:20261004 HRAB:080000 DTFC:20261004 HRFC:170000"
+    " CARG:13 TIPO:1 PART:45 LEGP:2 TOTP:2 APTA:5 NOMI:0 LEGC:2 BRAN:0 NULO:2 TOTC:4 CARG:11 TIPO:0 45:3 APTA:5 NOMI:3 BRAN:1 NULO:0 TOTC:4"
+)
+WORKED_LINES = b"""1 ACEITO 1 42
+2 REPETIDO 1 42
+3 PARTE HASH 1
+4 CONFLITO 1 42
+5 CAMPO 27
+6 ESTRANHO
+7 ACEITO 2 1
+8 REPETIDO 1 42
+SECOES 2 DE 2
+"""
+
+
+def worked_list():
+    """Reports of two sections, as the script `intake` of `session_tests` lists them: one of the first section, a copy of it, the same with a
+    digit changed and the hash not, with a null vote in the place of the blank one, with a count written 00 and of another election, that of
+    the second section, and the copy again."""
+    fields = polls.THREE_BALLOTS_FIELDS
+    report, counts = parts_file(fields), "BRAN:1 NULO:0"
+    files = {
+        "b": report,
+        "copy": report,
+        "digit": report.replace("13001:1", "13001:2", 1),
+        "vote": parts_file(fields.replace(counts, "BRAN:0 NULO:1", 1)),
+        "field": parts_file(fields.replace(counts, "BRAN:1 NULO:00", 1)),
+        "strange": parts_file(fields.replace("PROC:7", "PROC:8", 1)),
+        "other": parts_file(SECOND_FIELDS),
+    }
+    files["list"] = "".join(f"{name}\n" for name in (*files, "copy"))
+    one = polls.three_ballots([])
+    two = one["tables"].replace(b"eleitores = 3}", b"eleitores = 3}, {zona = 2, secao = 1, eleitores = 5}")
+    return {**one, "tables": two, **{name: text.encode() for name, text in files.items()}}
 
 
 def listed_reports():
@@ -83,22 +124,52 @@ def refuse(runs, words, files, usual, number, how):
     return True
 
 
+def each(runs, words, files, usual):
+    """Each allocation of a command, and each with all behind it, until a run has no refusal."""
+    for how in (f"{ENOMEM}", f"+{ENOMEM}"):
+        number = 1
+        while refuse(runs, words, files, usual, number, how):
+            yield "refused allocations"
+            number += 1
+
+
+def each_in_copies(runs, words, files, usual, how):
+    """Each allocation of a command that has many, in a copy of its process (tests/failing.c). Where a copy ends for want of memory, and no
+    file was touched before, nothing is shown and the files are as they were; else the allocation is refused in a run of its own."""
+    count = sum(call.kind == "memory" for call in usual.calls)
+    for first in range(1, count + 1, IN_A_RUN):
+        last = min(first + IN_A_RUN - 1, count)
+        ended = runs.run(files, words, fail=f"memory * {first}-{last} {how}")
+        is_usual = (ended.status, ended.shown, ended.files) == (usual.status, usual.shown, usual.files)
+        want(is_usual, f"{' '.join(words)} with copies from allocation {first} to {last}: {ended.told()}, or left other files")
+        before_files = itertools.takewhile(lambda call: call.kind in ("memory", "copy"), ended.calls)
+        short = {call.at for call in before_files if call.kind == "copy" and call.answer in (1, 40)}
+        for number in range(first, last + 1):
+            if number not in short:
+                refuse(runs, words, files, usual, number, how)
+            yield "refused allocations"
+
+
 def in_turn(runs):
-    """Each allocation of the poll of one vote, and each with all behind it, until a run has no refusal."""
+    """Each allocation of the poll of one vote, of the totals of the worked list, and of a rehearsal over old files."""
     for words, files in life(runs):
         usual = runs.run(files, words)
         want(usual.status == 0, f"{words[0]} {usual.told()}")
-        for how in (f"{ENOMEM}", f"+{ENOMEM}"):
-            number = 1
-            while refuse(runs, words, files, usual, number, how):
-                yield "refused allocations"
-                number += 1
+        yield from each(runs, words, files, usual)
     report, record = usual.files["p.bu"].decode(), usual.files["p.rdv"].decode()
     want(report == parts_file(polls.ONE_VOTE_FIELDS) and record == polls.ONE_VOTE_RECORD, "the results of one vote are others")
+    files = worked_list()
+    usual = runs.run(files, TOTALIZA)
+    want(usual.status == 6 and usual.shown.startswith(WORKED_LINES), f"totaliza of the worked list {usual.told()}")
+    yield from each(runs, TOTALIZA, files, usual)
+    files = dict.fromkeys(REHEARSED, b"old")
+    usual = runs.run(files, ENSAIO, tells=True)
+    want(usual.status == 0 and usual.shown.startswith(b"ENSAIO 1\nCOMP 1\n"), f"ensaio {usual.told()}")
+    yield from each_in_copies(runs, ENSAIO, files, usual, f"{ENOMEM}")
 
 
 def trials(runs, drawn):
-    """Each allocation of the poll of one vote in turn, and then drawn ones of other commands."""
+    """Each allocation of some commands in turn, and then drawn ones of these and others."""
     yield from in_turn(runs)
     known = []
     for words, files in cases(runs):
