@@ -2,6 +2,7 @@ pub mod Codes
 pub mod Exact
 pub mod Faults
 pub mod FieldLaws
+pub mod FieldRows
 pub mod Flattening
 pub mod Following
 pub mod Going

@@ -119,7 +119,7 @@ macro_rules! row {
     };
 }
 
-/// The one table.
+/// The one table of the fields of a report.
 pub const TABLE: Table = Table {
     orig: row!(b"ORIG", Form::Vota, Nothing),
     process: row!(b"PROC", PROCESS, Nothing),
