@@ -6,3 +6,4 @@ pub mod Tables
 pub mod Roll
 pub mod Typing
 pub mod Script
+pub mod Laws

@@ -2,7 +2,7 @@
 //!
 //! `rehearsal_tables`, `rehearsal_roll` and `rehearsal_keys` make the texts. What their readers make of them stands in
 //! `specs/Tables.antt`, `specs/Roll.antt` and `specs/Script.antt`, and in `specs/Typing.antt` what each voter types. `read_tables`,
-//! `read_roll` and `read_script` read the texts as well: no reader refuses its text, so want of memory is their only error too.
+//! `read_roll` and `read_script` read the texts as well: no reader refuses its text (`laws`), so want of memory is their only error too.
 #![tactic(auto)]
 
 ghost use Rattle.std.specs.Prelude.{◌≡◌, ◌+◌, ◌^◌, ◌<◌, ◌≤◌, false, IfOk, Some, vec_len};
@@ -10,7 +10,7 @@ ghost use Rattle.sha2.specs.Sha256.{sha256};
 ghost use Rattle.toml.specs.Text.{IsDocumentText};
 ghost use Rattle.election_tables.specs.Limits.{most_voters};
 ghost use Rattle.election_tables.specs.Roll.{IsRollOf};
-ghost use Rattle.election_tables.specs.Tables.{IsReadAs};
+ghost use Rattle.election_tables.specs.Tables.{IsDocument, IsReadAs};
 ghost use Rattle.key_script.specs.Script.{events_of};
 ghost use Rattle.rehearsal.specs.Document.{document};
 ghost use Rattle.rehearsal.specs.Roll.{generated_roll, roll_text, title_at};
@@ -18,6 +18,7 @@ ghost use Rattle.rehearsal.specs.Script.{generated_events, script_text};
 ghost use Rattle.rehearsal.specs.Tables.{generated_tables};
 
 mod document;
+pub mod laws;
 mod members;
 mod printing;
 mod readers;
@@ -41,9 +42,12 @@ pub fn rehearsal_tables(alloc: Global, n: u32) -> Result<Vec<u8>, Memory>
     requires some { 1 ≤ n }
     requires few { n ≤ most_voters }
     ensures printed { IfOk result (λ text. IsDocumentText false (document n) text.items) }
+    ensures document { IfOk result (λ text. IsDocument text.items (document n)) }
     ensures read { IfOk result (λ text. IsReadAs text.items (generated_tables n (sha256 text.items))) }
 {
-    Ok(document::text(alloc, n)?.into_bytes())
+    let text = document::text(alloc, n)?;
+    laws::no_text_is_refused();
+    Ok(text.into_bytes())
 }
 
 /// The text of the roll of `n` voters.
@@ -60,6 +64,7 @@ pub fn rehearsal_roll(alloc: Global, n: u32) -> Result<Vec<u8>, Memory>
         put_digits(&mut text, title(place), 12)?;
         text.push(b'\n')?;
     }
+    laws::no_text_is_refused();
     Ok(text)
 }
 
@@ -77,6 +82,7 @@ pub fn rehearsal_keys(alloc: Global, n: u32) -> Result<Vec<u8>, Memory>
     put_numbered(&mut text, b"M ABRE ", OPENING, 14)?;
     put_visits(&mut text, n)?;
     put_numbered(&mut text, b"M ENCERRA ", CLOSING, 14)?;
+    laws::no_text_is_refused();
     Ok(text)
 }
 

@@ -1,5 +1,5 @@
-//! What the readers make of the three texts. They never refuse them: want of memory is the only error.
-ghost use Rattle.std.specs.Prelude.{◌≡◌, ◌≤◌, false, IfOk};
+//! What the readers make of the three texts. They never refuse them (`laws::no_text_is_refused`): want of memory is the only error.
+ghost use Rattle.std.specs.Prelude.{◌≡◌, ◌≢◌, ◌≤◌, false, Err, IfErr, IfOk};
 ghost use Rattle.sha2.specs.Sha256.{sha256};
 ghost use Rattle.election_tables.specs.Limits.{most_voters};
 ghost use Rattle.election_tables.specs.Roll.{IsRoll, IsRollOf};
@@ -11,11 +11,33 @@ ghost use Rattle.rehearsal.specs.Roll.{generated_roll, roll_text};
 ghost use Rattle.rehearsal.specs.Script.{generated_events};
 ghost use Rattle.rehearsal.specs.Tables.{generated_tables};
 
-use crate::{rehearsal_keys, rehearsal_roll, rehearsal_tables};
+use crate::{laws, rehearsal_keys, rehearsal_roll, rehearsal_tables};
 use election_tables::{Roll, RollError, Tables, TablesError};
 use key_script::Script;
 use std::alloc::Global;
 use urna_base::Memory;
+
+/// What the reader of tables answered where it did not want memory. `Err` is its own want of memory and nothing else, so a refusal stays one.
+fn tables_answer(answer: Result<Tables, TablesError>) -> Result<Result<Tables, TablesError>, Memory>
+    ensures memory { IfErr result (λ _. answer ≡ Err TablesError.Memory) }
+    ensures answer { IfOk result (λ same. (same ≡ answer) × (answer ≢ Err TablesError.Memory)) }
+{
+    match answer {
+        Err(TablesError::Memory) => Err(Memory),
+        same => Ok(same),
+    }
+}
+
+/// What the reader of a roll answered where it did not want memory, and `Err` as with tables.
+fn roll_answer(answer: Result<Roll, RollError>) -> Result<Result<Roll, RollError>, Memory>
+    ensures memory { IfErr result (λ _. answer ≡ Err RollError.Memory) }
+    ensures answer { IfOk result (λ same. (same ≡ answer) × (answer ≢ Err RollError.Memory)) }
+{
+    match answer {
+        Err(RollError::Memory) => Err(Memory),
+        same => Ok(same),
+    }
+}
 
 /// The text of the tables for `n` voters, and the tables that `Tables::read` makes of it.
 ///
@@ -29,13 +51,10 @@ pub fn read_tables(alloc: Global, n: u32) -> Result<(Vec<u8>, Tables), Memory>
     ensures valid { IfOk result (λ r. IsTables r.1) }
 {
     let text = rehearsal_tables(alloc, n)?;
-    // bytes have one reading, so it is that of the clause of `rehearsal_tables`
+    // bytes have one reading, so it is that of the clause of `rehearsal_tables`, by which the reader doesn't refuse them
     election_tables::laws::reading_is_determined();
-    match Tables::read(alloc, &text) {
-        Ok(tables) => Ok((text, tables)),
-        Err(TablesError::Memory) => Err(Memory),
-        Err(TablesError::NotToml | TablesError::Rule(_)) => unreachable!(),
-    }
+    let answer = tables_answer(Tables::read(alloc, &text))?;
+    Ok((text, answer.unwrap()))
 }
 
 /// The text of the roll of `n` voters, and the roll that `Roll::read` makes of it.
@@ -52,11 +71,8 @@ pub fn read_roll(alloc: Global, n: u32) -> Result<(Vec<u8>, Roll), Memory>
     let text = rehearsal_roll(alloc, n)?;
     // and so it is with a roll
     election_tables::laws::reading_is_determined();
-    match Roll::read(alloc, &text) {
-        Ok(roll) => Ok((text, roll)),
-        Err(RollError::Memory) => Err(Memory),
-        Err(RollError::Count | RollError::Line(_)) => unreachable!(),
-    }
+    let answer = roll_answer(Roll::read(alloc, &text))?;
+    Ok((text, answer.unwrap()))
 }
 
 /// The script that `Script::read` makes of the text for `n` voters.
@@ -68,10 +84,7 @@ pub fn read_script(alloc: Global, n: u32) -> Result<Script, Memory>
     ensures { IfOk result (λ script. script ≡ generated_events n) }
 {
     let text = rehearsal_keys(alloc, n)?;
-    // a text that has events has no line outside the form
-    key_script::laws::events_or_bad_line();
-    match Script::read(text) {
-        Ok(script) => Ok(script),
-        Err(_) => unreachable!(),
-    }
+    // no line is outside the form, and that is the only error of this reader, which takes no memory
+    laws::no_text_is_refused();
+    Ok(Script::read(text).unwrap())
 }

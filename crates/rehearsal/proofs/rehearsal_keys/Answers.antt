@@ -1,5 +1,5 @@
 use Rattle.std.proofs.Common.{arith, length, sym, ap}
-use Rattle.rehearsal.proofs.Events.{script_parts, script_read}
+use Rattle.rehearsal.proofs.Events.{script_parts}
 use Rattle.rehearsal.proofs.Lengths.{script_short}
 use Rattle.rehearsal.proofs.rehearsal_keys.Goals as goal
 
@@ -8,7 +8,7 @@ returns-clause-lines c =
     rw (c.in_ok-put_numbered-2.ensures, c.in_ok-put_visits.ensures, c.in_ok-put_numbered.ensures, c.new-text.ensures.items) (sym (script_parts c.args.n))
 
 pub returns-clause-read : goal.returns-clause-read
-returns-clause-read c = script_read c.args.n _ c.requires.few (returns-clause-lines c)
+returns-clause-read c = rw (returns-clause-lines c) (c.no_text_is_refused.ensures.keys c.args.n c.requires.some c.requires.few).1
 
 pub returns-clause-short : goal.returns-clause-short
 returns-clause-short c = omega (arith, ap length (returns-clause-lines c), script_short c.args.n c.requires.few)

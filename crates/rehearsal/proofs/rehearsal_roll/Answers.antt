@@ -1,5 +1,6 @@
 use Rattle.std.proofs.Common.{◌≡◌, refl, arith}
-use Rattle.rehearsal.proofs.Titles.{roll_read, roll_text-more}
+use Rattle.rehearsal.specs.Roll.{roll_text}
+use Rattle.rehearsal.proofs.Titles.{roll_text-more}
 use Rattle.rehearsal.proofs.rehearsal_roll.Goals as goal
 
 pub loop-place-preserved : goal.loop-place-preserved
@@ -9,4 +10,5 @@ loop-place-preserved c =
 pub returns-clause-read : goal.returns-clause-read
 returns-clause-read c =
     let done : c.loop-place.place ≡ c.args.n = omega arith in
-    roll_read c.args.n _ c.requires.some c.requires.few (rw done at c.loop-place.invariant)
+    let lines : c.loop-place.text.items ≡ roll_text c.args.n = rw done at c.loop-place.invariant in
+    rw lines (c.no_text_is_refused.ensures.roll c.args.n c.requires.some c.requires.few).1
