@@ -1,10 +1,11 @@
 -- Fronts of operations in a row.
-use Rattle.std.proofs.Common.{ℕ, inl, Result, Ok, Err, List, [], ◌∷◌, ◌++◌, length, OnErr, refl, sym, ap, ◌∙◌, append_assoc}
+use Rattle.std.proofs.Common.{ℕ, inl, inr, Result, Ok, Err, List, [], ◌∷◌, ◌++◌, length, OnErr, refl, sym, ap, subst, ◌∙◌, append_assoc}
+use Rattle.std.proofs.lemmas.List.{append-nil}
 use Rattle.urna_outside.specs.Flash.{Op, Put, Sync, Show}
 use Rattle.urna_outside.specs.Told.{Told, Does, Runs, IsTornPut}
 use Rattle.urna_outside.specs.declared.device.Dev.{Dev}
 use Rattle.urna_outside.proofs.Doing.{does-append}
-use Rattle.gate_slot.specs.Front.{IsTornOf, IsFrontOf, IsFrontOfSome}
+use Rattle.gate_slot.specs.Front.{IsTornOf, IsFrontOf, IsFrontOfSome, IsUpTo}
 
 none_of : (op : Op) → IsTornOf op []
 none_of (Put d at bytes) = inl refl
@@ -86,3 +87,28 @@ cut_later P Q R a b c joined first run = (
   does-append first.0 run.0 a b c first.1 run.1,
   (first.0 ++ run.2.0, joined first.0 run.2.0 first.2 run.2.1, front_later first.0 run.2.0 run.0 run.2.2),
 )
+
+-- nothing is a front of some operations, or all of them
+pub up_to_none : (P : List Op → Type 0) (ops : List Op) → P ops → IsUpTo P []
+up_to_none P [] is = inl is
+up_to_none P (op ∷ ops) is = inr (op ∷ ops, is, none_done op ops)
+
+pub up_to_as : (P Q : List Op → Type 0) (ops : List Op) → ((xs : List Op) → P xs → Q xs) → IsUpTo P ops → IsUpTo Q ops
+up_to_as P Q ops weaker (inl is) = inl (weaker ops is)
+up_to_as P Q ops weaker (inr (whole, is, front)) = inr (whole, weaker whole is, front)
+
+-- The first of two lists in a row was done whole or cut off, and of the other one nothing was done.
+pub up_to_first : (P Q R : List Op → Type 0) (ops ys : List Op) → ((xs ys : List Op) → P xs → Q ys → R (xs ++ ys)) → Q ys → IsUpTo P ops → IsUpTo R ops
+up_to_first P Q R ops [] joined later (inl is) = inl (subst R (append-nil ops) (joined ops [] is later))
+up_to_first P Q R ops (y ∷ ys) joined later (inl is) =
+    inr (
+      ops ++ y ∷ ys,
+      joined ops (y ∷ ys) is later,
+      subst (IsFrontOf (ops ++ y ∷ ys)) (append-nil ops) (front_later ops (y ∷ ys) [] (none_done y ys)),
+    )
+up_to_first P Q R ops ys joined later (inr (whole, is, front)) = inr (whole ++ ys, joined whole ys is later, front_first whole ys ops front)
+
+-- the first one was done, and the other one whole or cut off
+pub up_to_later : (P Q R : List Op → Type 0) (xs ops : List Op) → ((xs ys : List Op) → P xs → Q ys → R (xs ++ ys)) → P xs → IsUpTo Q ops → IsUpTo R (xs ++ ops)
+up_to_later P Q R xs ops joined first (inl is) = inl (joined xs ops first is)
+up_to_later P Q R xs ops joined first (inr (whole, is, front)) = inr (xs ++ whole, joined xs whole first is, front_later xs whole ops front)

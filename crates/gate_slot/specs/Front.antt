@@ -1,5 +1,5 @@
 -- How far operations went that a fault cut off.
-use Rattle.std.specs.Prelude.{◌≡◌, List, [], ◌∷◌, ◌++◌, Result, Ok, Err, length}
+use Rattle.std.specs.Prelude.{◌≡◌, ◌⊎◌, List, [], ◌∷◌, ◌++◌, Result, Ok, Err, length}
 use Rattle.urna_outside.specs.Flash.{Op, Put, Sync, Show}
 use Rattle.urna_outside.specs.Told.{Told, Runs, IsTornPut, IsTornShow}
 
@@ -22,6 +22,10 @@ pub record IsFrontOf (whole ops : List Op) : Type 0 where
 -- a front of operations that have P
 abbrev pub IsFrontOfSome : (List Op → Type 0) → List Op → Type 0
 IsFrontOfSome P ops = (whole : List Op) × P whole × IsFrontOf whole ops
+
+-- operations that have P, or a front of them
+abbrev pub IsUpTo : (List Op → Type 0) → List Op → Type 0
+IsUpTo P ops = P ops ⊎ IsFrontOfSome P ops
 
 -- Ok, operations that have P were done; an error tells that a front of such operations was.
 abbrev pub RunsUpTo : {T E : Type 0} → Result T E → (List Op → Type 0) → Told → Told → Type 0
