@@ -4,7 +4,7 @@ use Rattle.std.proofs.lemmas.Bool.{cases_eq, eqb-true, eq-eqb, ne_eqb}
 use Rattle.std.proofs.lemmas.List.{append-nil}
 use Rattle.std.specs.Option.{ForSome}
 use Rattle.std.specs.List.{AllByRecursion}
-use Rattle.urna_outside.specs.Flash.{Flash, Flashes, flash_of, after, IsClean, IsImage}
+use Rattle.urna_outside.specs.Flash.{Flash, Flashes, Op, flash_of, after, IsClean, IsImage}
 use Rattle.urna_outside.specs.Stop.{Left, left_on}
 use Rattle.urna_outside.specs.Stage.{Course}
 use Rattle.urna_outside.specs.Told.{Told, Sizes, Does, Runs, AreSized, size_of}
@@ -16,6 +16,8 @@ use Rattle.urna_outside.proofs.Keeping.{within_keeps}
 use Rattle.urna_outside.proofs.Stages.{stage_stronger}
 use Rattle.urna_outside.proofs.Courses.{course_from_stage, courses-append, course_weaker}
 use Rattle.gate_slot.specs.Slot.{room, gate_in, body_in}
+use Rattle.gate_slot.specs.Front.{IsUpTo}
+use Rattle.gate_slot.proofs.Fronts.{up_to_first, up_to_later}
 use Rattle.gate_slot.proofs.Written.{body_fits}
 use Rattle.twin_image.specs.Twin.{IsOfTwin, IsTwin}
 use Rattle.twin_image.specs.Heal.{MendsTo, MendsBoth, MendsTwin, KeepsHeld, LeavesHeld, Heals, AreMends, IsHeal}
@@ -23,7 +25,7 @@ use Rattle.twin_image.specs.Slots.{HaveRoom, AreClean}
 use Rattle.twin_image.proofs.Renewing.{live_image, twin_bounded}
 use Rattle.twin_image.proofs.Framing.{framed, on_both}
 use Rattle.twin_image.proofs.Committing.{differs}
-use Rattle.twin_image.proofs.Mending.{same_mends, image_same, live_mends}
+use Rattle.twin_image.proofs.Mending.{same_mends, image_same, live_mends, mends_are}
 use Rattle.twin_image.specs.Held.{bodies_at, bodies_on, held_body, held_on, held_by_both}
 use Rattle.twin_image.proofs.Best.{IsBest, Mended, IsOneAtMost, best_from_held, held_from_best, best_mended}
 
@@ -231,4 +233,36 @@ heals_all size body a b c long fits sized run first second start told =
         external_is = subst (λ (f : Flash). AreMends size External body f.content two.0) same two.2;
         in_row = refl;
       },
+    )
+
+-- ---- up to a fault
+
+heal_joins : (size : ℕ) (body : List ℕ) (start : Flashes) (xs ys : List Op) → AreMends size Internal body start.internal.content xs → AreMends size External body start.external.content ys → IsHeal size body start (xs ++ ys)
+heal_joins size body start xs ys internal external =
+    record { internal = xs; external = ys; internal_is = internal; external_is = external; in_row = refl }
+
+-- the internal flash was cut off
+pub heal_cut_internal : (size : ℕ) (body : List ℕ) (a b : Told) → ForSome a.flashes (λ start. Runs (IsUpTo (AreMends size Internal body start.internal.content)) a b) → ForSome a.flashes (λ start. Runs (IsUpTo (IsHeal size body start)) a b)
+heal_cut_internal size body a b first start told =
+    let run = first start told in
+    let later = mends_are size External body start.external.content in (
+      run.0,
+      run.1,
+      up_to_first (AreMends size Internal body start.internal.content) (AreMends size External body start.external.content) (IsHeal size body start) run.0 later.0 (heal_joins size body start) later.1 run.2,
+    )
+
+-- the external one was
+pub heal_cut_external : (size : ℕ) (body : List ℕ) (a b c : Told) → length body ≡ size → room size ≤ size_of Internal a.sizes → ForSome a.flashes (AreSized a.sizes) → Runs (MendsTwin a Internal size body) a b
+    → ForSome a.flashes (λ start. Runs (AreMends size Internal body start.internal.content) a b) → ForSome b.flashes (λ mid. Runs (IsUpTo (AreMends size External body mid.external.content)) b c)
+    → ForSome a.flashes (λ start. Runs (IsUpTo (IsHeal size body start)) a c)
+heal_cut_external size body a b c long fits sized run first second start told =
+    let one = first start told in
+    let mid = after one.0 start in
+    let later = told_after one.0 a b start one.1 told in
+    let two = second mid later in
+    let same = external_same size body long a b fits sized run start mid told later in
+    let from = subst (λ (f : Flash). IsUpTo (AreMends size External body f.content) two.0) same two.2 in (
+      one.0 ++ two.0,
+      does-append one.0 two.0 a b c one.1 two.1,
+      up_to_later (AreMends size Internal body start.internal.content) (AreMends size External body start.external.content) (IsHeal size body start) one.0 two.0 (heal_joins size body start) one.2 from,
     )

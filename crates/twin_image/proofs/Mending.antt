@@ -1,5 +1,8 @@
 -- A slot that is mended.
-use Rattle.std.proofs.Common.{◌≡◌, ◌≢◌, ℕ, ◌+◌, ◌<◌, ◌≤◌, ◌⊎◌, inl, inr, Some, List, [], length, get_or, sym, subst, ◌∙◌, arith, cond, eqb, refl, ap, ◌++◌}
+use Rattle.std.proofs.Common.{◌≡◌, ◌≢◌, ℕ, ◌+◌, ◌<◌, ◌≤◌, ◌⊎◌, inl, inr, Bool, true, false, true≢false, Some, List, [], length, get_or, sym, subst, ◌∙◌, arith, cond, eqb, refl, ap, ◌++◌}
+use Rattle.std.proofs.lemmas.Bool.{cases_eq}
+use Rattle.std.proofs.lemmas.Slice.Eq.{bytes_eq-Decides}
+use Rattle.std.specs.Str.{bytes_eq}
 use Rattle.std.specs.Option.{ForSome}
 use Rattle.urna_outside.specs.Flash.{Flash, Flashes, flash_of, after, IsClean, IsImage, Op}
 use Rattle.urna_outside.specs.Confined.{KeepsBut}
@@ -13,7 +16,9 @@ use Rattle.urna_outside.proofs.Keeping.{within_keeps}
 use Rattle.urna_outside.proofs.Places.{same_part}
 use Rattle.urna_outside.proofs.Stops.{stops_none}
 use Rattle.urna_outside.proofs.Stages.{left_image, stage_weaker, stage_stronger, stages-append}
+use Rattle.gate_slot.specs.Front.{IsFrontOf, IsUpTo}
 use Rattle.gate_slot.specs.Slot.{room, gate_offset, body_offset, gate_in, body_in, shut_ops, fill_ops, publish_ops}
+use Rattle.gate_slot.proofs.Fronts.{up_to_as, up_to_first, up_to_later, up_to_none}
 use Rattle.gate_slot.proofs.Written.{body_fits}
 use Rattle.twin_image.specs.Heal.{MendsTo, Mends, MendsBoth, MendsTwin, IsMend, AreMends}
 use Rattle.twin_image.specs.Twin.{IsOfSlot, IsOfTwin, IsLive, turning_ops}
@@ -191,4 +196,74 @@ mends_both d size body a b c fits sized long run first second start told =
         second_is = mend_from size d 1 body (flash_of d start).content (flash_of d mid).content two.0 same two.2;
         in_row = refl;
       },
+    )
+
+-- ---- up to a fault
+
+pub cases_bytes : (xs ys : List ℕ) → (xs ≡ ys) ⊎ (xs ≢ ys)
+cases_bytes xs ys = go (bytes_eq xs ys) refl
+  where
+    go : (b : Bool) → bytes_eq xs ys ≡ b → (xs ≡ ys) ⊎ (xs ≢ ys)
+    go true same = inl ((bytes_eq-Decides xs ys).0 same)
+    go false differ = inr (λ is. true≢false (sym ((bytes_eq-Decides xs ys).1 is) ∙ differ))
+
+-- what mending a slot does over some content
+mend_is : (size : ℕ) (d : Dev) (index : ℕ) (body content : List ℕ) → (ops : List Op) × IsMend size d index body content ops
+mend_is size d index body content = elim (cases_eq (gate_in size index content) 0xA5) [
+  | inl gate ↦ elim (cases_bytes (body_in size index content) body) [
+    | inl has ↦ ([], inl (gate, has, refl))
+    | inr differs ↦ (turning_ops size d index body content, inr ((λ gate_is. differs), refl))
+  ]
+  | inr shut ↦ (turning_ops size d index body content, inr ((λ gate_is. absurd (shut gate_is)), refl))
+]
+
+mends_join : (size : ℕ) (d : Dev) (body content : List ℕ) (xs ys : List Op) → IsMend size d 0 body content xs → IsMend size d 1 body content ys → AreMends size d body content (xs ++ ys)
+mends_join size d body content xs ys first second =
+    record { first = xs; second = ys; first_is = first; second_is = second; in_row = refl }
+
+-- what mending both slots of a device does
+pub mends_are : (size : ℕ) (d : Dev) (body content : List ℕ) → (ops : List Op) × AreMends size d body content ops
+mends_are size d body content =
+    let first = mend_is size d 0 body content in
+    let second = mend_is size d 1 body content in
+    (first.0 ++ second.0, mends_join size d body content first.0 second.0 first.1 second.1)
+
+-- the read of a slot failed
+pub mend_unread : (d : Dev) (size index : ℕ) (body : List ℕ) (a b : Told) → Does [] a b → OnFlash d (λ f. Runs (IsUpTo (IsMend size d index body f.content)) a b) a
+mend_unread d size index body a b nothing start told =
+    let whole = mend_is size d index body (flash_of d start).content in
+    ([], nothing, up_to_none (IsMend size d index body (flash_of d start).content) whole.0 whole.1)
+
+-- its turn was cut off
+pub mend_torn : (d : Dev) (size index : ℕ) (body : List ℕ) (a b c : Told) → OnFlash d (λ f. gate_in size index f.content ≡ 0xA5 → body_in size index f.content ≢ body) a → Does [] a b
+    → OnFlash d (λ f. Runs (IsFrontOf (turning_ops size d index body f.content)) b c) b → OnFlash d (λ f. Runs (IsUpTo (IsMend size d index body f.content)) a c) a
+mend_torn d size index body a b c other nothing torn start told =
+    let run = torn start (told_after [] a b start nothing told) in
+    (run.0, does-append [] run.0 a b c nothing run.1, inr (turning_ops size d index body (flash_of d start).content, inr (other start told, refl), run.2))
+
+-- slot 0 was cut off
+pub mends_cut_first : (d : Dev) (size : ℕ) (body : List ℕ) (a b : Told) → OnFlash d (λ f. Runs (IsUpTo (IsMend size d 0 body f.content)) a b) a → OnFlash d (λ f. Runs (IsUpTo (AreMends size d body f.content)) a b) a
+mends_cut_first d size body a b first start told =
+    let content = (flash_of d start).content in
+    let run = first start told in
+    let later = mend_is size d 1 body content in (
+      run.0,
+      run.1,
+      up_to_first (IsMend size d 0 body content) (IsMend size d 1 body content) (AreMends size d body content) run.0 later.0 (mends_join size d body content) later.1 run.2,
+    )
+
+-- slot 1 was
+pub mends_cut_second : (d : Dev) (size : ℕ) (body : List ℕ) (a b c : Told) → room size ≤ size_of d a.sizes → ForSome a.flashes (AreSized a.sizes) → length body ≡ size → Runs (Mends a d size 0 body) a b
+    → OnFlash d (λ f. Runs (IsMend size d 0 body f.content) a b) a → OnFlash d (λ f. Runs (IsUpTo (IsMend size d 1 body f.content)) b c) b → OnFlash d (λ f. Runs (IsUpTo (AreMends size d body f.content)) a c) a
+mends_cut_second d size body a b c fits sized long run first second start told =
+    let content = (flash_of d start).content in
+    let one = first start told in
+    let mid = after one.0 start in
+    let later = told_after one.0 a b start one.1 told in
+    let two = second mid later in
+    let same = second_same d size body long a b fits sized run start mid told later in
+    let from = up_to_as (IsMend size d 1 body (flash_of d mid).content) (IsMend size d 1 body content) two.0 (λ ops is. mend_from size d 1 body content (flash_of d mid).content ops same is) two.2 in (
+      one.0 ++ two.0,
+      does-append one.0 two.0 a b c one.1 two.1,
+      up_to_later (IsMend size d 0 body content) (IsMend size d 1 body content) (AreMends size d body content) one.0 two.0 (mends_join size d body content) one.2 from,
     )

@@ -17,12 +17,13 @@ pub struct Found<const SIZE: usize> {
 }
 
 impl<const SIZE: usize> Found<SIZE> {
-    ghost use Rattle.std.specs.Prelude.{[], IfOk, OnOk};
+    ghost use Rattle.std.specs.Prelude.{[], IfOk, OnErr, OnOk};
     ghost use Rattle.std.specs.Option.{ForSome};
     ghost use Rattle.urna_outside.specs.Faults.{FailsAt};
     ghost use Rattle.urna_outside.specs.Flash.{flash_of};
     ghost use Rattle.urna_outside.specs.Told.{Does, Runs, port_of};
     ghost use Rattle.urna_outside.specs.declared.device.Dev.{Dev};
+    ghost use Rattle.gate_slot.specs.Front.{IsUpTo};
     ghost use Rattle.twin_image.specs.Found.{found_body};
     ghost use Rattle.twin_image.specs.Heal.{Heals, IsHeal};
     ghost use Rattle.twin_image.specs.Level.{body_of, Stands};
@@ -63,6 +64,9 @@ impl<const SIZE: usize> Found<SIZE> {
         ensures ran { Runs (Heals (M.told m.old) SIZE (found_body self.entry)) (M.told m.old) (M.told m.new) }
         ensures exact { OnOk result (ForSome (M.told m.old).flashes
             (λ start. Runs (IsHeal SIZE (found_body self.entry) start) (M.told m.old) (M.told m.new))) }
+        // Up to a fault it is a front of the same that was done, or all of it, where a read behind the last write failed.
+        ensures cut { OnErr result (ForSome (M.told m.old).flashes
+            (λ start. Runs (IsUpTo (IsHeal SIZE (found_body self.entry) start)) (M.told m.old) (M.told m.new))) }
         // Where all four slots are live with the body already, nothing is done.
         ensures idle { ForSome (M.told m.old).flashes
             (λ start. ((d : Dev) → IsTwin SIZE (found_body self.entry) (flash_of d start))

@@ -1,9 +1,10 @@
 //! Slots are brought to the body that is held.
-ghost use Rattle.std.specs.Prelude.{◌≡◌, [], ◌<◌, ◌≤◌, length, IfOk, IfErr, OnOk};
+ghost use Rattle.std.specs.Prelude.{◌≡◌, [], ◌<◌, ◌≤◌, length, IfOk, IfErr, OnErr, OnOk};
 ghost use Rattle.urna_outside.specs.Flash.{IsClean};
 ghost use Rattle.urna_outside.specs.Faults.{FailsAt};
 ghost use Rattle.urna_outside.specs.Told.{Does, Runs, port_of, size_of};
 ghost use Rattle.gate_slot.specs.Device.{OnFlash};
+ghost use Rattle.gate_slot.specs.Front.{IsUpTo};
 ghost use Rattle.gate_slot.specs.Slot.{room};
 ghost use Rattle.gate_slot.specs.Token.{slot_of_live};
 ghost use Rattle.twin_image.specs.Heal.{AreMends, IsMend, Mends, MendsTwin};
@@ -35,6 +36,10 @@ fn mend<M: Machine, const SIZE: usize>(
     ensures ran { Runs (Mends (M.told m.old) slot.entry.dev SIZE slot.entry.index body.now) (M.told m.old) (M.told m.new) }
     ensures exact { OnOk result (OnFlash slot.entry.dev
         (λ flash. Runs (IsMend SIZE slot.entry.dev slot.entry.index body.now flash.content)
+        (M.told m.old) (M.told m.new))
+        (M.told m.old)) }
+    ensures cut { OnErr result (OnFlash slot.entry.dev
+        (λ flash. Runs (IsUpTo (IsMend SIZE slot.entry.dev slot.entry.index body.now flash.content))
         (M.told m.old) (M.told m.new))
         (M.told m.old)) }
     ensures idle { OnFlash slot.entry.dev
@@ -71,6 +76,8 @@ pub(crate) fn mend_twin<M: Machine, const SIZE: usize>(
     ensures ran { Runs (MendsTwin (M.told m.old) dev SIZE body.now) (M.told m.old) (M.told m.new) }
     ensures exact { OnOk result (OnFlash dev
         (λ flash. Runs (AreMends SIZE dev body.now flash.content) (M.told m.old) (M.told m.new)) (M.told m.old)) }
+    ensures cut { OnErr result (OnFlash dev
+        (λ flash. Runs (IsUpTo (AreMends SIZE dev body.now flash.content)) (M.told m.old) (M.told m.new)) (M.told m.old)) }
     ensures idle { OnFlash dev
         (λ flash. IsTwin SIZE body.now flash → Does [] (M.told m.old) (M.told m.new)) (M.told m.old) }
     ensures fails { FailsAt port_of result (M.told m.old) (M.told m.new) }

@@ -1,4 +1,4 @@
-use Rattle.twin_image.proofs.Mending.{nothing_mends, mends_more, mend_turned}
+use Rattle.twin_image.proofs.Mending.{nothing_mends, mends_more, mend_torn, mend_turned, mend_unread}
 use Rattle.twin_image.proofs.mend.mend.Goals as goal
 
 pub returns-in-Ok-Some-clause-ran : goal.returns-in-Ok-Some-clause-ran
@@ -17,3 +17,11 @@ pub returns-in-Ok-clause-exact : goal.returns-in-Ok-clause-exact
 returns-in-Ok-clause-exact g c =
     let other = rw c.in-Ok-None.field-0-is at c.in-Ok-None.ensures.other in
     mend_turned c.args.slot.dev g.row.SIZE c.args.slot.index c.args.body.now _ _ _ other c.adopt.ensures.done c.in-Ok.ensures.exact
+
+pub returns-in-Err-clause-cut : goal.returns-in-Err-clause-cut
+returns-in-Err-clause-cut g c = mend_unread c.args.slot.dev g.row.SIZE c.args.slot.index c.args.body.now _ _ c.adopt.ensures.done
+
+pub returns-in-Err-turn-clause-cut : goal.returns-in-Err-turn-clause-cut
+returns-in-Err-turn-clause-cut g c =
+    let other = rw c.in-Ok-None.field-0-is at c.in-Ok-None.ensures.other in
+    mend_torn c.args.slot.dev g.row.SIZE c.args.slot.index c.args.body.now _ _ _ other c.adopt.ensures.done c.in-Err-turn.ensures.cut

@@ -2,7 +2,7 @@ use Rattle.std.proofs.Common.{◌≤◌, sym, subst, arith, rules}
 use Rattle.urna_outside.specs.Told.{Sizes, size_of}
 use Rattle.urna_outside.proofs.Faults.{ends_later}
 use Rattle.gate_slot.specs.Slot.{room}
-use Rattle.twin_image.proofs.Mending.{first_mends, mended_first, mended_twin, mends_both}
+use Rattle.twin_image.proofs.Mending.{first_mends, mended_first, mended_twin, mends_both, mends_cut_first, mends_cut_second}
 use Rattle.twin_image.proofs.Renewing.{other_live}
 use Rattle.twin_image.proofs.mend.mend_twin.Goals as goal
 
@@ -36,3 +36,12 @@ returns-clause-ran g c =
 pub returns-clause-exact : goal.returns-clause-exact
 returns-clause-exact g c =
     mends_both c.args.dev g.row.SIZE c.args.body.now _ _ _ c.requires.room (g.met.M.Machine.sized c.args.m.now) c.requires.body c.mend.ensures.ran c.in_ok-first.ensures.exact c.in_ok-second.ensures.exact
+
+pub returns-in_err-first-clause-cut : goal.returns-in_err-first-clause-cut
+returns-in_err-first-clause-cut g c =
+    let cut = mends_cut_first c.args.dev g.row.SIZE c.args.body.now _ _ c.in_err-first.ensures.cut in search rules
+
+pub returns-in_err-second-clause-cut : goal.returns-in_err-second-clause-cut
+returns-in_err-second-clause-cut g c =
+    let cut = mends_cut_second c.args.dev g.row.SIZE c.args.body.now _ _ _ c.requires.room (g.met.M.Machine.sized c.args.m.now) c.requires.body c.mend.ensures.ran c.in_ok-first.ensures.exact c.in_err-second.ensures.cut in
+    search rules

@@ -8,7 +8,7 @@ use Rattle.twin_image.specs.Level.{IsLevel}
 use Rattle.twin_image.specs.Slots.{HaveRoom}
 use Rattle.twin_image.specs.Twin.{IsTwin}
 use Rattle.twin_image.proofs.Committing.{level_of, other_kept}
-use Rattle.twin_image.proofs.Healing.{healed_internal, healed, both_idle, heals_all}
+use Rattle.twin_image.proofs.Healing.{healed_internal, healed, both_idle, heals_all, heal_cut_external, heal_cut_internal}
 use Rattle.twin_image.proofs.Renewing.{twin_bounded}
 use Rattle.twin_image.proofs.found.Found.heal.Goals as goal
 
@@ -93,3 +93,18 @@ returns-clause-exact g c =
     let first = rw c.deref.ensures.value at c.in_ok-internal.ensures.exact in
     let second = rw c.deref-2.ensures.value at c.in_ok-external.ensures.exact in
     heals_all g.row.SIZE body _ _ _ c.args.self.whole (c.requires.room Internal) (g.met.M.Machine.sized c.args.m.now) run first second
+
+pub returns-in_err-internal-clause-cut : goal.returns-in_err-internal-clause-cut
+returns-in_err-internal-clause-cut g c =
+    let first = rw c.deref.ensures.value at c.in_err-internal.ensures.cut in
+    let cut = heal_cut_internal g.row.SIZE c.args.self.body.items _ _ first in
+    search rules
+
+pub returns-in_err-external-clause-cut : goal.returns-in_err-external-clause-cut
+returns-in_err-external-clause-cut g c =
+    let body = c.args.self.body.items in
+    let run = rw c.deref.ensures.value at c.mend_twin.ensures.ran in
+    let first = rw c.deref.ensures.value at c.in_ok-internal.ensures.exact in
+    let second = rw c.deref-2.ensures.value at c.in_err-external.ensures.cut in
+    let cut = heal_cut_external g.row.SIZE body _ _ _ c.args.self.whole (c.requires.room Internal) (g.met.M.Machine.sized c.args.m.now) run first second in
+    search rules
