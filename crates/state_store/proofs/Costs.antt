@@ -1,16 +1,19 @@
 -- What pieces in order cost
 use Rattle.std.proofs.Common.{◌≡◌, ◌⊎◌, ◌≤◌, ◌*◌, ◌+◌, ℕ, inl, inr, List, [], ◌∷◌, ◌++◌, length, Option, Some, None, IsSome, unwrap_or, refl, sym, ap, ◌∙◌, arith}
+use Rattle.std.proofs.lemmas.List.{append-nil}
 use Rattle.std.specs.Option.{option_to_list}
 use Rattle.urna_outside.specs.Confined.{count_syncs}
 use Rattle.urna_outside.specs.Flash.{Op, Show}
-use Rattle.urna_outside.specs.Told.{IsTornShow}
+use Rattle.urna_outside.specs.Told.{IsTornShow, Told}
+use Rattle.urna_outside.specs.declared.device.Port.{Port}
+use Rattle.urna_outside.specs.declared.device.Port.TheVariants as port
 use Rattle.urna_outside.proofs.Runs.{syncs-append}
 use Rattle.election_tables.specs.TablesData.{TablesData}
 use Rattle.gate_slot.specs.Page.{put_bytes}
 use Rattle.gate_slot.proofs.Paging.{bytes-append}
 use Rattle.image_codec.specs.State.{State}
 use Rattle.state_store.specs.Cost.{bytes_along}
-use Rattle.state_store.specs.Played.{AreInOrder, AreInOrderTo, shows_in}
+use Rattle.state_store.specs.Played.{AreInOrder, AreInOrderTo, IsCutCommit, IsCutPiece, shows_in}
 use Rattle.state_store.specs.Pieces.{Piece, commits_in}
 
 -- at most so many syncs for so many states, and nothing but shows where there is none
@@ -37,25 +40,36 @@ along-append : (t : TablesData) (o : Option State) (s : State) (states : List St
 along-append t None s states = omega arith
 along-append t (Some u) s states = omega arith
 
-module _ (t : TablesData) (trail : Option (List Op)) where
-  in_order_cost : (s : State) (pieces : List Piece) (ops : List Op) → AreInOrder t trail s pieces ops → Cost (commits_in pieces) ops
+module _ (t : TablesData) (told : Told) where
+  in_order_cost : (s : State) (pieces : List Piece) (ops : List Op) → AreInOrder t told s pieces ops → Cost (commits_in pieces) ops
   in_order_cost s [] ops nothing = (let none = ap count_syncs nothing in omega arith, λ e. nothing ∙ sym (ap shows_in nothing))
   in_order_cost s (piece ∷ pieces) ops (commit, rest, of, is, more) =
       let later = in_order_cost (unwrap_or piece.commit s) pieces rest more in
       let cost = piece_cost piece.commit (commits_in pieces) commit (Show piece.line ∷ rest) of.syncs of.none (later.0, λ e. ap (λ (r : List Op). Show piece.line ∷ r) (later.1 e)) in
       (let same = ap count_syncs is in omega (arith, cost.0), λ e. is ∙ cost.1 e ∙ sym (ap shows_in is))
 
-  in_order_to_cost : (s : State) (pieces : List Piece) (ops : List Op) → AreInOrderTo t trail s pieces ops → Cost (commits_in pieces) ops
-  in_order_to_cost s [] ops none = absurd none
-  in_order_to_cost s (piece ∷ pieces) ops (commit, rest, of, is, inl torn) =
-      let cut = torn_cost piece.line rest torn in
-      let cost = piece_cost piece.commit (commits_in pieces) commit rest of.syncs of.none (omega (arith, cut.0), λ e. cut.1) in
-      (let same = ap count_syncs is in omega (arith, cost.0), λ e. is ∙ cost.1 e ∙ sym (ap shows_in is))
-  in_order_to_cost s (piece ∷ pieces) ops (commit, rest, of, is, inr (further, behind, more)) =
-      let later = in_order_to_cost (unwrap_or piece.commit s) pieces further more in
-      let shown : Cost (commits_in pieces) rest =
-      (let same = ap count_syncs behind in omega (arith, later.0), λ e. behind ∙ ap (λ (r : List Op). Show piece.line ∷ r) (later.1 e) ∙ sym (ap shows_in behind)) in
-      let cost = piece_cost piece.commit (commits_in pieces) commit rest of.syncs of.none shown in
+  -- a piece in which a flash failed
+  cut_commit_cost : (s : State) (piece : Piece) (pieces : List Piece) (ops : List Op) → IsCutCommit t told s piece ops → Cost (commits_in (piece ∷ pieces)) ops
+  cut_commit_cost s piece pieces ops cut = go piece.commit cut.some
+    where
+      go : (o : Option State) → IsSome o → Cost (option_to_list o ++ commits_in pieces) ops
+      go None some = absurd (cc)
+      go (Some u) some = (omega (arith, cut.syncs), λ e. absurd (cc))
+
+  cut_cost : (at : Port) (s : State) (piece : Piece) (pieces : List Piece) (ops : List Op) → IsCutPiece t told at s piece ops → Cost (commits_in (piece ∷ pieces)) ops
+  cut_cost port.Internal s piece pieces ops cut = cut_commit_cost s piece pieces ops cut
+  cut_cost port.External s piece pieces ops cut = cut_commit_cost s piece pieces ops cut
+  cut_cost port.Display s piece pieces ops cut =
+      let line = torn_cost piece.line cut.torn cut.line in
+      let cost = piece_cost piece.commit (commits_in pieces) cut.commit cut.torn cut.before.syncs cut.before.none (omega (arith, line.0), λ e. line.1) in
+      (let same = ap count_syncs cut.in_row in omega (arith, cost.0), λ e. cut.in_row ∙ cost.1 e ∙ sym (ap shows_in cut.in_row))
+
+  in_order_to_cost : (at : Port) (s : State) (pieces : List Piece) (ops : List Op) → AreInOrderTo t told at s pieces ops → Cost (commits_in pieces) ops
+  in_order_to_cost at s [] ops none = absurd none
+  in_order_to_cost at s (piece ∷ pieces) ops (inl cut) = cut_cost at s piece pieces ops cut
+  in_order_to_cost at s (piece ∷ pieces) ops (inr (commit, rest, of, is, more)) =
+      let later = in_order_to_cost at (unwrap_or piece.commit s) pieces rest more in
+      let cost = piece_cost piece.commit (commits_in pieces) commit (Show piece.line ∷ rest) of.syncs of.none (later.0, λ e. ap (λ (r : List Op). Show piece.line ∷ r) (later.1 e)) in
       (let same = ap count_syncs is in omega (arith, cost.0), λ e. is ∙ cost.1 e ∙ sym (ap shows_in is))
 
   -- the bytes of a piece's commit, and of what is behind it
@@ -66,24 +80,28 @@ module _ (t : TablesData) (trail : Option (List Op)) where
       let same = ap put_bytes is in
       omega (arith, same, few, later, bytes-append commit rest, along-append t piece.commit s (commits_in pieces))
 
-  in_order_bytes : (s : State) (pieces : List Piece) (ops : List Op) → IsSome trail → AreInOrder t trail s pieces ops → put_bytes ops ≤ bytes_along t s (commits_in pieces)
-  in_order_bytes s [] ops told nothing = let none = ap put_bytes nothing in omega (arith, none)
-  in_order_bytes s (piece ∷ pieces) ops told (commit, rest, of, is, more) =
-      piece_bytes s piece pieces commit (Show piece.line ∷ rest) ops is (of.bytes told) (in_order_bytes (unwrap_or piece.commit s) pieces rest told more)
+  in_order_bytes : (s : State) (pieces : List Piece) (ops : List Op) → IsSome told.trail → AreInOrder t told s pieces ops → put_bytes ops ≤ bytes_along t s (commits_in pieces)
+  in_order_bytes s [] ops traced nothing = let none = ap put_bytes nothing in omega (arith, none)
+  in_order_bytes s (piece ∷ pieces) ops traced (commit, rest, of, is, more) =
+      piece_bytes s piece pieces commit (Show piece.line ∷ rest) ops is (of.bytes traced) (in_order_bytes (unwrap_or piece.commit s) pieces rest traced more)
 
-  in_order_to_bytes : (s : State) (pieces : List Piece) (ops : List Op) → IsSome trail → AreInOrderTo t trail s pieces ops → put_bytes ops ≤ bytes_along t s (commits_in pieces)
-  in_order_to_bytes s [] ops told none = absurd none
-  in_order_to_bytes s (piece ∷ pieces) ops told (commit, rest, of, is, inl torn) =
-      piece_bytes s piece pieces commit rest ops is (of.bytes told) (let cut = torn_cost piece.line rest torn in omega (arith, cut.2))
-  in_order_to_bytes s (piece ∷ pieces) ops told (commit, rest, of, is, inr (further, behind, more)) =
-      let later = in_order_to_bytes (unwrap_or piece.commit s) pieces further told more in
-      piece_bytes s piece pieces commit rest ops is (of.bytes told) (let same = ap put_bytes behind in omega (arith, same, later))
+  cut_bytes : (at : Port) (s : State) (piece : Piece) (pieces : List Piece) (ops : List Op) → IsSome told.trail → IsCutPiece t told at s piece ops → put_bytes ops ≤ bytes_along t s (commits_in (piece ∷ pieces))
+  cut_bytes port.Internal s piece pieces ops traced cut = piece_bytes s piece pieces ops [] ops (sym (append-nil ops)) (cut.bytes traced) (omega arith)
+  cut_bytes port.External s piece pieces ops traced cut = piece_bytes s piece pieces ops [] ops (sym (append-nil ops)) (cut.bytes traced) (omega arith)
+  cut_bytes port.Display s piece pieces ops traced cut =
+      piece_bytes s piece pieces cut.commit cut.torn ops cut.in_row (cut.before.bytes traced) (let line = torn_cost piece.line cut.torn cut.line in omega (arith, line.2))
 
-pub costs_are_bounded : (t : TablesData) (trail : Option (List Op)) (s : State) (pieces : List Piece) (ops : List Op)
-    → AreInOrder t trail s pieces ops ⊎ AreInOrderTo t trail s pieces ops
-    → (count_syncs ops ≤ 12 * length (commits_in pieces)) × (IsSome trail → put_bytes ops ≤ bytes_along t s (commits_in pieces))
+  in_order_to_bytes : (at : Port) (s : State) (pieces : List Piece) (ops : List Op) → IsSome told.trail → AreInOrderTo t told at s pieces ops → put_bytes ops ≤ bytes_along t s (commits_in pieces)
+  in_order_to_bytes at s [] ops traced none = absurd none
+  in_order_to_bytes at s (piece ∷ pieces) ops traced (inl cut) = cut_bytes at s piece pieces ops traced cut
+  in_order_to_bytes at s (piece ∷ pieces) ops traced (inr (commit, rest, of, is, more)) =
+      piece_bytes s piece pieces commit (Show piece.line ∷ rest) ops is (of.bytes traced) (in_order_to_bytes at (unwrap_or piece.commit s) pieces rest traced more)
+
+pub costs_are_bounded : (t : TablesData) (told : Told) (at : Port) (s : State) (pieces : List Piece) (ops : List Op)
+    → AreInOrder t told s pieces ops ⊎ AreInOrderTo t told at s pieces ops
+    → (count_syncs ops ≤ 12 * length (commits_in pieces)) × (IsSome told.trail → put_bytes ops ≤ bytes_along t s (commits_in pieces))
     × (commits_in pieces ≡ [] → ops ≡ shows_in ops)
-costs_are_bounded t trail s pieces ops (inl all) =
-    let cost = in_order_cost t trail s pieces ops all in (cost.0, λ told. in_order_bytes t trail s pieces ops told all, cost.1)
-costs_are_bounded t trail s pieces ops (inr cut) =
-    let cost = in_order_to_cost t trail s pieces ops cut in (cost.0, λ told. in_order_to_bytes t trail s pieces ops told cut, cost.1)
+costs_are_bounded t told at s pieces ops (inl all) =
+    let cost = in_order_cost t told s pieces ops all in (cost.0, λ traced. in_order_bytes t told s pieces ops traced all, cost.1)
+costs_are_bounded t told at s pieces ops (inr cut) =
+    let cost = in_order_to_cost t told at s pieces ops cut in (cost.0, λ traced. in_order_to_bytes t told at s pieces ops traced cut, cost.1)

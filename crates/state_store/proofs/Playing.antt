@@ -1,7 +1,7 @@
 -- Pieces that are put out over a store, some after others.
 use Rattle.std.proofs.Common.{◌≡◌, inl, inr, ℕ, ◌+◌, ◌<◌, ◌≤◌, Option, Some, None, IsSome, List, [], ◌∷◌, ◌++◌, length, slice_get, unwrap_or, refl, sym, ap, subst, ◌∙◌, arith, append_assoc, length-append}
 use Rattle.std.proofs.lemmas.Bool.{cases_lt}
-use Rattle.std.proofs.lemmas.List.{append-nil}
+use Rattle.std.proofs.lemmas.Option.{same_Some}
 use Rattle.std.specs.List.{concat}
 use Rattle.std.specs.Option.{ForSome}
 use Rattle.urna_outside.specs.Faults.{EndsAt, IsFaultless}
@@ -20,6 +20,7 @@ use Rattle.urna_outside.proofs.Faults.{ends_later, faultless_none, faultless_tra
 use Rattle.urna_outside.proofs.Showing.{shows_keep}
 use Rattle.urna_outside.proofs.ShowingLines.{cut_front, shows_lines, cut_later, cut_longer, shows_of-append}
 use Rattle.urna_outside.proofs.Stops.{stops-append, stops-append_silent, stops_both}
+use Rattle.gate_slot.specs.Front.{IsFrontOfSome}
 use Rattle.twin_image.specs.Slots.{KeepsFrame}
 use Rattle.twin_image.specs.Rewrite.{PutsAtMost}
 use Rattle.twin_image.specs.Twin.{IsOfTwin}
@@ -30,12 +31,13 @@ use Rattle.image_codec.specs.Layout.{body_size}
 use Rattle.state_store.specs.Calls.{Commits, HoldEither, IsEither, KeepFrames, Recovers, both_synced}
 use Rattle.state_store.specs.Cost.{commit_bytes}
 use Rattle.state_store.specs.Held.{HeldAlone, HeldByBoth}
-use Rattle.state_store.specs.Played.{AreInOrder, AreInOrderTo, IsBeforeLine, Follows, HasPut, HasStopped, IsCutAt, IsSafe, IsStateOrNext, Plays, Survives, shows_in}
+use Rattle.state_store.specs.Played.{AreInOrder, AreInOrderTo, IsBeforeLine, IsCutCommit, IsCutPiece, Follows, HasPut, HasStopped, IsCutAt, IsSafe, IsStateOrNext, Plays, Survives, shows_in}
+use Rattle.state_store.specs.Order.{IsCommit}
 use Rattle.state_store.specs.Rest.{AreAtRest}
 use Rattle.state_store.specs.Pieces.{AreFull, Piece, commits_in, commits_reached, lines_in, quiet, state_after, telling, text_in}
 use Rattle.state_store.specs.declared.load.Load.{Load}
 use Rattle.state_store.proofs.Counting.{commits_in-quiet, contained_after, contained_before, lines_in-append, lines_in-quiet, only_state, reached-quiet, reached-telling, reached_after, reached_before, state_after-append, state_after-quiet, state_or_next_after, state_or_next_before, text_in-append, text_in-quiet}
-use Rattle.state_store.proofs.Putting.{still_traced, traced_bytes}
+use Rattle.state_store.proofs.Putting.{TellsToo, still_tells, traced_bytes, traced_over}
 use Rattle.state_store.proofs.Resting.{IsStored, frames_at_end, frames_same, frames_text, frames_trans, rest_holds}
 use Rattle.state_store.proofs.ShowStops.{front_of_text, session-append, session_shows, session_slots, shows_in-append, shows_in_shows, shows_in_silent, stops_of_shows, text_of_lines}
 
@@ -72,10 +74,10 @@ plays_quiet t load s lines start ops stored rest part =
           ));
     }
 
-module _ (t : TablesData) (trail : Option (List Op)) where
+module _ (t : TablesData) (told : Told) where
   -- pieces in order, and others behind them
-  order-append : (s : State) (xs ys : List Piece) (first second : List Op) → AreInOrder t trail s xs first → AreInOrder t trail (state_after s xs) ys second → AreInOrder t trail s (xs ++ ys) (first ++ second)
-  order-append s [] ys first second none after = subst (λ (l : List Op). AreInOrder t trail s ys (l ++ second)) (sym none) after
+  order-append : (s : State) (xs ys : List Piece) (first second : List Op) → AreInOrder t told s xs first → AreInOrder t told (state_after s xs) ys second → AreInOrder t told s (xs ++ ys) (first ++ second)
+  order-append s [] ys first second none after = subst (λ (l : List Op). AreInOrder t told s ys (l ++ second)) (sym none) after
   order-append s (x ∷ xs) ys first second (commit, rest, of, is, more) after = (
     commit,
     rest ++ second,
@@ -85,49 +87,75 @@ module _ (t : TablesData) (trail : Option (List Op)) where
   )
 
   -- a fault in the first pieces, and one in the pieces behind them
-  order_before : (s : State) (xs ys : List Piece) (ops : List Op) → AreInOrderTo t trail s xs ops → AreInOrderTo t trail s (xs ++ ys) ops
-  order_before s [] ys ops to = absurd to
-  order_before s (x ∷ xs) ys ops (commit, rest, of, is, inl torn) = (commit, rest, of, is, inl torn)
-  order_before s (x ∷ xs) ys ops (commit, rest, of, is, inr (more, split, next)) =
-      (commit, rest, of, is, inr (more, split, order_before (unwrap_or x.commit s) xs ys more next))
+  order_before : (at : Port) (s : State) (xs ys : List Piece) (ops : List Op) → AreInOrderTo t told at s xs ops → AreInOrderTo t told at s (xs ++ ys) ops
+  order_before at s [] ys ops to = absurd to
+  order_before at s (x ∷ xs) ys ops (inl cut) = inl cut
+  order_before at s (x ∷ xs) ys ops (inr (commit, rest, of, is, more)) =
+      inr (commit, rest, of, is, order_before at (unwrap_or x.commit s) xs ys rest more)
 
-  order_after : (s : State) (xs ys : List Piece) (first second : List Op) → AreInOrder t trail s xs first → AreInOrderTo t trail (state_after s xs) ys second → AreInOrderTo t trail s (xs ++ ys) (first ++ second)
-  order_after s [] ys first second none after = subst (λ (l : List Op). AreInOrderTo t trail s ys (l ++ second)) (sym none) after
-  order_after s (x ∷ xs) ys first second (commit, rest, of, is, more) after = (
-    commit,
-    Show x.line ∷ (rest ++ second),
-    of,
-    ap (λ (l : List Op). l ++ second) is ∙ append_assoc commit (Show x.line ∷ rest) second,
-    inr (rest ++ second, refl, order_after (unwrap_or x.commit s) xs ys rest second more after),
-  )
+  order_after : (at : Port) (s : State) (xs ys : List Piece) (first second : List Op) → AreInOrder t told s xs first → AreInOrderTo t told at (state_after s xs) ys second → AreInOrderTo t told at s (xs ++ ys) (first ++ second)
+  order_after at s [] ys first second none after = subst (λ (l : List Op). AreInOrderTo t told at s ys (l ++ second)) (sym none) after
+  order_after at s (x ∷ xs) ys first second (commit, rest, of, is, more) after =
+      inr (
+        commit,
+        rest ++ second,
+        of,
+        ap (λ (l : List Op). l ++ second) is ∙ append_assoc commit (Show x.line ∷ rest) second,
+        order_after at (unwrap_or x.commit s) xs ys rest second more after,
+      )
 
   -- a line that tells no state
-  commits_none : (s : State) (line : List ℕ) → IsBeforeLine t trail s (record { line = line; commit = None }) []
-  commits_none s line = record { silent = refl; syncs = omega arith; bytes = λ told. omega arith; none = λ none. refl }
+  commits_none : (s : State) (line : List ℕ) → IsBeforeLine t told s (record { line = line; commit = None }) []
+  commits_none s line =
+      record { silent = refl; syncs = omega arith; bytes = λ traced. omega arith; order = λ traced there u is. absurd (cc); none = λ none. refl }
 
-  order_quiet : (s : State) (lines : List (List ℕ)) → AreInOrder t trail s (quiet lines) (shows lines)
+  order_quiet : (s : State) (lines : List (List ℕ)) → AreInOrder t told s (quiet lines) (shows lines)
   order_quiet s [] = refl
   order_quiet s (line ∷ lines) = ([], shows lines, commits_none s line, refl, order_quiet s lines)
 
-  order_cut : (s : State) (lines : List (List ℕ)) (ops : List Op) → IsCutShort lines ops → AreInOrderTo t trail s (quiet lines) ops
+  order_cut : (s : State) (lines : List (List ℕ)) (ops : List Op) → IsCutShort lines ops → AreInOrderTo t told port.Display s (quiet lines) ops
   order_cut s [] ops cut = absurd cut
-  order_cut s (line ∷ lines) ops (inl torn) = ([], ops, commits_none s line, refl, inl torn)
-  order_cut s (line ∷ lines) ops (inr (rest, is, cut)) = ([], ops, commits_none s line, refl, inr (rest, is, order_cut s lines rest cut))
+  order_cut s (line ∷ lines) ops (inl torn) =
+      inl (record { commit = []; torn = ops; before = commits_none s line; line = torn; in_row = refl })
+  order_cut s (line ∷ lines) ops (inr (rest, is, cut)) = inr ([], rest, commits_none s line, is, order_cut s lines rest cut)
 
-  -- what is in order where another trail is told is so where this one is
-  before_told : (p : Option (List Op)) (s : State) (piece : Piece) (ops : List Op) → (IsSome trail → IsSome p) → IsBeforeLine t p s piece ops → IsBeforeLine t trail s piece ops
-  before_told p s piece ops too of = record { silent = of.silent; syncs = of.syncs; bytes = λ told. of.bytes (too told); none = of.none }
+  -- what is in order over what a machine tells later is so over what it told before
+  module _ (p : Told) (too : TellsToo told p) where
+    before_told : (s : State) (piece : Piece) (ops : List Op) → IsBeforeLine t p s piece ops → IsBeforeLine t told s piece ops
+    before_told s piece ops of =
+        record {
+          silent = of.silent;
+          syncs = of.syncs;
+          bytes = λ traced. of.bytes (too.trail traced);
+          order = λ traced there. of.order (too.trail traced) (too.flashes there);
+          none = of.none;
+        }
 
-  order_told : (p : Option (List Op)) (s : State) (pieces : List Piece) (ops : List Op) → (IsSome trail → IsSome p) → AreInOrder t p s pieces ops → AreInOrder t trail s pieces ops
-  order_told p s [] ops too nothing = nothing
-  order_told p s (x ∷ xs) ops too (commit, rest, of, is, more) =
-      (commit, rest, before_told p s x commit too of, is, order_told p (unwrap_or x.commit s) xs rest too more)
+    commit_told : (s : State) (piece : Piece) (ops : List Op) → IsCutCommit t p s piece ops → IsCutCommit t told s piece ops
+    commit_told s piece ops cut =
+        record {
+          some = cut.some;
+          silent = cut.silent;
+          syncs = cut.syncs;
+          bytes = λ traced. cut.bytes (too.trail traced);
+          order = λ traced there. cut.order (too.trail traced) (too.flashes there);
+        }
 
-  order_to_told : (p : Option (List Op)) (s : State) (pieces : List Piece) (ops : List Op) → (IsSome trail → IsSome p) → AreInOrderTo t p s pieces ops → AreInOrderTo t trail s pieces ops
-  order_to_told p s [] ops too none = absurd none
-  order_to_told p s (x ∷ xs) ops too (commit, rest, of, is, inl torn) = (commit, rest, before_told p s x commit too of, is, inl torn)
-  order_to_told p s (x ∷ xs) ops too (commit, rest, of, is, inr (more, split, next)) =
-      (commit, rest, before_told p s x commit too of, is, inr (more, split, order_to_told p (unwrap_or x.commit s) xs more too next))
+    cut_told : (at : Port) (s : State) (piece : Piece) (ops : List Op) → IsCutPiece t p at s piece ops → IsCutPiece t told at s piece ops
+    cut_told port.Internal s piece ops cut = commit_told s piece ops cut
+    cut_told port.External s piece ops cut = commit_told s piece ops cut
+    cut_told port.Display s piece ops cut =
+        record { commit = cut.commit; torn = cut.torn; before = before_told s piece cut.commit cut.before; line = cut.line; in_row = cut.in_row }
+
+    order_told : (s : State) (pieces : List Piece) (ops : List Op) → AreInOrder t p s pieces ops → AreInOrder t told s pieces ops
+    order_told s [] ops nothing = nothing
+    order_told s (x ∷ xs) ops (commit, rest, of, is, more) = (commit, rest, before_told s x commit of, is, order_told (unwrap_or x.commit s) xs rest more)
+
+    order_to_told : (at : Port) (s : State) (pieces : List Piece) (ops : List Op) → AreInOrderTo t p at s pieces ops → AreInOrderTo t told at s pieces ops
+    order_to_told at s [] ops none = absurd none
+    order_to_told at s (x ∷ xs) ops (inl cut) = inl (cut_told at s x ops cut)
+    order_to_told at s (x ∷ xs) ops (inr (commit, rest, of, is, more)) =
+        inr (commit, rest, before_told s x commit of, is, order_to_told at (unwrap_or x.commit s) xs rest more)
 
 -- no piece
 pub put_nothing : (t : TablesData) (load : Load) (s : State) (a : Told) → IsStored t load s → ForSome a.flashes (AreAtRest t load s) → HasPut t load s [] a a
@@ -152,7 +180,7 @@ put_shown t load s lines a b stored rest showed =
       does = showed.does;
       plays = plays_quiet t load s lines a.flashes (shows lines) stored rest (front_of_text (concat lines) (shows lines) text);
       shown = shows_in_shows (shows lines) text.shows ∙ ap shows (sym (lines_in-quiet lines));
-      order = order_quiet t a.trail s lines;
+      order = order_quiet t a s lines;
       rest = subst (λ (u : State). ForSome b.flashes (AreAtRest t load u)) (sym (state_after-quiet s lines)) (subst (λ (o : Option Flashes). ForSome o (AreAtRest t load s)) (sym kept) rest);
       fine = record { faults = showed.faults; calls = showed.calls };
     }
@@ -168,7 +196,7 @@ stopped_shown t load s lines a b stored rest off =
       plays = plays_quiet t load s lines a.flashes off.ops stored rest part;
       cut =
           subst (λ (l : List (List ℕ)). IsCutShort l (shows_in off.ops)) (sym (lines_in-quiet lines)) (subst (IsCutShort lines) (sym (shows_in_shows off.ops part.shows)) off.cut);
-      order = order_cut t a.trail s lines off.ops off.cut;
+      order = order_cut t a s lines off.ops off.cut;
       rest = λ display. (s, (0, omega arith, refl), subst (λ (o : Option Flashes). ForSome o (AreAtRest t load s)) (sym kept) rest);
       fault = record { faults = off.faults; calls = off.calls };
     }
@@ -241,24 +269,35 @@ module _ (t : TablesData) (load : Load) (s u : State) (line : List ℕ) where
             )));
       }
 
+  -- what is known of all that was done, of the one state that the piece tells
+  of_state : (P : State → List Op → Type 0) (a b : Told) (ops : List Op) → Does ops a b → ForSome a.flashes (λ start. Runs (P u) a b)
+      → IsSome a.trail → IsSome a.flashes → (v : State) → Some u ≡ Some v → P v ops
+  of_state P a b ops does order traced there v is =
+      subst (λ (w : State). P w ops) (same_Some u v is) (traced_over (P u) a b ops traced there does order)
+
   -- the commit of the state
-  commits_state : (a b : Told) → (run : Runs (Commits t load.section.voters s u a) a b) → Runs (PutsAtMost (commit_bytes t s u)) a b → IsBeforeLine t a.trail s (record { line = line; commit = Some u }) run.0
-  commits_state a b run few =
+  commits_state : (a b : Told) → (run : Runs (Commits t load.section.voters s u a) a b) → Runs (PutsAtMost (commit_bytes t s u)) a b → ForSome a.flashes (λ start. Runs (IsCommit t s u) a b)
+      → IsBeforeLine t a s (record { line = line; commit = Some u }) run.0
+  commits_state a b run few order =
       record {
         silent = shows_in_silent (λ d k. IsOfTwin body_size k) run.0 run.2.slots.within;
         syncs = run.2.slots.syncs;
         bytes = λ told. let most = traced_bytes (commit_bytes t s u) a b run.0 told run.1 few in omega (arith, most);
+        order = of_state (IsCommit t s) a b run.0 run.1 order;
         none = λ none. absurd (cc);
       }
 
   -- a fault in its line
-  order_in_line : (a b : Told) (ys : List Op) → (run : Runs (Commits t load.section.voters s u a) a b) → Runs (PutsAtMost (commit_bytes t s u)) a b → IsCutShort (line ∷ []) ys → AreInOrderTo t a.trail s (telling u line) (run.0 ++ ys)
-  order_in_line a b ys run few (inl torn) = (run.0, ys, commits_state a b run few, refl, inl torn)
-  order_in_line a b ys run few (inr (rest, is, cut)) = absurd cut
+  order_in_line : (a b : Told) (ys : List Op) → (run : Runs (Commits t load.section.voters s u a) a b) → Runs (PutsAtMost (commit_bytes t s u)) a b → ForSome a.flashes (λ start. Runs (IsCommit t s u) a b)
+      → IsCutShort (line ∷ []) ys → AreInOrderTo t a port.Display s (telling u line) (run.0 ++ ys)
+  order_in_line a b ys run few order (inl torn) =
+      inl (record { commit = run.0; torn = ys; before = commits_state a b run few order; line = torn; in_row = refl })
+  order_in_line a b ys run few order (inr (rest, is, cut)) = absurd cut
 
   -- the state was committed and its line shown
-  pub put_told : (a b c : Told) → IsStored t load u → Runs (Commits t load.section.voters s u a) a b → Runs (PutsAtMost (commit_bytes t s u)) a b → IsFaultless a b → ForSome b.flashes (AreAtRest t load u) → HasShown (line ∷ []) b c → HasPut t load s (telling u line) a c
-  put_told a b c stored run few fine rest showed =
+  pub put_told : (a b c : Told) → IsStored t load u → Runs (Commits t load.section.voters s u a) a b → Runs (PutsAtMost (commit_bytes t s u)) a b → ForSome a.flashes (λ start. Runs (IsCommit t s u) a b)
+      → IsFaultless a b → ForSome b.flashes (AreAtRest t load u) → HasShown (line ∷ []) b c → HasPut t load s (telling u line) a c
+  put_told a b c stored run few order fine rest showed =
       let text = shows_lines (line ∷ []) in
       let kept = shows_keep (Show line ∷ []) b c text.shows showed.does in
       record {
@@ -267,14 +306,15 @@ module _ (t : TablesData) (load : Load) (s u : State) (line : List ℕ) where
         plays = plays_told a b run.0 (Show line ∷ []) stored run.2 run.1 rest (front_of_text (line ++ []) (Show line ∷ []) text);
         shown =
             shows_in-append run.0 (Show line ∷ []) ∙ ap (λ (l : List Op). l ++ Show line ∷ []) (shows_in_silent (λ d k. IsOfTwin body_size k) run.0 run.2.slots.within);
-        order = (run.0, [], commits_state a b run few, refl, refl);
+        order = (run.0, [], commits_state a b run few order, refl, refl);
         rest = subst (λ (o : Option Flashes). ForSome o (AreAtRest t load u)) (sym kept) rest;
         fine = faultless_trans a b c fine (record { faults = showed.faults; calls = showed.calls });
       }
 
   -- the state was committed, and the display failed in its line
-  pub stopped_told : (a b c : Told) → IsStored t load u → Runs (Commits t load.section.voters s u a) a b → Runs (PutsAtMost (commit_bytes t s u)) a b → IsFaultless a b → ForSome b.flashes (AreAtRest t load u) → IsCutOff (line ∷ []) b c → HasStopped t load s (telling u line) port.Display a c
-  stopped_told a b c stored run few fine rest off =
+  pub stopped_told : (a b c : Told) → IsStored t load u → Runs (Commits t load.section.voters s u a) a b → Runs (PutsAtMost (commit_bytes t s u)) a b → ForSome a.flashes (λ start. Runs (IsCommit t s u) a b)
+      → IsFaultless a b → ForSome b.flashes (AreAtRest t load u) → IsCutOff (line ∷ []) b c → HasStopped t load s (telling u line) port.Display a c
+  stopped_told a b c stored run few order fine rest off =
       let part = cut_front (line ∷ []) off.ops off.cut in
       let kept = shows_keep off.ops b c part.shows off.does in
       let shown : shows_in (run.0 ++ off.ops) ≡ off.ops =
@@ -284,7 +324,7 @@ module _ (t : TablesData) (load : Load) (s u : State) (line : List ℕ) where
         does = does-append run.0 off.ops a b c run.1 off.does;
         plays = plays_told a b run.0 off.ops stored run.2 run.1 rest part;
         cut = subst (IsCutShort (line ∷ [])) (sym shown) off.cut;
-        order = order_in_line a b off.ops run few off.cut;
+        order = order_in_line a b off.ops run few order off.cut;
         rest = λ display. (u, (1, omega arith, refl), subst (λ (o : Option Flashes). ForSome o (AreAtRest t load u)) (sym kept) rest);
         fault = ends_later port.Display a b c fine (record { faults = off.faults; calls = off.calls });
       }
@@ -297,15 +337,32 @@ module _ (t : TablesData) (load : Load) (s u : State) (line : List ℕ) where
   no_display Internal same = cc
   no_display External same = cc
 
+  -- the front of a commit
+  cut_commit : (a b : Told) → (run : Runs (Commits t load.section.voters s u a) a b) → Runs (PutsAtMost (commit_bytes t s u)) a b → ForSome a.flashes (λ start. Runs (IsFrontOfSome (IsCommit t s u)) a b)
+      → IsCutCommit t a s (record { line = line; commit = Some u }) run.0
+  cut_commit a b run few order =
+      record {
+        some = refl;
+        silent = shows_in_silent (λ d k. IsOfTwin body_size k) run.0 run.2.slots.within;
+        syncs = run.2.slots.syncs;
+        bytes = λ told. let most = traced_bytes (commit_bytes t s u) a b run.0 told run.1 few in omega (arith, most);
+        order = of_state (λ v. IsFrontOfSome (IsCommit t s v)) a b run.0 run.1 order;
+      }
+
+  order_in_commit : (d : Dev) (a : Told) (ops : List Op) → IsCutCommit t a s (record { line = line; commit = Some u }) ops → AreInOrderTo t a (port_of d) s (telling u line) ops
+  order_in_commit Internal a ops cut = inl cut
+  order_in_commit External a ops cut = inl cut
+
   -- a flash failed in the commit
-  pub stopped_commit : (d : Dev) (a b : Told) → Runs (Commits t load.section.voters s u a) a b → Runs (PutsAtMost (commit_bytes t s u)) a b → EndsAt (port_of d) a b → HasStopped t load s (telling u line) (port_of d) a b
-  stopped_commit d a b run few fault =
+  pub stopped_commit : (d : Dev) (a b : Told) → Runs (Commits t load.section.voters s u a) a b → Runs (PutsAtMost (commit_bytes t s u)) a b → ForSome a.flashes (λ start. Runs (IsFrontOfSome (IsCommit t s u)) a b)
+      → EndsAt (port_of d) a b → HasStopped t load s (telling u line) (port_of d) a b
+  stopped_commit d a b run few order fault =
       record {
         ops = run.0;
         does = run.1;
         plays = plays_commit a run.0 run.2;
         cut = cut_in_commit d run.0 (shows_in_silent (λ x k. IsOfTwin body_size k) run.0 run.2.slots.within);
-        order = (run.0, [], commits_state a b run few, sym (append-nil run.0), inl (inl refl));
+        order = order_in_commit d a run.0 (cut_commit a b run few order);
         rest = λ display. absurd (no_display d display);
         fault = fault;
       }
@@ -385,8 +442,8 @@ put-append t load s xs ys a b c full first second =
       shown =
           shows_in-append first.ops second.ops ∙ ap (λ (l : List Op). l ++ shows_in second.ops) first.shown
           ∙ ap (λ (l : List Op). shows (lines_in xs) ++ l) second.shown ∙ sym (shows_of_pieces xs ys);
-      order = order-append t a.trail s xs ys first.ops second.ops first.order
-          (order_told t a.trail b.trail (state_after s xs) ys second.ops (λ traced. still_traced first.ops a b traced first.does) second.order);
+      order = order-append t a s xs ys first.ops second.ops first.order
+          (order_told t a b (still_tells first.ops a b first.does) (state_after s xs) ys second.ops second.order);
       rest = subst (λ (u : State). ForSome c.flashes (AreAtRest t load u)) (sym (state_after-append s xs ys)) second.rest;
       fine = faultless_trans a b c first.fine second.fine;
     }
@@ -430,7 +487,7 @@ stopped_before t load s xs ys p a b stopped =
       does = stopped.does;
       plays = plays_before t load s xs ys a.flashes stopped.ops stopped.plays;
       cut = cut_at_before p xs ys (shows_in stopped.ops) stopped.cut;
-      order = order_before t a.trail s xs ys stopped.ops stopped.order;
+      order = order_before t a p s xs ys stopped.ops stopped.order;
       rest = λ display. let kept = stopped.rest display in (kept.0, contained_before s kept.0 xs ys kept.1, kept.2);
       fault = stopped.fault;
     }
@@ -445,8 +502,8 @@ stopped_after t load s xs ys p a b c full first stopped =
       does = does-append first.ops stopped.ops a b c first.does stopped.does;
       plays = plays-append t load s xs ys a b first.ops stopped.ops full first.plays first.shown first.does stopped.plays;
       cut = subst (IsCutAt p (xs ++ ys)) (sym shown) (cut_at_after p xs ys (shows_in stopped.ops) stopped.cut);
-      order = order_after t a.trail s xs ys first.ops stopped.ops first.order
-          (order_to_told t a.trail b.trail (state_after s xs) ys stopped.ops (λ traced. still_traced first.ops a b traced first.does) stopped.order);
+      order = order_after t a p s xs ys first.ops stopped.ops first.order
+          (order_to_told t a b (still_tells first.ops a b first.does) p (state_after s xs) ys stopped.ops stopped.order);
       rest = λ display. let kept = stopped.rest display in (kept.0, contained_after s kept.0 xs ys kept.1, kept.2);
       fault = ends_later p a b c first.fine stopped.fault;
     }

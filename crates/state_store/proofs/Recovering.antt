@@ -3,7 +3,7 @@ use Rattle.std.proofs.Common.{◌≡◌, inl, inr, ℕ, Option, Some, None, ◌�
 use Rattle.std.specs.Option.{ForSome}
 use Rattle.urna_outside.specs.Faults.{EndsAt, IsFaultless}
 use Rattle.urna_outside.specs.Flash.{Op, Flashes, after}
-use Rattle.urna_outside.specs.Stop.{Left}
+use Rattle.urna_outside.specs.Stop.{AtEachStop, Left}
 use Rattle.urna_outside.specs.Told.{Told, Does, Runs, port_of}
 use Rattle.urna_outside.specs.declared.device.Dev.{Dev}
 use Rattle.urna_outside.specs.declared.device.Dev.TheVariants.{Internal, External}
@@ -14,11 +14,15 @@ use Rattle.urna_outside.specs.Told.{AreSized}
 use Rattle.urna_outside.proofs.Courses.{in-append, in_shows}
 use Rattle.urna_outside.proofs.Runs.{syncs-append}
 use Rattle.urna_outside.proofs.Stops.{stops-append_silent}
+use Rattle.gate_slot.specs.Front.{IsFrontOfSome, IsUpTo}
+use Rattle.gate_slot.proofs.Fronts.{up_to_as, up_to_first, up_to_later}
 use Rattle.twin_image.specs.Heal.{Heals, IsHeal}
 use Rattle.twin_image.specs.Level.{IsLevel}
 use Rattle.twin_image.specs.Held.{HoldsBody, held_on}
 use Rattle.twin_image.specs.Slots.{AreClean}
 use Rattle.twin_image.specs.Twin.{IsOfTwin}
+use Rattle.twin_image.proofs.Mending.{cases_bytes}
+use Rattle.twin_image.proofs.Ordering.{renewal_is, renewal_ops, renewals_join}
 use Rattle.election_tables.specs.Limits.{most_voters}
 use Rattle.election_tables.specs.Roll.{IsRoll, RollData}
 use Rattle.election_tables.specs.TablesData.{IsTables, TablesData}
@@ -38,6 +42,7 @@ use Rattle.state_store.specs.declared.store.StoreError.{StoreError}
 use Rattle.state_store.specs.declared.store.StoreError.TheVariants as store
 use Rattle.state_store.proofs.Changing.{framed_after, rests_after}
 use Rattle.state_store.proofs.Holding.{both_ranked, found_first, found_held}
+use Rattle.state_store.proofs.Putting.{traced}
 use Rattle.state_store.proofs.Resting.{frames_at_end, frames_trans}
 use Rattle.state_store.proofs.Standing.{AreFramed}
 use Rattle.state_store.proofs.Stored.{long_state}
@@ -115,32 +120,123 @@ module _ (t : TablesData) (r : RollData) (section : Section) (tables : IsTables 
       let told_b = told_after both_synced a b start synced told in
       record { loaded = loaded mid told_b; held = held_state mid.internal.content mid.external.content (held mid told_b) }
 
+  -- what the body's change to the encoding that is written today does
+  change_is : (ops : List Op) × IsBroughtUp t s body ops
+  change_is = elim (cases_bytes body (encode t s)) [
+    | inl same ↦ ([], inl (same, refl))
+    | inr differs ↦
+        let internal = renewal_ops body_size Internal body (encode t s) in
+        let external = renewal_ops body_size External body (encode t s) in
+        let all = renewals_join body_size body (encode t s) internal external (renewal_is body_size Internal body (encode t s)) (renewal_is body_size External body (encode t s)) in
+        (internal ++ external, inr (differs, all))
+  ]
+
+  -- the syncs change no content
+  over_start : (start : Flashes) (ops : List Op) → IsHeal body_size body (after both_synced start) ops → IsHeal body_size body start ops
+  over_start start ops heal =
+      record {
+        internal = heal.internal;
+        external = heal.external;
+        internal_is = heal.internal_is;
+        external_is = heal.external_is;
+        in_row = heal.in_row;
+      }
+
+  -- a heal and the change of the body, behind the syncs
+  abbrev Behind : Flashes → List Op → Type 0
+  Behind start ops = IsRecovery t (length r.titles) s start (both_synced ++ ops)
+
+  -- all that was done: syncs, heal, and the change of the body
+  module _ (a b c d : Told) (synced : Does both_synced a b) (done : Does [] b c) (held : ForSome b.flashes (HoldsBody (rank_in t (length r.titles)) body_size body)) where
+    recovery_joins : (start : Flashes) → a.flashes ≡ Some start → (xs ys : List Op) → IsHeal body_size body start xs → IsBroughtUp t s body ys → Behind start (xs ++ ys)
+    recovery_joins start told xs ys heals brings_up =
+        let mid = after both_synced start in
+        record {
+          body = body;
+          held = first_state mid.internal.content mid.external.content (held mid (told_after both_synced a b start synced told));
+          heal = xs;
+          heals = heals;
+          change = ys;
+          brings_up = brings_up;
+          in_row = refl;
+        }
+
+    behind_syncs : (start : Flashes) (ops : List Op) → IsUpTo (Behind start) ops → IsUpTo (IsRecovery t (length r.titles) s start) (both_synced ++ ops)
+    behind_syncs start ops behind =
+        up_to_later (λ xs. xs ≡ both_synced) (Behind start) (IsRecovery t (length r.titles) s start) both_synced ops
+        (λ xs ys first then. subst (λ (l : List Op). IsRecovery t (length r.titles) s start (l ++ ys)) (sym first) then) refl behind
+
+    -- the heal was cut off
+    cut_in_heal : ForSome c.flashes (λ start. Runs (IsUpTo (IsHeal body_size body start)) c d) → ForSome a.flashes (λ start. Runs (IsUpTo (IsRecovery t (length r.titles) s start)) a d)
+    cut_in_heal cut start told =
+        let mid = after both_synced start in
+        let healed = cut mid (told_after [] b c mid done (told_after both_synced a b start synced told)) in
+        let heals = up_to_as (IsHeal body_size body mid) (IsHeal body_size body start) healed.0 (over_start start) healed.2 in (
+          both_synced ++ healed.0,
+          does-append both_synced healed.0 a c d (does-append both_synced [] a b c synced done) healed.1,
+          behind_syncs start healed.0 (up_to_first (IsHeal body_size body start) (IsBroughtUp t s body) (Behind start) healed.0 change_is.0 (recovery_joins start told) change_is.1 heals),
+        )
+
+    module _ (e : Told) (heals : ForSome c.flashes (λ start. Runs (IsHeal body_size body start) c d)) where
+      -- what was done behind the syncs
+      healed_then : (P : List Op → Type 0) → ForSome d.flashes (λ start. Runs P d e) → (start : Flashes) → a.flashes ≡ Some start
+          → (heal : List Op) × (change : List Op) × Does (both_synced ++ (heal ++ change)) a e × IsHeal body_size body start heal × P change
+      healed_then P second start told =
+          let mid = after both_synced start in
+          let told_c = told_after [] b c mid done (told_after both_synced a b start synced told) in
+          let healed = heals mid told_c in
+          let changed = second (after healed.0 mid) (told_after healed.0 c d mid healed.1 told_c) in
+          let first = does-append both_synced healed.0 a c d (does-append both_synced [] a b c synced done) healed.1 in (
+            healed.0,
+            changed.0,
+            subst (λ (ops : List Op). Does ops a e) (append_assoc both_synced healed.0 changed.0) (does-append (both_synced ++ healed.0) changed.0 a d e first changed.1),
+            over_start start healed.0 healed.2,
+            changed.2,
+          )
+
+      -- all was done
+      pub recovered_exactly : ForSome d.flashes (λ start. Runs (IsBroughtUp t s body) d e) → ForSome a.flashes (λ start. Runs (IsRecovery t (length r.titles) s start) a e)
+      recovered_exactly second start told =
+          let all = healed_then (IsBroughtUp t s body) second start told in
+          (both_synced ++ (all.0 ++ all.1), all.2, recovery_joins start told all.0 all.1 all.3 all.4)
+
+      -- or the change of the body was cut off
+      cut_in_change : ForSome d.flashes (λ start. Runs (IsUpTo (IsBroughtUp t s body)) d e) → ForSome a.flashes (λ start. Runs (IsUpTo (IsRecovery t (length r.titles) s start)) a e)
+      cut_in_change second start told =
+          let all = healed_then (IsUpTo (IsBroughtUp t s body)) second start told in (
+            both_synced ++ (all.0 ++ all.1),
+            all.2,
+            behind_syncs start (all.0 ++ all.1) (up_to_later (IsHeal body_size body start) (IsBroughtUp t s body) (Behind start) all.0 all.1 (recovery_joins start told) all.3 all.4),
+          )
+
   module _ (a b c d : Told) (synced : Does both_synced a b) (done : Does [] b c)
       (loaded : ForSome b.flashes (λ fs. AreLoaded t r section fs.internal.content fs.external.content))
       (held : ForSome b.flashes (HoldsBody (rank_in t (length r.titles)) body_size body))
       (run : Runs (Heals c body_size body) c d) where
     -- behind the syncs the state that was found is kept
-    pub recovers : Recovers t r section s a run.0
-    recovers =
-        record {
-          slots = record { within = run.2.within; syncs = omega (arith, run.2.syncs) };
-          stops = λ start told.
-              let mid = after both_synced start in
-              let told_b = told_after both_synced a b start synced told in
-              let told_c = told_after [] b c mid done told_b in (
-                record { loaded = loaded mid told_b; held = held_state mid.internal.content mid.external.content (held mid told_b) },
-                λ done stop left is. (
-                  held_state left.internal left.external ((run.2.stops mid told_c done stop left is).both (rank_in t (length r.titles)) (held mid told_b)),
-                  frames_before start left (run.2.frames mid told_c done stop left is),
-                ),
-              );
-        }
+    recovers_stops : ForSome a.flashes (λ start. AreFound t r section s start
+        × AtEachStop (after both_synced start) run.0 (λ left. HeldByBoth t (length r.titles) left.internal left.external s × KeepFrames start left))
+    recovers_stops start told =
+        let mid = after both_synced start in
+        let told_b = told_after both_synced a b start synced told in
+        let told_c = told_after [] b c mid done told_b in (
+          record { loaded = loaded mid told_b; held = held_state mid.internal.content mid.external.content (held mid told_b) },
+          λ done stop left is. (
+            held_state left.internal left.external ((run.2.stops mid told_c done stop left is).both (rank_in t (length r.titles)) (held mid told_b)),
+            frames_before start left (run.2.frames mid told_c done stop left is),
+          ),
+        )
 
-    pub does_all : Does (both_synced ++ run.0) a d
+    does_all : Does (both_synced ++ run.0) a d
     does_all = does-append both_synced run.0 a c d (does-append both_synced [] a b c synced done) run.1
 
     -- and it is kept while the body becomes the encoding that is written today
-    module _ (e : Told) (second : Runs (BringsUp t (length r.titles) s d) d e) where
+    module _ (e : Told) (second : Runs (BringsUp t (length r.titles) s d) d e) (heals : ForSome c.flashes (λ start. Runs (IsHeal body_size body start) c d))
+        (change : ForSome d.flashes (λ start. Runs (IsUpTo (IsBroughtUp t s body)) d e)) where
+      does_both : Does (both_synced ++ (run.0 ++ second.0)) a e
+      does_both =
+          subst (λ (ops : List Op). Does ops a e) (append_assoc both_synced run.0 second.0) (does-append (both_synced ++ run.0) second.0 a d e does_all second.1)
+
       recovers_on : Recovers t r section s a (run.0 ++ second.0)
       recovers_on =
           record {
@@ -153,7 +249,7 @@ module _ (t : TablesData) (r : RollData) (section : Section) (tables : IsTables 
                 let told_b = told_after both_synced a b start synced told in
                 let told_c = told_after [] b c mid done told_b in
                 let told_d = told_after run.0 c d mid run.1 told_c in
-                let first = recovers.stops start told in
+                let first = recovers_stops start told in
                 let kept = frames_at_end start mid run.0 (λ stop_ops stop left is. (first.1 stop_ops stop left is).1) in (
                   first.0,
                   stops-append_silent mid run.0 second.0 (λ left. HeldByBoth t (length r.titles) left.internal left.external s × KeepFrames start left) (in_shows (λ d k. IsOfTwin body_size k) run.0 run.2.within) first.1
@@ -161,11 +257,9 @@ module _ (t : TablesData) (r : RollData) (section : Section) (tables : IsTables 
                       let then = second.2.stops (after run.0 mid) told_d stop_ops stop left is in
                       (then.0.both, frames_trans start (after run.0 mid) left kept then.1)),
                 );
+            order = λ trail start told.
+                traced (IsUpTo (IsRecovery t (length r.titles) s start)) a e (both_synced ++ (run.0 ++ second.0)) trail does_both (cut_in_change a b c d synced done held e heals change start told);
           }
-
-      does_both : Does (both_synced ++ (run.0 ++ second.0)) a e
-      does_both =
-          subst (λ (ops : List Op). Does ops a e) (append_assoc both_synced run.0 second.0) (does-append (both_synced ++ run.0) second.0 a d e does_all second.1)
 
       pub recovered : Runs (λ ops. (rest : List Op) × (ops ≡ both_synced ++ rest) × Recovers t r section s a rest) a e
       recovered = (both_synced ++ (run.0 ++ second.0), does_both, (run.0 ++ second.0, refl, recovers_on))
@@ -178,46 +272,24 @@ module _ (t : TablesData) (r : RollData) (section : Section) (tables : IsTables 
       )
 
     -- the heal failed at a device
-    pub fails_healing : (dev : Dev) → IsSectionOf t r section → IsFaultless a c → EndsAt (port_of dev) c d → FailsToRecover t r a d (store.Flash dev)
-    fails_healing dev fits fine ends = (
-      ends_later (port_of dev) a c d fine ends,
-      (both_synced ++ run.0, does_all, inr (run.0, refl, inr (section, s, fits, recovers))),
-    )
+    pub fails_healing : ForSome c.flashes (λ start. Runs (IsUpTo (IsHeal body_size body start)) c d) → (dev : Dev) → IsSectionOf t r section → IsFaultless a c → EndsAt (port_of dev) c d
+        → FailsToRecover t r a d (store.Flash dev)
+    fails_healing cut dev fits fine ends =
+        let recovers : Recovers t r section s a run.0 = record {
+          slots = record { within = run.2.within; syncs = omega (arith, run.2.syncs) };
+          stops = recovers_stops;
+          order = λ trail start told. traced (IsUpTo (IsRecovery t (length r.titles) s start)) a d (both_synced ++ run.0) trail does_all (cut_in_heal a b c d synced done held cut start told);
+        } in (
+          ends_later (port_of dev) a c d fine ends,
+          (both_synced ++ run.0, does_all, inr (run.0, refl, inr (section, s, fits, recovers))),
+        )
 
--- all that was done: syncs, heal, and the change of the body
-module _ (t : TablesData) (r : RollData) (section : Section) (tables : IsTables t) (few : length r.titles ≤ most_voters) (s : State) (body : List ℕ) (known : decoded t (length r.titles) body ≡ Some s) where
-  pub recovered_exactly : (a b c d e : Told) → Does both_synced a b → Does [] b c → ForSome b.flashes (HoldsBody (rank_in t (length r.titles)) body_size body) → ForSome c.flashes (λ start. Runs (IsHeal body_size body start) c d)
-      → ForSome d.flashes (λ start. Runs (IsBroughtUp t s body) d e) → ForSome a.flashes (λ start. Runs (IsRecovery t (length r.titles) s start) a e)
-  recovered_exactly a b c d e synced done held exact second start told =
-      let mid = after both_synced start in
-      let told_b = told_after both_synced a b start synced told in
-      let told_c = told_after [] b c mid done told_b in
-      let healed = exact mid told_c in
-      let changed = second (after healed.0 mid) (told_after healed.0 c d mid healed.1 told_c) in
-      let first = does-append both_synced healed.0 a c d (does-append both_synced [] a b c synced done) healed.1 in (
-        both_synced ++ (healed.0 ++ changed.0),
-        subst (λ (ops : List Op). Does ops a e) (append_assoc both_synced healed.0 changed.0) (does-append (both_synced ++ healed.0) changed.0 a d e first changed.1),
-        record {
-          body = body;
-          held = first_state t r section tables few s body known mid.internal.content mid.external.content (held mid told_b);
-          heal = healed.0;
-          heals = over_start healed.2;
-          change = changed.0;
-          brings_up = changed.2;
-          in_row = refl;
-        },
-      )
-    where
-      -- the syncs change no content
-      over_start : {ops : List Op} → IsHeal body_size body (after both_synced start) ops → IsHeal body_size body start ops
-      over_start heal =
-          record {
-            internal = heal.internal;
-            external = heal.external;
-            internal_is = heal.internal_is;
-            external_is = heal.external_is;
-            in_row = heal.in_row;
-          }
+-- all of it, or a front of it
+pub up_to_whole : (P : List Op → Type 0) (a b : Told) → ForSome a.flashes (λ start. Runs P a b) → ForSome a.flashes (λ start. Runs (IsUpTo P) a b)
+up_to_whole P a b done start told = let run = done start told in (run.0, run.1, inl run.2)
+
+pub up_to_front : (P : List Op → Type 0) (a b : Told) → ForSome a.flashes (λ start. Runs (IsFrontOfSome P) a b) → ForSome a.flashes (λ start. Runs (IsUpTo P) a b)
+up_to_front P a b cut start told = let run = cut start told in (run.0, run.1, inr run.2)
 
 -- the frames of a section's load
 framed_of : (t : TablesData) (r : RollData) (section : Section) (fs : Flashes) → AreLoaded t r section fs.internal.content fs.external.content → AreFramed (load_of t r section) fs

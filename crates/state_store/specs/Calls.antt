@@ -1,5 +1,5 @@
 -- What the calls of a store do on the flashes, also where the power goes
-use Rattle.std.specs.Prelude.{◌≡◌, ◌≢◌, ◌⊎◌, ℕ, ◌<◌, ◌≤◌, List, [], ◌∷◌, ◌++◌, length}
+use Rattle.std.specs.Prelude.{◌≡◌, ◌≢◌, ◌⊎◌, ℕ, ◌<◌, ◌≤◌, List, [], ◌∷◌, ◌++◌, length, IsSome}
 use Rattle.std.specs.Option.{ForSome}
 use Rattle.urna_outside.specs.Confined.{AreIn, count_syncs}
 use Rattle.urna_outside.specs.Faults.{EndsAt, IsFaultless}
@@ -13,6 +13,7 @@ use Rattle.election_tables.specs.TablesData.{TablesData}
 use Rattle.election_tables.specs.declared.tables.sections.Section.{Section}
 use Rattle.image_codec.specs.Encoding.{IsEncoding, encode}
 use Rattle.image_codec.specs.State.{State}
+use Rattle.gate_slot.specs.Front.{IsUpTo}
 use Rattle.twin_image.specs.Heal.{IsHeal}
 use Rattle.twin_image.specs.Order.{AreRenewals}
 use Rattle.twin_image.specs.Slots.{KeepsFrame}
@@ -76,12 +77,6 @@ pub record AreFound (t : TablesData) (r : RollData) (section : Section) (s : Sta
   pub loaded : AreLoaded t r section flashes.internal.content flashes.external.content
   pub held : HeldByBoth t (length r.titles) flashes.internal.content flashes.external.content s
 
--- what a recovery does behind the two syncs: it heals, and may bring the healed slots to another encoding
-pub record Recovers (t : TablesData) (r : RollData) (section : Section) (s : State) (told : Told) (ops : List Op) : Type 0 where
-  pub slots : AreInSlots 24 ops
-  pub stops : ForSome told.flashes (λ start. AreFound t r section s start
-      × AtEachStop (after both_synced start) ops (λ left. HeldByBoth t (length r.titles) left.internal left.external s × KeepFrames start left))
-
 -- the first of these bodies that is an encoding of this state
 abbrev pub IsFirstOf : TablesData → ℕ → State → List (List ℕ) → List ℕ → Type 0
 IsFirstOf t voters s [] body = ⊥
@@ -104,6 +99,14 @@ pub record IsRecovery (t : TablesData) (voters : ℕ) (s : State) (start : Flash
   pub change : List Op
   pub brings_up : IsBroughtUp t s body change
   pub in_row : ops ≡ both_synced ++ (heal ++ change)
+
+-- What a recovery does behind the two syncs: it heals, and may bring the healed slots to another encoding. Where the flashes and the trail
+-- are told, it is all of a recovery that was done, or a front of it.
+pub record Recovers (t : TablesData) (r : RollData) (section : Section) (s : State) (told : Told) (ops : List Op) : Type 0 where
+  pub slots : AreInSlots 24 ops
+  pub stops : ForSome told.flashes (λ start. AreFound t r section s start
+      × AtEachStop (after both_synced start) ops (λ left. HeldByBoth t (length r.titles) left.internal left.external s × KeepFrames start left))
+  pub order : IsSome told.trail → ForSome told.flashes (λ start. IsUpTo (IsRecovery t (length r.titles) s start) (both_synced ++ ops))
 
 -- what there is where a recovery fails
 abbrev pub FailsToRecover : TablesData → RollData → Told → Told → StoreError → Type 0

@@ -5,8 +5,10 @@ use Rattle.urna_outside.specs.Confined.{count_syncs}
 use Rattle.urna_outside.specs.Flash.{Flashes, Op, after, flash_of, shown_by}
 use Rattle.urna_outside.specs.Started.{clean_flashes}
 use Rattle.urna_outside.specs.Stop.{AtEachStop, IsLeft, IsStop, Left}
+use Rattle.urna_outside.specs.Told.{Told}
 use Rattle.urna_outside.specs.declared.device.Dev.{Dev}
 use Rattle.urna_outside.specs.declared.device.Dev.TheVariants.{Internal, External}
+use Rattle.urna_outside.specs.declared.device.Port.{Port}
 use Rattle.election_tables.specs.Limits.{most_voters}
 use Rattle.election_tables.specs.Roll.{IsRoll, RollData}
 use Rattle.election_tables.specs.TablesData.{IsTables, TablesData}
@@ -66,9 +68,9 @@ SessionGoesOn =
 -- them off.
 abbrev pub CostsAreBounded : Type 0
 CostsAreBounded =
-    (t : TablesData) (trail : Option (List Op)) (s : State) (pieces : List Piece) (ops : List Op)
-    → AreInOrder t trail s pieces ops ⊎ AreInOrderTo t trail s pieces ops
-    → (count_syncs ops ≤ 12 * length (commits_in pieces)) × (IsSome trail → put_bytes ops ≤ bytes_along t s (commits_in pieces))
+    (t : TablesData) (told : Told) (at : Port) (s : State) (pieces : List Piece) (ops : List Op)
+    → AreInOrder t told s pieces ops ⊎ AreInOrderTo t told at s pieces ops
+    → (count_syncs ops ≤ 12 * length (commits_in pieces)) × (IsSome told.trail → put_bytes ops ≤ bytes_along t s (commits_in pieces))
     × (commits_in pieces ≡ [] → ops ≡ shows_in ops)
 
 -- What one leaves of a recovery is a poll in the state that the recovery found.

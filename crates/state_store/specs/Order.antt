@@ -5,6 +5,7 @@ use Rattle.urna_outside.specs.declared.device.Dev.TheVariants.{Internal, Externa
 use Rattle.election_tables.specs.TablesData.{TablesData}
 use Rattle.image_codec.specs.Encoding.{encode}
 use Rattle.image_codec.specs.State.{State}
+use Rattle.gate_slot.specs.Front.{IsFrontOfSome}
 use Rattle.twin_image.specs.Lay.{load_ops}
 use Rattle.twin_image.specs.Order.{AreRenewals}
 use Rattle.image_codec.specs.Layout.{body_size}
@@ -24,3 +25,7 @@ IsCommit t s u ops = AreRenewals body_size (encode t s) (encode t u) ops
 abbrev pub IsLoad : TablesData → Load → State → Flashes → List Op → Type 0
 IsLoad t load s start ops =
     ops ≡ both_synced ++ load_ops body_size (header load Internal) (header load External) (encode t s) start
+
+-- a front of such a load: its first operations were done as they are, and the next one failed
+abbrev pub IsFrontOfLoad : TablesData → Load → State → Flashes → List Op → Type 0
+IsFrontOfLoad t load s start ops = IsFrontOfSome (IsLoad t load s start) ops

@@ -12,12 +12,14 @@ use Rattle.urna_outside.specs.declared.device.Port.{Port}
 use Rattle.urna_outside.specs.declared.device.Port.TheVariants as port
 use Rattle.election_tables.specs.TablesData.{TablesData}
 use Rattle.image_codec.specs.State.{State}
+use Rattle.gate_slot.specs.Front.{IsFrontOfSome}
 use Rattle.gate_slot.specs.Page.{put_bytes}
 use Rattle.twin_image.specs.Twin.{IsOfTwin}
 use Rattle.image_codec.specs.Layout.{body_size}
 use Rattle.state_store.specs.Calls.{KeepFrames, both_synced}
 use Rattle.state_store.specs.Cost.{bytes_along}
 use Rattle.state_store.specs.Held.{HeldAlone, HeldByBoth}
+use Rattle.state_store.specs.Order.{IsCommit}
 use Rattle.state_store.specs.Rest.{AreAtRest}
 use Rattle.state_store.specs.Pieces.{Piece, commits_in, commits_reached, lines_in, state_after, text_in}
 use Rattle.state_store.specs.declared.load.Load.{Load}
@@ -54,26 +56,51 @@ pub record Plays (t : TablesData) (load : Load) (s : State) (pieces : List Piece
   pub stops : ForSome start (λ flashes. AtEachStop flashes ops (λ left. Follows t load.section.voters s pieces left × KeepFrames flashes left))
 
 -- What a piece does before its line, over this state: the commit of the state that it tells, with at most 12 syncs and, where the trail
--- is told, no more bytes than that state costs over the other; where it tells none, nothing.
-pub record IsBeforeLine (t : TablesData) (trail : Option (List Op)) (s : State) (piece : Piece) (ops : List Op) : Type 0 where
+-- is told, no more bytes than that state costs over the other, and where the flashes are told too, in its order; where it tells none,
+-- nothing.
+pub record IsBeforeLine (t : TablesData) (told : Told) (s : State) (piece : Piece) (ops : List Op) : Type 0 where
   pub silent : shows_in ops ≡ []
   pub syncs : count_syncs ops ≤ 12
-  pub bytes : IsSome trail → put_bytes ops ≤ bytes_along t s (option_to_list piece.commit)
+  pub bytes : IsSome told.trail → put_bytes ops ≤ bytes_along t s (option_to_list piece.commit)
+  pub order : IsSome told.trail → IsSome told.flashes → ForSome piece.commit (λ u. IsCommit t s u ops)
   pub none : piece.commit ≡ None → ops ≡ []
 
--- each line is one show, just behind the commit of its piece over the state before it
-abbrev pub AreInOrder : TablesData → Option (List Op) → State → List Piece → List Op → Type 0
-AreInOrder t trail s [] ops = ops ≡ []
-AreInOrder t trail s (piece ∷ pieces) ops =
-    (commit : List Op) × (rest : List Op) × IsBeforeLine t trail s piece commit × (ops ≡ commit ++ Show piece.line ∷ rest)
-    × AreInOrder t trail (unwrap_or piece.commit s) pieces rest
+-- What a piece that tells a state does of its commit where a flash failed in it: no more than the whole, and a front of it.
+pub record IsCutCommit (t : TablesData) (told : Told) (s : State) (piece : Piece) (ops : List Op) : Type 0 where
+  pub some : IsSome piece.commit
+  pub silent : shows_in ops ≡ []
+  pub syncs : count_syncs ops ≤ 12
+  pub bytes : IsSome told.trail → put_bytes ops ≤ bytes_along t s (option_to_list piece.commit)
+  pub order : IsSome told.trail → IsSome told.flashes → ForSome piece.commit (λ u. IsFrontOfSome (IsCommit t s u) ops)
 
--- the same up to a fault in the commit of a piece, or in its line
-abbrev pub AreInOrderTo : TablesData → Option (List Op) → State → List Piece → List Op → Type 0
-AreInOrderTo t trail s [] ops = ⊥
-AreInOrderTo t trail s (piece ∷ pieces) ops =
-    (commit : List Op) × (rest : List Op) × IsBeforeLine t trail s piece commit × (ops ≡ commit ++ rest)
-    × (IsTornShow piece.line rest ⊎ ((more : List Op) × (rest ≡ Show piece.line ∷ more) × AreInOrderTo t trail (unwrap_or piece.commit s) pieces more))
+-- the commit of a piece was done, and the display failed in its line
+pub record IsCutLine (t : TablesData) (told : Told) (s : State) (piece : Piece) (ops : List Op) : Type 0 where
+  pub commit : List Op
+  pub torn : List Op
+  pub before : IsBeforeLine t told s piece commit
+  pub line : IsTornShow piece.line torn
+  pub in_row : ops ≡ commit ++ torn
+
+-- what a piece does in which this port fails
+abbrev pub IsCutPiece : TablesData → Told → Port → State → Piece → List Op → Type 0
+IsCutPiece t told port.Display s piece ops = IsCutLine t told s piece ops
+IsCutPiece t told port.Internal s piece ops = IsCutCommit t told s piece ops
+IsCutPiece t told port.External s piece ops = IsCutCommit t told s piece ops
+
+-- each line is one show, just behind the commit of its piece over the state before it
+abbrev pub AreInOrder : TablesData → Told → State → List Piece → List Op → Type 0
+AreInOrder t told s [] ops = ops ≡ []
+AreInOrder t told s (piece ∷ pieces) ops =
+    (commit : List Op) × (rest : List Op) × IsBeforeLine t told s piece commit × (ops ≡ commit ++ Show piece.line ∷ rest)
+    × AreInOrder t told (unwrap_or piece.commit s) pieces rest
+
+-- the same up to a fault of this port in one of the pieces
+abbrev pub AreInOrderTo : TablesData → Told → Port → State → List Piece → List Op → Type 0
+AreInOrderTo t told at s [] ops = ⊥
+AreInOrderTo t told at s (piece ∷ pieces) ops =
+    IsCutPiece t told at s piece ops
+    ⊎ ((commit : List Op) × (rest : List Op) × IsBeforeLine t told s piece commit × (ops ≡ commit ++ Show piece.line ∷ rest)
+    × AreInOrderTo t told at (unwrap_or piece.commit s) pieces rest)
 
 -- All pieces were put out in order, and no call failed. Both flashes are at rest with the state after them.
 pub record HasPut (t : TablesData) (load : Load) (s : State) (pieces : List Piece) (old new : Told) : Type 0 where
@@ -81,7 +108,7 @@ pub record HasPut (t : TablesData) (load : Load) (s : State) (pieces : List Piec
   pub does : Does ops old new
   pub plays : Plays t load s pieces old.flashes ops
   pub shown : shows_in ops ≡ shows (lines_in pieces)
-  pub order : AreInOrder t old.trail s pieces ops
+  pub order : AreInOrder t old s pieces ops
   pub rest : ForSome new.flashes (AreAtRest t load (state_after s pieces))
   pub fine : IsFaultless old new
 
@@ -100,7 +127,7 @@ pub record HasStopped (t : TablesData) (load : Load) (s : State) (pieces : List 
   pub does : Does ops old new
   pub plays : Plays t load s pieces old.flashes ops
   pub cut : IsCutAt at pieces (shows_in ops)
-  pub order : AreInOrderTo t old.trail s pieces ops
+  pub order : AreInOrderTo t old at s pieces ops
   pub rest : at ≡ port.Display → (u : State) × Contains (s ∷ commits_in pieces) u × ForSome new.flashes (AreAtRest t load u)
   pub fault : EndsAt at old new
 

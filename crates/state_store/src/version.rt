@@ -1,8 +1,9 @@
 //! Slots with another encoding of a state are brought to the one that is written today.
-ghost use Rattle.std.specs.Prelude.{◌≡◌, length, IfOk, OnOk};
+ghost use Rattle.std.specs.Prelude.{◌≡◌, length, IfOk};
 ghost use Rattle.std.specs.Option.{ForSome};
 ghost use Rattle.urna_outside.specs.Faults.{FailsAt};
 ghost use Rattle.urna_outside.specs.Told.{Runs, port_of};
+ghost use Rattle.gate_slot.specs.Front.{RunsUpTo};
 ghost use Rattle.twin_image.specs.Level.{Stands, body_of};
 ghost use Rattle.image_codec.specs.Encoding.{IsEncoding, encode};
 ghost use Rattle.image_codec.specs.Layout.{body_size};
@@ -31,8 +32,8 @@ pub(crate) fn bring_up<M: Machine>(
     ensures level { IfOk result (λ level. Stands (M.told m.new) level) }
     ensures body { IfOk result (λ level. body_of level ≡ encode tables.now state.now) }
     ensures ran { Runs (BringsUp tables.now (length state.now.came) state.now (M.told m.old)) (M.told m.old) (M.told m.new) }
-    ensures exact { OnOk result (ForSome (M.told m.old).flashes
-        (λ start. Runs (IsBroughtUp tables.now state.now (body_of level)) (M.told m.old) (M.told m.new))) }
+    ensures order { ForSome (M.told m.old).flashes
+        (λ start. RunsUpTo result (IsBroughtUp tables.now state.now (body_of level)) (M.told m.old) (M.told m.new)) }
     ensures fails { FailsAt port_of result (M.told m.old) (M.told m.new) }
 {
     encode_into(state, tables, next);

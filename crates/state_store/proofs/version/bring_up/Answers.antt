@@ -1,8 +1,7 @@
-use Rattle.std.proofs.Common.{◌≡◌, ◌≢◌, ◌≤◌, inl, inr, ℕ, true, false, Option, Some, IfOk, OnOk, Result, Ok, Err, List, [], length, option_map, refl, sym, ap, subst, ◌∙◌, arith}
+use Rattle.std.proofs.Common.{◌≡◌, ◌≢◌, ◌≤◌, inl, inr, ℕ, true, false, Option, Some, IfOk, Result, Ok, Err, List, [], length, option_map, refl, sym, ap, subst, ◌∙◌, arith}
 use Rattle.std.proofs.lemmas.Slice.Eq.{bytes_eq-Decides}
-use Rattle.std.specs.Option.{ForSome}
 use Rattle.std.specs.Str.{bytes_eq}
-use Rattle.urna_outside.specs.Flash.{Op, Flashes}
+use Rattle.urna_outside.specs.Flash.{Op}
 use Rattle.urna_outside.specs.Told.{Told, Runs}
 use Rattle.gate_slot.specs.Front.{RunsUpTo}
 use Rattle.urna_outside.proofs.Doing.{does_nothing}
@@ -40,8 +39,8 @@ returns-then-eq-clause-ran g c =
     let known = decoded_back t (length s.came) (body_of c.args.level) s c.of-ranks.ensures.whole few c.requires.encoding in
     brings_up_none t (length s.came) c.of-ranks.ensures.whole few s (body_of c.args.level) known c.requires.stands.long (g.M.Machine.told c.args.m.now) c.requires.stands.flashes
 
-pub returns-then-eq-clause-exact : goal.returns-then-eq-clause-exact
-returns-then-eq-clause-exact g c = λ fs told.
+pub returns-then-eq-clause-order : goal.returns-then-eq-clause-order
+returns-then-eq-clause-order g c = λ fs told.
     let agree : c.body.result.now ≡ c.encode_into.new.into = (bytes_eq-Decides c.body.result.now c.encode_into.new.into).0 (sym c.eq.ensures ∙ c.if-eq.true) in
     let same : body_of c.args.level ≡ encode c.args.tables.now c.args.state.now = sym c.body.ensures ∙ agree ∙ c.encode_into.ensures in
     ([], does_nothing (g.M.Machine.told c.args.m.now), inl (same, refl))
@@ -83,13 +82,13 @@ returns-clause-ran g c =
     let run = subst (λ (rank : List ℕ → Option ℕ). Runs (CommitsTo a rank body_size (body_of c.args.level) c.encode_into.new.into) a b) (sym same_rank) c.commit.ensures.ran in
     brings_up t voters whole few s (body_of c.args.level) (encode t s) old_known known a b (subst (λ (l : List ℕ). Runs (CommitsTo a (rank_in t voters) body_size (body_of c.args.level) l) a b) c.encode_into.ensures run)
 
--- what was done where a commit ended well: it brought the slots to other bytes
-done_well : {T E : Type 0} (r : Result T E) (P : List Op → Type 0) (Q : List Op → Type 0) (a b : Told) (flashes : Option Flashes) → ((ops : List Op) → P ops → Q ops) → ForSome flashes (λ start. RunsUpTo r P a b) → OnOk r (ForSome flashes (λ start. Runs Q a b))
-done_well (Ok x) P Q a b flashes weaker runs = λ start told. let run = runs start told in (run.0, run.1, weaker run.0 run.2)
-done_well (Err e) P Q a b flashes weaker runs = tt
+-- what was done up to a fault, by what it was more than that
+up_to_weaker : {T E : Type 0} (r : Result T E) (P Q : List Op → Type 0) (a b : Told) → ((ops : List Op) → P ops → Q ops) → RunsUpTo r P a b → RunsUpTo r Q a b
+up_to_weaker (Ok x) P Q a b weaker run = (run.0, run.1, weaker run.0 run.2)
+up_to_weaker (Err e) P Q a b weaker run = (run.0, run.1, (run.2.0, weaker run.2.0 run.2.1, run.2.2))
 
-pub returns-clause-exact : goal.returns-clause-exact
-returns-clause-exact g c =
+pub returns-clause-order : goal.returns-clause-order
+returns-clause-order g c = λ start told.
     let t = c.args.tables.now in
     let s = c.args.state.now in
     let a = g.M.Machine.told c.args.m.now in
@@ -101,5 +100,5 @@ returns-clause-exact g c =
     let ne : bytes_eq c.body.result.now c.encode_into.new.into ≡ false = sym c.eq.ensures ∙ c.if-eq.false in
     cc
     in
-    done_well c.commit.result (AreRenewals body_size old c.encode_into.new.into) (IsBroughtUp t s old) a b a.flashes
-    (λ ops are. inr (differ, subst (λ (l : List ℕ). AreRenewals body_size old l ops) c.encode_into.ensures are)) c.commit.ensures.order
+    up_to_weaker c.commit.result (AreRenewals body_size old c.encode_into.new.into) (IsBroughtUp t s old) a b
+    (λ ops are. inr (differ, subst (λ (l : List ℕ). AreRenewals body_size old l ops) c.encode_into.ensures are)) (c.commit.ensures.order start told)

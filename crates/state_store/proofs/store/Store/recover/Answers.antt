@@ -7,6 +7,7 @@ use Rattle.urna_outside.proofs.Faults.{faultless_trans}
 use Rattle.election_tables.specs.declared.tables.sections.Section.{Section}
 use Rattle.image_codec.specs.Encoding.{IsEncoding}
 use Rattle.image_codec.proofs.Decoding.{decoded_takes}
+use Rattle.gate_slot.specs.Front.{IsFrontOfSome}
 use Rattle.twin_image.specs.Found.{found_body}
 use Rattle.twin_image.specs.Level.{IsLevel, body_of}
 use Rattle.twin_image.specs.Slots.{AreClean}
@@ -17,7 +18,7 @@ use Rattle.state_store.specs.Load.{load_of}
 use Rattle.state_store.specs.Store.{AreDevices, Keeps, StoreData}
 use Rattle.state_store.specs.declared.load.Load.{Load}
 use Rattle.state_store.proofs.Ready.{ready_places}
-use Rattle.state_store.proofs.Recovering.{brought_named, clean_after, fails_changing, fails_finding, fails_healing, found_encoding, found_known, ranked_state, recovered, recovered_exactly, rests_brought}
+use Rattle.state_store.proofs.Recovering.{brought_named, clean_after, fails_changing, fails_finding, fails_healing, found_encoding, found_known, ranked_state, recovered, recovered_exactly, rests_brought, up_to_front, up_to_whole}
 use Rattle.state_store.proofs.Standing.{roomy}
 use Rattle.state_store.proofs.store.Store.recover.Goals as goal
 
@@ -44,7 +45,7 @@ returns-in-Err-heal-clause-fails g c =
     let body = found_body c.in_ok-section.found in
     let s = ranked_state t (length r.titles) body found.ranked in
     fails_healing t r c.in_ok-section.section found.tables found.roll.count.1 s.0 body s.1 (g.M.Machine.told c.args.m.now) (g.M.Machine.told c.sync_both.new.m) (g.M.Machine.told c.find.new.m) (g.M.Machine.told c.heal.new.m)
-    synced.does found.done found.loaded found.held c.heal.ensures.ran c.in-Err-heal.dev found.section (faultless_trans _ _ _ synced.fine found.fine) c.in-Err-heal.ensures.fails
+    synced.does found.done found.loaded found.held c.heal.ensures.ran c.in-Err-heal.ensures.cut c.in-Err-heal.dev found.section (faultless_trans _ _ _ synced.fine found.fine) c.in-Err-heal.ensures.fails
 
 pub bring_up-requires-clause-encoding : goal.bring_up-requires-clause-encoding
 bring_up-requires-clause-encoding g c =
@@ -82,7 +83,8 @@ returns-in-Err-bring_up-clause-fails g c =
     let end = g.M.Machine.told c.bring_up.new.m in
     let second = brought_named t r section found.tables found.roll found.section s body read healed end c.bring_up.ensures.ran in
     let fine = faultless_trans _ _ _ (faultless_trans _ _ _ synced.fine found.fine) c.in-Ok-heal.ensures.fails in
-    fails_changing t r section found.tables found.roll.count.1 s body known a b mid healed synced.does found.done found.loaded found.held c.heal.ensures.ran end second c.in-Err-bring_up.dev found.section fine c.in-Err-bring_up.ensures.fails
+    let cut = subst (λ (l : List ℕ). ForSome healed.flashes (λ start. Runs (IsFrontOfSome (IsBroughtUp t s l)) healed end)) body_is c.in-Err-bring_up.ensures.order in
+    fails_changing t r section found.tables found.roll.count.1 s body known a b mid healed synced.does found.done found.loaded found.held c.heal.ensures.ran end second c.in-Ok-heal.ensures.exact (up_to_front (IsBroughtUp t s body) healed end cut) c.in-Err-bring_up.dev found.section fine c.in-Err-bring_up.ensures.fails
 
 pub returns-clause-kept : goal.returns-clause-kept
 returns-clause-kept g c =
@@ -136,7 +138,8 @@ returns-clause-ran g c =
     let healed = g.M.Machine.told c.heal.new.m in
     let end = g.M.Machine.told c.bring_up.new.m in
     let second = brought_named t r section found.tables found.roll found.section s body read healed end c.bring_up.ensures.ran in
-    let ran = recovered t r section found.tables found.roll.count.1 s body known a b mid healed synced.does found.done found.loaded found.held c.heal.ensures.ran end second in
+    let more = subst (λ (l : List ℕ). ForSome healed.flashes (λ start. Runs (IsBroughtUp t s l) healed end)) body_is c.in-Ok-bring_up.ensures.order in
+    let ran = recovered t r section found.tables found.roll.count.1 s body known a b mid healed synced.does found.done found.loaded found.held c.heal.ensures.ran end second c.in-Ok-heal.ensures.exact (up_to_whole (IsBroughtUp t s body) healed end more) in
     subst (λ (u : Section). Runs (λ ops. (rest : List Op) × (ops ≡ both_synced ++ rest) × Recovers t r u s a rest) a end) (sym (ap (λ (l : Load). l.section) c.of-load.ensures)) ran
 
 pub returns-clause-exact : goal.returns-clause-exact
@@ -158,8 +161,8 @@ returns-clause-exact g c =
     let mid = g.M.Machine.told c.find.new.m in
     let healed = g.M.Machine.told c.heal.new.m in
     let end = g.M.Machine.told c.bring_up.new.m in
-    let more = subst (λ (l : List ℕ). ForSome healed.flashes (λ start. Runs (IsBroughtUp t s l) healed end)) body_is c.in-Ok-bring_up.ensures.exact in
-    recovered_exactly t r section found.tables found.roll.count.1 s body known a b mid healed end synced.does found.done found.held c.in-Ok-heal.ensures.exact more
+    let more = subst (λ (l : List ℕ). ForSome healed.flashes (λ start. Runs (IsBroughtUp t s l) healed end)) body_is c.in-Ok-bring_up.ensures.order in
+    recovered_exactly t r section found.tables found.roll.count.1 s body known a b mid healed synced.does found.done found.held end c.in-Ok-heal.ensures.exact more
 
 pub prove-unreachable-requires : goal.prove-unreachable-requires
 prove-unreachable-requires g c =
