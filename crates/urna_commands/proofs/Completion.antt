@@ -163,7 +163,7 @@ carga_completes names c d m b s files flashes told none calm flashes_told can (n
     absurd (none_asked can.section
     (subst (λ (x : TablesData). IsSectionAsked names x r can.section) (sym tables)
     (subst (λ (x : RollData). IsSectionAsked names can.t x can.section) (sym roll) can.asked)))
-carga_completes names c d m b s files flashes told none calm flashes_told can (not_loaded e given asked taken fails) = loads e calm fails
+carga_completes names c d m b s files flashes told none calm flashes_told can (not_loaded e given asked taken h) = loads e calm h.fails
   where
     loads : (e : LoadError) → Calm (load_status e) m b → FailsToLoad m b e → IsDoneOrMemory (load_status e)
     loads load.Memory calm h = inr refl
@@ -373,7 +373,7 @@ carga_counts names c d m b s none (load_refused h taken untouched) = first_count
 carga_counts names c d m b s none (load_no_memory taken untouched) = refl
 carga_counts names c d m b s none (load_no_cabinet taken untouched) = absurd (none.faults taken.counts.faults.rose)
 carga_counts names c d m b s none (no_section given lacks_it taken untouched) = refl
-carga_counts names c d m b s none (not_loaded e given asked taken fails) = loading e none.calm fails
+carga_counts names c d m b s none (not_loaded e given asked taken h) = loading e none.calm h.fails
   where
     loading : (e : LoadError) → Calm (load_status e) m b → FailsToLoad m b e → tells_of_count (load_status e) ≡ false
     loading load.Memory calm h = refl

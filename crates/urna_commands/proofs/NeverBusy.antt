@@ -81,7 +81,7 @@ carga_does names c d m b _ (load_refused why taken un) = inl (untouched_idles m 
 carga_does names c d m b _ (load_no_memory taken un) = inl (untouched_idles m b un)
 carga_does names c d m b _ (load_no_cabinet taken un) = inl (untouched_idles m b un)
 carga_does names c d m b _ (no_section given none taken un) = inl (untouched_idles m b un)
-carga_does names c d m b _ (not_loaded e given asked taken h) = fails_to_load m b e h
+carga_does names c d m b _ (not_loaded e given asked taken h) = fails_to_load m b e h.fails
 carga_does names c d m b _ (not_told {section} between given asked taken h off) =
     loads_then m between b h.ran (cut_idles (loaded_line section ∷ []) between b off)
 carga_does names c d m b _ (loaded {section} between given asked taken h shown) =
@@ -180,7 +180,7 @@ carga_not_busy names c d m b answer start e told free (load_refused why taken un
 carga_not_busy names c d m b _ start e told free (load_no_memory taken un) is = absurd (cc)
 carga_not_busy names c d m b _ start e told free (load_no_cabinet taken un) is = absurd (cc)
 carga_not_busy names c d m b _ start e told free (no_section given none taken un) is = absurd (cc)
-carga_not_busy names c d m b _ start e told free (not_loaded error given asked taken h) is = load_not_busy m b start e error told free h is
+carga_not_busy names c d m b _ start e told free (not_loaded error given asked taken h) is = load_not_busy m b start e error told free h.fails is
 carga_not_busy names c d m b _ start e told free (not_told between given asked taken h off) is = absurd (cc)
 carga_not_busy names c d m b _ start e told free (loaded between given asked taken h shown) is = absurd (cc)
 

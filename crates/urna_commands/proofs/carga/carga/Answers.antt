@@ -49,7 +49,7 @@ returns-in_err-_store g c =
     let asked : IsSectionAsked names c.in_ok-tables.tables c.in_ok-tables.roll c.in-Some.section =
     record { fits = c.in-Some.ensures.some; zone = c.in-Some.ensures.asked.0; number = c.in-Some.ensures.asked.1 } in
     subst (CargaEnds names x y m n) (sym (passed_on c.from_residual-in_err-_store.result (load_status e) c.from_residual-in_err-_store.ensures.1 (λ s h. h)))
-    (not_loaded e given asked (taken_as 2 (load_status e) x y (counts_load e x.tally y.tally) taken) c.in_err-_store.ensures.fails)
+    (not_loaded e given asked (taken_as 2 (load_status e) x y (counts_load e x.tally y.tally) taken) (record { fails = c.in_err-_store.ensures.fails; order = c.in_err-_store.ensures.order }))
 
 pub returns : goal.returns
 returns g c =
@@ -68,6 +68,7 @@ returns g c =
     let has : HasLoaded t r c.in-Some.section m b =
     record {
       ran = c.in_ok-_store.ensures.ran;
+      order = c.in_ok-_store.ensures.order;
       rest = subst (λ (l : Load). ForSome b.flashes (AreAtRest t l (ready_state t (length r.titles)))) c.in_ok-_store.ensures.store c.in_ok-_store.ensures.kept.rest;
       fine = c.in_ok-_store.ensures.fine;
     } in
