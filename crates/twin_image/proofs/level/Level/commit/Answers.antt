@@ -15,6 +15,31 @@ use Rattle.twin_image.proofs.Renewing.{twin_bounded}
 use Rattle.twin_image.proofs.Rewriting.{puts-append, puts_more}
 use Rattle.twin_image.proofs.level.Level.commit.Goals as goal
 
+pub returns-in_err-internal-clause-order : goal.returns-in_err-internal-clause-order
+returns-in_err-internal-clause-order g c =
+    let old = body_of c.args.self in
+    let new = c.args.next.now in
+    let cut = rw c.deref.ensures.value at c.in_err-internal.ensures.order in
+    let front = cut_early (IsRenewal g.row.SIZE Internal old new) (IsRenewal g.row.SIZE External old new) (AreRenewals g.row.SIZE old new) _ _ (renewal_ops g.row.SIZE External old new) (renewals_join g.row.SIZE old new) (renewal_is g.row.SIZE External old new) cut in
+    search rules
+
+pub returns-in_err-external-clause-order : goal.returns-in_err-external-clause-order
+returns-in_err-external-clause-order g c =
+    let old = body_of c.args.self in
+    let new = c.args.next.now in
+    let first = rw c.deref.ensures.value at c.in_ok-internal.ensures.order in
+    let cut = rw c.deref-2.ensures.value at c.in_err-external.ensures.order in
+    let front = cut_in_row (IsRenewal g.row.SIZE Internal old new) (IsRenewal g.row.SIZE External old new) (AreRenewals g.row.SIZE old new) _ _ _ (renewals_join g.row.SIZE old new) first cut in
+    search rules
+
+pub returns-clause-order : goal.returns-clause-order
+returns-clause-order g c =
+    let old = body_of c.args.self in
+    let new = c.args.next.now in
+    let first = rw c.deref.ensures.value at c.in_ok-internal.ensures.order in
+    let second = rw c.deref-2.ensures.value at c.in_ok-external.ensures.order in
+    in_row (IsRenewal g.row.SIZE Internal old new) (IsRenewal g.row.SIZE External old new) (AreRenewals g.row.SIZE old new) _ _ _ (renewals_join g.row.SIZE old new) first second
+
 pub renew_on-requires : goal.renew_on-requires
 renew_on-requires g c =
     let s = c.requires.stands in
@@ -73,31 +98,6 @@ returns-clause-ran g c =
     let run = rw c.deref.ensures.value at c.renew_on.ensures.ran in
     let run_2 = rw c.deref-2.ensures.value at c.renew_on-2.ensures.ran in
     committed (g.R.Ranked.rank c.args.ranks.now) g.row.SIZE (body_of c.args.self) c.args.next.now s.long c.requires.next c.requires.rank _ _ _ s.fits (g.met.M.Machine.sized c.args.m.now) (g.met.M.Machine.sized c.renew_on.new.m) s.flashes run c.in_ok-internal.ensures.twin run_2
-
-pub returns-in_err-internal-clause-order : goal.returns-in_err-internal-clause-order
-returns-in_err-internal-clause-order g c =
-    let old = body_of c.args.self in
-    let new = c.args.next.now in
-    let cut = rw c.deref.ensures.value at c.in_err-internal.ensures.order in
-    let front = cut_early (IsRenewal g.row.SIZE Internal old new) (IsRenewal g.row.SIZE External old new) (AreRenewals g.row.SIZE old new) _ _ (renewal_ops g.row.SIZE External old new) (renewals_join g.row.SIZE old new) (renewal_is g.row.SIZE External old new) cut in
-    search rules
-
-pub returns-in_err-external-clause-order : goal.returns-in_err-external-clause-order
-returns-in_err-external-clause-order g c =
-    let old = body_of c.args.self in
-    let new = c.args.next.now in
-    let first = rw c.deref.ensures.value at c.in_ok-internal.ensures.order in
-    let cut = rw c.deref-2.ensures.value at c.in_err-external.ensures.order in
-    let front = cut_in_row (IsRenewal g.row.SIZE Internal old new) (IsRenewal g.row.SIZE External old new) (AreRenewals g.row.SIZE old new) _ _ _ (renewals_join g.row.SIZE old new) first cut in
-    search rules
-
-pub returns-clause-order : goal.returns-clause-order
-returns-clause-order g c =
-    let old = body_of c.args.self in
-    let new = c.args.next.now in
-    let first = rw c.deref.ensures.value at c.in_ok-internal.ensures.order in
-    let second = rw c.deref-2.ensures.value at c.in_ok-external.ensures.order in
-    in_row (IsRenewal g.row.SIZE Internal old new) (IsRenewal g.row.SIZE External old new) (AreRenewals g.row.SIZE old new) _ _ _ (renewals_join g.row.SIZE old new) first second
 
 pub returns-in_err-internal-clause-bytes : goal.returns-in_err-internal-clause-bytes
 returns-in_err-internal-clause-bytes g c =
