@@ -1,6 +1,10 @@
 -- The report that a call put is accepted by the next
-use Rattle.std.proofs.Common.{◌≡◌, ◌≢◌, ◌⊎◌, inl, inr, ℕ, List, [], ◌∷◌, ◌++◌, Option, Some, refl, ap, subst, ◌∙◌}
-use Rattle.std.specs.Prelude.{Contains, codes}
+use Rattle.urna_commands.specs.Putting.{report_name}
+use Rattle.std.specs.Option.{ForSome}
+use Rattle.urna_commands.specs.declared.status.Doc.{Doc}
+use Rattle.state_store.specs.Calls.{AreFound}
+use Rattle.std.proofs.Common.{◌≡◌, ◌≢◌, ◌⊎◌, inl, inr, ℕ, List, [], ◌∷◌, Option, Some, refl, ap, subst, ◌∙◌}
+use Rattle.std.specs.Prelude.{Contains}
 use Rattle.urna_outside.specs.Cabinet.{CabinetTold, Files, Holds, file_at}
 use Rattle.urna_outside.specs.ShownLines.{HasShown}
 use Rattle.urna_outside.specs.Told.{Told}
@@ -17,12 +21,12 @@ use Rattle.state_store.specs.declared.store.StoreError.{StoreError}
 use Rattle.state_store.specs.declared.store.StoreError.TheVariants as store
 use Rattle.result_files.specs.Reports.{report_file}
 use Rattle.result_files.proofs.Reports.{sealed_is_accepted}
-use Rattle.urna_commands.specs.Accepting.{EmittedIsAccepted, IsAccepted, VotedIsAccepted}
+use Rattle.urna_commands.specs.Accepting.{EmittedIsAccepted, IsAccepted, VotedIsAccepted, IsOwnName}
 use Rattle.urna_commands.specs.Command.{Confere, Emite}
 use Rattle.urna_commands.specs.Confere.{ConfereEnds, HasVerdict, check_no_cabinet, check_no_memory, check_not_told, check_refused, checked}
-use Rattle.urna_commands.specs.Documents.{HasDocuments, HasTables, IsFirstFault}
+use Rattle.urna_commands.specs.Documents.{HasDocuments, HasTables, IsBad, IsFault, IsFirstFault, bad, count, first_other, first_tables, lacks, line, longer, name_line, no_document, roll_line, rule}
 use Rattle.urna_commands.specs.AtRest.{AreResults, both_files, no_files}
-use Rattle.urna_commands.specs.Emite.{EmiteEnds, emit_no_cabinet, emit_no_memory, emit_refused, emitted, emitted_line, files_stopped, not_emitted, not_found, not_sealed}
+use Rattle.urna_commands.specs.Emite.{EmiteEnds, emit_no_cabinet, emit_no_memory, emit_refused, emitted, files_stopped, not_emitted, not_found, not_sealed}
 use Rattle.urna_commands.specs.Emite.{no_files as no_files_made}
 use Rattle.urna_commands.specs.Errors.{store_status}
 use Rattle.urna_commands.specs.Verdicts.{verdict_line, verdict_status}
@@ -30,7 +34,7 @@ use Rattle.urna_commands.specs.declared.status.Doc.TheVariants as doc
 use Rattle.urna_commands.specs.declared.status.Status.{Status}
 use Rattle.urna_commands.specs.declared.status.Status.TheVariants as status
 use Rattle.urna_commands.proofs.AtRest.{done_is_whole}
-use Rattle.urna_commands.proofs.Once.{one_verdict_on, refused_or_checked, refused_or_documents}
+use Rattle.urna_commands.proofs.Once.{one_verdict_on, refused_or_checked}
 use Rattle.urna_commands.proofs.PutFiles.{both_are_there}
 
 -- what a name has of the files that there are
@@ -50,9 +54,9 @@ tables_stay name t before now same has =
     }
 
 module _ (now : Files) (tables out : List ℕ) (t : TablesData) (section : Section) (s : State) (opened closed : ℕ) (has : HasTables (Some now) tables t) (listed : Contains t.sections section)
-    (of : IsStateOf t section.voters s) (sealed : s.phase ≡ phase.Sealed opened closed) (held : Holds (out ++ codes ".bu") (report_file t section s opened closed) now) where
+    (of : IsStateOf t section.voters s) (sealed : s.phase ≡ phase.Sealed opened closed) (held : Holds (report_name out) (report_file t section s opened closed) now) where
   abbrev names : Confere
-  names = record { tables = tables; report = out ++ codes ".bu" }
+  names = record { tables = tables; report = report_name out }
 
   abbrev fine : Verdict
   fine = verdict.Accepted section.zone section.number
@@ -64,7 +68,7 @@ module _ (now : Files) (tables out : List ℕ) (t : TablesData) (section : Secti
         t = t;
         bytes = report_file t section s opened closed;
         tables = has;
-        report = record { held = λ x is. there (out ++ codes ".bu") (report_file t section s opened closed) now x is held; short = ok.0 };
+        report = record { held = λ x is. there (report_name out) (report_file t section s opened closed) now x is held; short = ok.0 };
         verdict = ok.1;
       }
 
@@ -73,7 +77,7 @@ module _ (now : Files) (tables out : List ℕ) (t : TablesData) (section : Secti
 
   confere_tells : (c d : CabinetTold) (m n : Told) (answer : Status) → c.files ≡ Some now → ConfereEnds names c d m n answer → Result m n answer
   confere_tells c d m n answer told (check_refused why taken un) =
-      absurd (refused_or_checked now names answer fine (subst (λ (o : Option Files). IsFirstFault o tables doc.Report (out ++ codes ".bu") answer) told why) verdict_there)
+      absurd (refused_or_checked now names answer fine (subst (λ (o : Option Files). IsFirstFault o tables doc.Report (report_name out) answer) told why) verdict_there)
   confere_tells c d m n _ told (check_no_memory taken un) = inr (inl refl)
   confere_tells c d m n _ told (check_no_cabinet taken un) = inr (inr (inl refl))
   confere_tells c d m n _ told (check_not_told is taken off) = inr (inr (inr refl))
@@ -91,9 +95,9 @@ voted_is_accepted names c d m n t r es section s files is last out run opened cl
   where
     go : (now : Files) → d.files ≡ Some now → IsStateOf t section.voters last → AreResults names.out t section last files now → IsAccepted names.tables names.out section d
     go now told valid (no_files unsealed same) = absurd (unsealed opened closed sealed)
-    go now told valid (both_files {opened = o} {closed = k} at report rows others) =
+    go now told valid (both_files {opened = o} {closed = k} at both) =
         accepted_after now names.tables names.out t section last o k
-        (tables_stay names.tables t files now (others names.tables own.0 own.1) is.given.tables) is.found.loaded.section_fits.listed valid at report d told
+        (tables_stay names.tables t files now (both.others names.tables own) is.call.given.tables) is.found.loaded.section_fits.listed valid at both.report d told
 
 store_not_done : (e : StoreError) → store_status e ≡ status.Done → ⊥
 store_not_done store.Memory is = absurd (cc)
@@ -102,14 +106,31 @@ store_not_done (store.Flash dev.External) is = absurd (cc)
 store_not_done (store.Foreign d) is = absurd (cc)
 store_not_done store.NoImage is = absurd (cc)
 
-module _ (names : Emite) (files : Files) (c d : CabinetTold) (told : c.files ≡ Some files) (t : TablesData) (r : RollData) (given : HasDocuments (Some files) names.tables names.roll t r)
-    (own : (names.tables ≢ names.out ++ codes ".bu") × (names.tables ≢ names.out ++ codes ".rdv")) (m n : Told) where
+-- no fault of a document is Done
+bad_not_done : (d : Doc) (bytes : List ℕ) (s : Status) → IsBad d bytes s → s ≢ status.Done
+bad_not_done _ bytes _ (no_document un) = λ done. absurd (cc)
+bad_not_done _ bytes _ (rule breaks) = λ done. absurd (cc)
+bad_not_done _ bytes _ (count un) = λ done. absurd (cc)
+bad_not_done _ bytes _ (roll_line has) = λ done. absurd (cc)
+bad_not_done _ bytes _ (line is) = λ done. absurd (cc)
+bad_not_done _ bytes _ (name_line is) = λ done. absurd (cc)
+
+fault_not_done : {files : Option Files} {name : List ℕ} {d : Doc} {s : Status} → IsFault files name d s → s ≢ status.Done
+fault_not_done (lacks h) done = absurd (cc)
+fault_not_done (longer h) done = absurd (cc)
+fault_not_done {d = d} {s = s} (bad {bytes} taken is) done = bad_not_done d bytes s is done
+
+first_not_done : {files : Option Files} {tables : List ℕ} {d : Doc} {name : List ℕ} {s : Status} → IsFirstFault files tables d name s → s ≢ status.Done
+first_not_done (first_tables h) done = fault_not_done h done
+first_not_done (first_other has h) done = fault_not_done h done
+
+module _ (names : Emite) (files : Files) (c d : CabinetTold) (told : c.files ≡ Some files) (own : IsOwnName names.tables names.out) (m n : Told) where
   abbrev Emitted : Type 0
-  Emitted = (section : Section) × (between : Told) × HasShown (emitted_line section ∷ []) between n × IsAccepted names.tables names.out section d
+  Emitted = (t : TablesData) × (r : RollData) × (section : Section) × (s : State) × HasDocuments (Some files) names.tables names.roll t r
+      × ForSome m.flashes (AreFound t r section s) × IsAccepted names.tables names.out section d
 
   emite_done : (answer : Status) → answer ≡ status.Done → EmiteEnds names c d m n answer → Emitted
-  emite_done answer done (emit_refused why taken un) =
-      absurd (refused_or_documents files names.tables names.roll answer t r (subst (λ (o : Option Files). IsFirstFault o names.tables doc.Roll names.roll answer) told why) given)
+  emite_done answer done (emit_refused why taken un) = absurd (first_not_done why done)
   emite_done _ done (emit_no_memory taken un) = absurd (cc)
   emite_done _ done (emit_no_cabinet taken un) = absurd (cc)
   emite_done _ done (not_found e also taken h) = absurd (store_not_done e done)
@@ -117,15 +138,18 @@ module _ (names : Emite) (files : Files) (c d : CabinetTold) (told : c.files ≡
   emite_done _ done (no_files_made also taken h sealed) = absurd (cc)
   emite_done _ done (files_stopped after also taken h sealed put) = absurd (cc)
   emite_done _ done (not_emitted after between also taken h sealed put off) = absurd (cc)
-  emite_done _ done (emitted {t = u} {r = q} {section} {s} {opened} {closed} after between also taken h sealed put shown) =
-      let (now, is, report, rows, others) = both_are_there names.out u section s opened closed after d files (taken.files ∙ told) put in
-      let has : HasDocuments (Some files) names.tables names.roll u q = subst (λ (o : Option Files). HasDocuments o names.tables names.roll u q) told also in (
+  emite_done _ done (emitted {t = t} {r = r} {section} {s} {opened} {closed} after between also taken h sealed put shown) =
+      let (now, is, both) = both_are_there names.out t section s opened closed after d files (taken.files ∙ told) put in
+      let has : HasDocuments (Some files) names.tables names.roll t r = subst (λ (o : Option Files). HasDocuments o names.tables names.roll t r) told also in (
+        t,
+        r,
         section,
-        between,
-        shown,
-        accepted_after now names.tables names.out u section s opened closed (tables_stay names.tables u files now (others names.tables own.0 own.1) has.tables) h.one_of.listed h.state
-            sealed report d is,
+        s,
+        has,
+        h.found,
+        accepted_after now names.tables names.out t section s opened closed (tables_stay names.tables t files now (both.others names.tables own) has.tables) h.one_of.listed h.state
+            sealed both.report d is,
       )
 
 pub emitted_is_accepted : EmittedIsAccepted
-emitted_is_accepted names c d m n ends files t r told given own = emite_done names files c d told t r given own m n status.Done refl ends
+emitted_is_accepted names c d m n ends files told own = emite_done names files c d told own m n status.Done refl ends

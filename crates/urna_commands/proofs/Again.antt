@@ -1,7 +1,10 @@
 -- Any calls one after the other keep the votes of a poll
 use Rattle.std.proofs.Common.{◌≡◌, ◌≢◌, ◌⊎◌, inl, inr, ℕ, ◌+◌, List, [], ◌∷◌, ◌++◌, Option, Some, None, length, refl, sym, ap, subst, ◌∙◌, arith, append_assoc, length-append}
 use Rattle.std.specs.Prelude.{false, replicate, slice_index_or}
-use Rattle.std.proofs.lemmas.Bool.{cases_eq}
+use Rattle.std.specs.Str.{bytes_eq}
+use Rattle.std.proofs.lemmas.Bool.{cases_Bool}
+use Rattle.std.proofs.lemmas.Slice.Eq.{bytes_eq-Decides}
+use Rattle.urna_commands.proofs.PutFiles.{differ}
 use Rattle.std.proofs.lemmas.List.{append-nil, append_cancel_left, length-replicate}
 use Rattle.std.proofs.lemmas.List.Elements.{Contains-get_or}
 use Rattle.urna_outside.specs.Cabinet.{CabinetTold, Files}
@@ -180,19 +183,6 @@ ready_or_opened phase.Ready = inl refl
 ready_or_opened (phase.Polling at) = inr (λ is. absurd (cc))
 ready_or_opened (phase.Sealed at closed) = inr (λ is. absurd (cc))
 
--- two lists of bytes are the same, or not
-same_or_not : (a b : List ℕ) → (a ≡ b) ⊎ (a ≢ b)
-same_or_not [] [] = inl refl
-same_or_not [] (y ∷ b) = inr (λ is. absurd (cc))
-same_or_not (x ∷ a) [] = inr (λ is. absurd (cc))
-same_or_not (x ∷ a) (y ∷ b) = elim (cases_eq x y) [
-  | inl head ↦ elim (same_or_not a b) [
-    | inl tail ↦ inl (ap (λ (k : ℕ). k ∷ a) head ∙ ap (λ (l : List ℕ). y ∷ l) tail)
-    | inr another ↦ inr (λ is. let same : a ≡ b = cc in another same)
-  ]
-  | inr another ↦ inr (λ is. let same : x ≡ y = cc in another same)
-]
-
 module _ (t : TablesData) (r : RollData) (section : Section) (s : State) (origin : Flashes) (ready : AreReady t r section s origin) where
   abbrev At : List Call → List ℕ → List ℕ → Type 0
   At calls a b = HasKept t r section s origin calls (images a b)
@@ -297,12 +287,8 @@ module _ (t : TablesData) (r : RollData) (section : Section) (s : State) (origin
         votes_kept =
             votes_are_kept t r section u start found names c d m n answer es rest
             (record {
-              between = b;
-              ends = ends;
-              told = tells;
               files = x.files;
-              cabinet = told;
-              given = given;
+              call = record { between = b; ends = ends; told = tells; cabinet = told; given = given };
               traced = subst (λ (l : List Op). IsTraced m n start l) front traced;
             }) last out run done stop left (record { internal = internal; external = external; shown = refl })
 
@@ -355,6 +341,8 @@ module _ (t : TablesData) (r : RollData) (section : Section) (s : State) (origin
               last = last;
               out = out;
               run = run;
+              rest = votes_kept.rest;
+              front = votes_kept.front ∙ ap (λ (l : List ℕ). l ++ votes_kept.rest) (sym shown);
               number = votes_kept.both.number;
               after = votes_kept.both.after;
               told = subst (λ (l : List ℕ). IsToldOrOneMore x.status (commits_reached pieces (length l)) votes_kept.both.number) (sym shown)
@@ -401,7 +389,7 @@ module _ (t : TablesData) (r : RollData) (section : Section) (s : State) (origin
 
     -- ---- any call
 
-    module _ (next : Flashes) (is : IsCall start x next) (may : MayBeCalled t r start x is.ops) (a e : List ℕ) (stop : IsStop is.ops is.done)
+    module _ (next : Flashes) (is : IsCall start x next) (may : MayBeCalled t r start x is.done) (a e : List ℕ) (stop : IsStop is.ops is.done)
         (internal : IsImage (after is.done start).internal a) (external : IsImage (after is.done start).external e)
         (over : IsInterrupted x.status ⊎ ((x.status ≡ Some is.answer) × (is.done ≡ is.ops))) where
       -- it did nothing but sync and show
@@ -434,7 +422,7 @@ module _ (t : TablesData) (r : RollData) (section : Section) (s : State) (origin
       load_step names is_this =
           let others = no_session (Some (ToLoad names)) is_this (λ other_names same. absurd (cc)) in
           elim (ready_or_opened here.state.phase) [
-            | inl still ↦ idle_step is.done a e (idle_stop is.ops is.done (may.no_load names is_this here.state found.held still) stop) internal external others
+            | inl still ↦ idle_step is.done a e (may.no_load names is_this here.state found.held still) internal external others
             | inr opened ↦
                 let used = opened_is_in_use t r section here.state start found opened in
                 let ends = ends_as x.words (ToLoad names) is.cabinet is.cabinet_after is.machine is.ends.between is.answer is_this is.ends.command in
@@ -470,12 +458,12 @@ module _ (t : TablesData) (r : RollData) (section : Section) (s : State) (origin
         given_step : (u : TablesData) (q : RollData) (es : List Event) → IsGiven is.cabinet.files names u q es → AtNext a e
         given_step u q es also =
             let given : IsGiven (Some x.files) names u q es = subst (λ (o : Option Files). IsGiven o names u q es) is.told also in
-            elim (same_or_not u.digest t.digest) [
-              | inr differ ↦ others_step (others_by u q es given (λ same. differ same.0))
-              | inl first ↦ elim (same_or_not q.digest r.digest) [
-                | inr differ ↦ others_step (others_by u q es given (λ same. differ same.1))
+            elim (cases_Bool (bytes_eq u.digest t.digest)) [
+              | inr other_tables ↦ others_step (others_by u q es given (λ same. differ u.digest t.digest other_tables same.0))
+              | inl first ↦ elim (cases_Bool (bytes_eq q.digest r.digest)) [
+                | inr other_roll ↦ others_step (others_by u q es given (λ same. differ q.digest r.digest other_roll same.1))
                 | inl second ↦
-                    let same = may.no_twins names is_this u q es given first second in
+                    let same = may.no_twins names is_this u q es given ((bytes_eq-Decides u.digest t.digest).0 first) ((bytes_eq-Decides q.digest r.digest).0 second) in
                     these_step es (subst (λ (y : TablesData). IsGiven (Some x.files) names y r es) same.0 (subst (λ (y : RollData). IsGiven (Some x.files) names u y es) same.1 given))
               ]
             ]
@@ -526,7 +514,7 @@ module _ (t : TablesData) (r : RollData) (section : Section) (s : State) (origin
         let images = left_images (after done start) (shown_by done) left is a b internal external in
         h a b stop images.0 images.1 (inl stopped)
 
-    step : (next : Flashes) (is : IsCall start x next) → MayBeCalled t r start x is.ops → Kept (before ++ x ∷ []) next
+    step : (next : Flashes) (is : IsCall start x next) → MayBeCalled t r start x is.done → Kept (before ++ x ∷ []) next
     step next is may =
         goes is.answer is.ops is.done x.status next AtNext is.goes_on
         (λ a b stop internal external over. any_step next is may a b stop internal external over (command_of x.words) refl)

@@ -251,7 +251,7 @@ alone_from_the_first_show t r section s start found names c d m n answer es ops 
     elim (text_cases left.shown) [
       | inl none ↦
           let none_done : shown_by done ≡ [] = sym at.shown ∙ none in
-          let full = first_is_full names is.files c d is.cabinet t r es is.given section s m is.between n start ops found is.traced answer is.ends is.told in
+          let full = first_is_full names is.files c d is.call.cabinet t r es is.call.given section s m is.call.between n start ops found is.traced answer is.call.ends is.call.told in
           at_show none (begun ops done full stop begun_to none_done) none_done
       | inr some ↦ let kept = votes_are_kept t r section s start found names c d m n answer es ops is last out run done stop left at in (kept.internal some, kept.external some)
     ]

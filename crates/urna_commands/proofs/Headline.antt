@@ -1,7 +1,6 @@
 -- However a call of vota ends, what a power cut leaves keeps its votes
 use Rattle.std.proofs.Common.{◌≡◌, ◌⊎◌, inl, inr, ℕ, List, [], ◌∷◌, ◌++◌, Option, Some, length, refl, sym, ap, subst, ◌∙◌}
 use Rattle.std.specs.List.{concat}
-use Rattle.std.specs.Option.{ForSome}
 use Rattle.std.proofs.lemmas.List.{append-nil}
 use Rattle.urna_outside.specs.Cabinet.{CabinetTold, Files}
 use Rattle.urna_outside.specs.Flash.{Flashes, Op, after, shown_by}
@@ -13,7 +12,7 @@ use Rattle.urna_outside.specs.declared.device.Dev.TheVariants as dev
 use Rattle.urna_outside.specs.declared.device.Port.{Port}
 use Rattle.urna_outside.specs.declared.device.Port.TheVariants as port
 use Rattle.urna_outside.proofs.Courses.{in_shows, stops_silent}
-use Rattle.urna_outside.proofs.Doing.{does-append, does_nothing, shown_by-append}
+use Rattle.urna_outside.proofs.Doing.{does-append, does_nothing, shown_by-append, told_after}
 use Rattle.urna_outside.proofs.Keeping.{synced_clean}
 use Rattle.urna_outside.proofs.Stops.{stops_none}
 use Rattle.urna_outside.proofs.Traced.{traced_is}
@@ -115,17 +114,34 @@ module _ (t : TablesData) (r : RollData) (s last : State) (es : List Event) (out
       session_stops h.load h.first h.last h.opens.between h.out h.opens.recovered h.run
       (safe_stops m n start rest traced t h.load h.first (opening t h.first ++ session_pieces t h.out) h.survives)
 
-  -- where it was held, both flashes are at rest with all ballots in the end
-  pub voted_counted : HasVoted t r es m n → HasAlso (ballot_lines t) s (ballots_of run) last × ForSome n.flashes (AreAtRest t (load_of t r section) last)
-  voted_counted voted =
+  -- where it was held, it is the session of this run
+  abbrev ops_of : HasVoted t r es m n → List Op
+  ops_of voted = voted.opens.recovered.ran.0 ++ (voted.opens.shown.ops ++ voted.put.ops)
+
+  voted_does : (voted : HasVoted t r es m n) → Does (ops_of voted) m n
+  voted_does voted =
+      does-append voted.opens.recovered.ran.0 (voted.opens.shown.ops ++ voted.put.ops) m voted.opens.between n voted.opens.recovered.ran.1
+      (does-append voted.opens.shown.ops voted.put.ops voted.opens.between voted.between n voted.opens.shown.does voted.put.does)
+
+  voted_same : (voted : HasVoted t r es m n) → (voted.first ≡ s) × (voted.out ≡ out)
+  voted_same voted =
       let here = recovered_here voted.load voted.first voted.opens.between voted.opens.recovered in
       let again : IsRun (setting_of t r.titles) s es voted.last voted.out = subst (λ (x : State). IsRun (setting_of t r.titles) x es voted.last voted.out) here.0 voted.run in
-      let same : voted.out ≡ out = (run_unique (setting_of t r.titles) s voted.last last es voted.out out (tables_setting t r.titles tables) again run).1 in
+      (here.0, (run_unique (setting_of t r.titles) s voted.last last es voted.out out (tables_setting t r.titles tables) again run).1)
+
+  -- both flashes are at rest with all ballots in the end
+  pub voted_counted : HasVoted t r es m n → HasAlso (ballot_lines t) s (ballots_of run) last × (now : Flashes) × (n.flashes ≡ Some now) × AreAtRest t (load_of t r section) last now
+  voted_counted voted =
+      let same = voted_same voted in
       let end : state_after voted.first (session_pieces t voted.out) ≡ last =
-      ap (λ (x : State). state_after x (session_pieces t voted.out)) here.0 ∙ ap (λ (o : List Output). state_after s (session_pieces t o)) same ∙ run_last t r.titles roll run in (
+      ap (λ (x : State). state_after x (session_pieces t voted.out)) same.0 ∙ ap (λ (o : List Output). state_after s (session_pieces t o)) same.1 ∙ run_last t r.titles roll run in
+      let told = told_after (ops_of voted) m n start (voted_does voted) traced.flashes in (
         run_counts t r.titles roll run,
-        λ x is. subst (λ (load : Load). AreAtRest t load last x) (same_load t r tables section s m start found traced.flashes voted.load voted.first voted.opens.between voted.opens.recovered)
-            (subst (λ (y : State). AreAtRest t voted.load y x) end (voted.put.rest x is)),
+        after (ops_of voted) start,
+        told,
+        subst (λ (load : Load). AreAtRest t load last (after (ops_of voted) start))
+            (same_load t r tables section s m start found traced.flashes voted.load voted.first voted.opens.between voted.opens.recovered)
+            (subst (λ (y : State). AreAtRest t voted.load y (after (ops_of voted) start)) end (voted.put.rest (after (ops_of voted) start) told)),
       )
 
   -- and its whole text was shown
@@ -133,19 +149,13 @@ module _ (t : TablesData) (r : RollData) (s last : State) (es : List Event) (out
   voted_shown voted =
       let recovery = voted.opens.recovered.ran in
       let line = voted.opens.shown in
-      let here = recovered_here voted.load voted.first voted.opens.between voted.opens.recovered in
-      let again : IsRun (setting_of t r.titles) s es voted.last voted.out = subst (λ (x : State). IsRun (setting_of t r.titles) x es voted.last voted.out) here.0 voted.run in
-      let same : voted.out ≡ out = (run_unique (setting_of t r.titles) s voted.last last es voted.out out (tables_setting t r.titles tables) again run).1 in
-      let ops : List Op = recovery.0 ++ (line.ops ++ voted.put.ops) in
-      let does : Does ops m n =
-      does-append recovery.0 (line.ops ++ voted.put.ops) m voted.opens.between n recovery.1
-      (does-append line.ops voted.put.ops voted.opens.between voted.between n line.does voted.put.does) in
-      let trail : ops ≡ both_synced ++ rest = traced_is m n start (both_synced ++ rest) ops traced does in
+      let same = voted_same voted in
+      let trail : ops_of voted ≡ both_synced ++ rest = traced_is m n start (both_synced ++ rest) (ops_of voted) traced (voted_does voted) in
       let quiet : shown_by recovery.0 ≡ [] = ap shown_by recovery.2.1 ∙ in_shows _ recovery.2.0 recovery.2.2.slots.within in
       let first : shown_by line.ops ≡ opening_line t s =
-      text_of_lines line.ops (opening_line t voted.first ∷ []) line.shown ∙ append-nil (opening_line t voted.first) ∙ ap (opening_line t) here.0 in
+      text_of_lines line.ops (opening_line t voted.first ∷ []) line.shown ∙ append-nil (opening_line t voted.first) ∙ ap (opening_line t) same.0 in
       let then : shown_by voted.put.ops ≡ concat (lines_in (session_pieces t out)) =
-      text_of_lines voted.put.ops (lines_in (session_pieces t voted.out)) voted.put.shown ∙ ap (λ (o : List Output). concat (lines_in (session_pieces t o))) same in
+      text_of_lines voted.put.ops (lines_in (session_pieces t voted.out)) voted.put.shown ∙ ap (λ (o : List Output). concat (lines_in (session_pieces t o))) same.1 in
       sym (ap shown_by trail) ∙ shown_by-append recovery.0 (line.ops ++ voted.put.ops)
       ∙ ap (λ (l : List ℕ). l ++ shown_by (line.ops ++ voted.put.ops)) quiet
       ∙ shown_by-append line.ops voted.put.ops
@@ -296,7 +306,7 @@ module _ (names : Vota) (files : Files) (c d : CabinetTold) (told : c.files ≡ 
 
   -- with Done
   abbrev Counted : Type 0
-  Counted = HasAlso (ballot_lines t) s (ballots_of run) last × ForSome n.flashes (AreAtRest t (load_of t r section) last)
+  Counted = HasAlso (ballot_lines t) s (ballots_of run) last × (now : Flashes) × (n.flashes ≡ Some now) × AreAtRest t (load_of t r section) last now
 
   pub vota_counted : (answer : Status) → answer ≡ status.Done → VotaEnds names c d m b answer → Tells (fault_text answer) b n → Counted
   vota_counted answer ok (refused bad taken un) tells = absurd (refused_or_given files names answer t r es (subst (λ (o : Option Files). IsRefused o names answer) told bad) given)
@@ -310,11 +320,11 @@ module _ (names : Vota) (files : Files) (c d : CabinetTold) (told : c.files ≡ 
 
 pub votes_are_kept : VotesAreKept
 votes_are_kept t r section s start found names c d m n answer es ops is last out run =
-    vota_kept names is.files c d is.cabinet t r es is.given section s last out run m is.between n start ops found is.traced answer is.ends is.told
+    vota_kept names is.files c d is.call.cabinet t r es is.call.given section s last out run m is.call.between n start ops found is.traced answer is.call.ends is.call.told
 
 pub all_are_counted : AllAreCounted
 all_are_counted names c d m n t r es start ops is section s found last out run =
-    vota_counted names is.files c d is.cabinet t r es is.given section s last out run m is.between n start ops found is.traced status.Done refl is.ends is.told
+    vota_counted names is.files c d is.call.cabinet t r es is.call.given section s last out run m is.call.between n start ops found is.traced status.Done refl is.call.ends is.call.told
 
 pub keys_have_run : KeysHaveRun
 keys_have_run files names t r es s given = run_exists (setting_of t r.titles) s es (tables_setting t r.titles given.tables.valid)

@@ -182,7 +182,7 @@ module _ (start : Flashes) (used : Dev) (in_use : IsInUse (flash_of used start).
   carga_so names c d _ (load_no_memory taken un) = inl un
   carga_so names c d _ (load_no_cabinet taken un) = inl un
   carga_so names c d _ (no_section given none taken un) = inl un
-  carga_so names c d _ (not_loaded e given asked taken h) = fails_so e h
+  carga_so names c d _ (not_loaded e given asked taken h) = fails_so e h.fails
   carga_so names c d _ (not_told between given asked taken h off) = absurd (not_ran between h.ran)
   carga_so names c d _ (loaded between given asked taken h shown) = absurd (not_ran between h.ran)
 
@@ -318,7 +318,7 @@ carga_ends_idles names c d m b _ (load_refused why taken un) none = untouched_id
 carga_ends_idles names c d m b _ (load_no_memory taken un) none = untouched_idles m b un
 carga_ends_idles names c d m b _ (load_no_cabinet taken un) none = untouched_idles m b un
 carga_ends_idles names c d m b _ (no_section given lacks taken un) none = untouched_idles m b un
-carga_ends_idles names c d m b _ (not_loaded e given asked taken h) none = load_idles m b e h none.1.0 none.1.1.0
+carga_ends_idles names c d m b _ (not_loaded e given asked taken h) none = load_idles m b e h.fails none.1.0 none.1.1.0
 carga_ends_idles names c d m b _ (not_told between given asked taken h off) none = absurd (none.1.1.1.0 refl)
 carga_ends_idles names c d m b _ (loaded between given asked taken h shown) none = absurd (none.0 refl)
 

@@ -1,7 +1,7 @@
 -- What carga leaves is a poll before it begins
 use Rattle.urna_outside.proofs.Traced.{traced_is}
 use Rattle.urna_outside.proofs.Doing.{told_after}
-use Rattle.urna_outside.proofs.Stops.{stop-append, stop_whole}
+use Rattle.urna_outside.proofs.Stops.{stop-append, stop_whole, stops_none}
 use Rattle.std.specs.Option.{option_map}
 use Rattle.urna_commands.proofs.Idle.{idle_left, idle_stop, idle_trail, told_idles}
 use Rattle.urna_commands.specs.FaultLines.{fault_text}
@@ -18,7 +18,7 @@ use Rattle.urna_commands.specs.Idle.{AreIdle}
 use Rattle.state_store.specs.Calls.{AreFree, Loads, both_synced}
 use Rattle.std.proofs.Common.{◌≡◌, ℕ, List, [], ◌∷◌, Option, Some, length, refl, sym, ap, subst, ◌∙◌, None, inl, inr, ◌++◌, ◌⊎◌}
 use Rattle.urna_outside.specs.Cabinet.{CabinetTold, Files}
-use Rattle.urna_outside.specs.Flash.{Flashes, IsClean, Op, flash_of, shown_by, after}
+use Rattle.urna_outside.specs.Flash.{Flashes, IsClean, Op, flash_of, shown_by, after, clean_flash}
 use Rattle.urna_outside.specs.ShownLines.{shows}
 use Rattle.urna_outside.specs.Told.{Told, Does, Runs}
 use Rattle.urna_outside.specs.declared.device.Dev.TheVariants as dev
@@ -38,7 +38,7 @@ use Rattle.urna_commands.specs.Documents.{HasDocuments, IsFirstFault}
 use Rattle.urna_commands.specs.Command.{Carga, ToLoad, command_of}
 use Rattle.urna_commands.specs.Ending.{CommandEnds, Ends}
 use Rattle.urna_commands.specs.Errors.{load_status}
-use Rattle.urna_commands.specs.Again.{AreReady, LoadMakesReady, Call, IsCall, IsNext, LoadMayFollow, cut_behind, cut, ended}
+use Rattle.urna_commands.specs.Again.{AreReady, LoadMakesReady, Call, IsCall, IsNext, LoadMayFollow, cut_behind, cut, ended, StayFree}
 use Rattle.urna_commands.specs.declared.status.Doc.TheVariants as doc
 use Rattle.urna_commands.specs.declared.status.Status.{Status}
 use Rattle.urna_commands.specs.declared.status.Status.TheVariants as status
@@ -151,12 +151,20 @@ ready_left t r section s start text left ready is =
     clean dev.Internal = clean_is_clean start.internal.content
     clean dev.External = clean_is_clean start.external.content
 
--- within the two syncs nothing is put
-synced_stop_idle : (done : List Op) → IsStop both_synced done → AreIdle done
-synced_stop_idle done stop = idle_stop both_synced done (tt, (tt, tt)) stop
+-- neither flash is in use, as these images have them
+abbrev FreeAt : Left → Type 0
+FreeAt left = AreFree (clean_flashes left.internal left.external)
 
-module _ (t : TablesData) (r : RollData) (section : Section) (start next : Flashes) (x : Call) (names : Carga) (ready : AreReady t r section (ready_state t (length r.titles)) start) (free : AreFree start)
-    (is : IsCall start x next) (command : command_of x.words ≡ Some (ToLoad names)) where
+free_content : (flashes : Flashes) (text : List ℕ) → FreeAt (record { internal = flashes.internal.content; external = flashes.external.content; shown = text }) → AreFree flashes
+free_content flashes text at dev.Internal = at dev.Internal
+free_content flashes text at dev.External = at dev.External
+
+-- what a power cut leaves of what one left
+clean_free : (left again : Left) → FreeAt left → IsLeft (clean_flashes left.internal left.external) [] again → FreeAt again
+clean_free left again at is dev.Internal = subst (λ (y : List ℕ). ¬ IsInUse y) (sym (clean_image (clean_flash left.internal) again.internal (clean_is_clean left.internal) is.internal)) (at dev.Internal)
+clean_free left again at is dev.External = subst (λ (y : List ℕ). ¬ IsInUse y) (sym (clean_image (clean_flash left.external) again.external (clean_is_clean left.external) is.external)) (at dev.External)
+
+module _ (start next : Flashes) (x : Call) (names : Carga) (free : StayFree start) (is : IsCall start x next) (command : command_of x.words ≡ Some (ToLoad names)) where
   ends : CargaEnds names is.cabinet is.cabinet_after is.machine is.ends.between is.answer
   ends = ends_as x.words (ToLoad names) is.cabinet is.cabinet_after is.machine is.ends.between is.answer command is.ends.command
 
@@ -180,62 +188,52 @@ module _ (t : TablesData) (r : RollData) (section : Section) (start next : Flash
     | inr run ↦ inr (run.2.0 ++ run.2.1, sym (traced_is is.machine is.machine_after start is.ops run.0 is.traced run.1) ∙ run.2.2)
   ]
 
-  abbrev free_at : Left → Type 0
-  free_at left = AreFree (clean_flashes left.internal left.external)
-
-  free_idle : (done : List Op) (left : Left) → AreIdle done → IsLeft (after done start) (shown_by done) left → free_at left
+  free_idle : (done : List Op) (left : Left) → AreIdle done → IsLeft (after done start) (shown_by done) left → FreeAt left
   free_idle done left idle at =
-      let (i, e) = clean_left start (shown_by done) left ready.clean (idle_left done start (shown_by done) left idle at) in
-      free_both left i e
-    where
-      free_both : (left : Left) → left.internal ≡ start.internal.content → left.external ≡ start.external.content → free_at left
-      free_both left i e dev.Internal = subst (λ (y : List ℕ). ¬ IsInUse y) (sym i) (free dev.Internal)
-      free_both left i e dev.External = subst (λ (y : List ℕ). ¬ IsInUse y) (sym e) (free dev.External)
+      let before = idle_left done start (shown_by done) left idle at in
+      free (record { internal = left.internal; external = left.external; shown = [] }) (record { internal = before.internal; external = before.external; shown = refl })
+
+  free_here : AreFree start
+  free_here = free_content start [] (at_end start [] FreeAt (stops_none start FreeAt free))
 
   -- at each stop of the call neither is in use
-  free_stops : AtEachStop start is.ops free_at
+  free_stops : AtEachStop start is.ops FreeAt
   free_stops done stop left at = elim does [
     | inl idle ↦ free_idle done left (idle_stop is.ops done idle stop) at
     | inr (rest, front) ↦ elim (stop-append both_synced rest done (subst (λ (l : List Op). IsStop l done) front stop)) [
-      | inl before_them ↦ free_idle done left (synced_stop_idle done before_them) at
+      | inl before_them ↦ free_idle done left (idle_stop both_synced done (tt, (tt, tt)) before_them) at
       | inr (more, all, late) ↦
           let there : IsLeft (after more (after both_synced start)) (shown_by more) left =
           subst (λ (l : List Op). IsLeft (after l start) (shown_by l) left) all at in
           load_leaves_free x.words is.cabinet is.cabinet_after is.machine is.machine_after is.answer is.ends names command start rest
-          (subst (λ (l : List Op). IsTraced is.machine is.machine_after start l) front is.traced) free more late left there
+          (subst (λ (l : List Op). IsTraced is.machine is.machine_after start l) front is.traced) free_here more late left there
     ]
   ]
 
-  free_content : (flashes : Flashes) → free_at (record { internal = flashes.internal.content; external = flashes.external.content; shown = [] }) → AreFree flashes
-  free_content flashes at dev.Internal = at dev.Internal
-  free_content flashes at dev.External = at dev.External
-
-  free_next : (done : List Op) (over : Option Status) → IsNext start is.ops is.answer done over next → AreFree next
-  free_next done over goes = free_goes done over next goes
-    where
-      free_goes : (done : List Op) (over : Option Status) (after_it : Flashes) → IsNext start is.ops is.answer done over after_it → AreFree after_it
-      free_goes done _ _ ended =
-          free_content (after is.ops start) (at_end start is.ops (λ left. free_at left) free_stops)
-      free_goes done _ _ (cut_behind {left} at) = free_stops is.ops (stop_whole is.ops) left (record { internal = at.internal; external = at.external; shown = at.shown })
-      free_goes done _ _ (cut {left} stop at) = free_stops done stop left at
+  free_goes : (done : List Op) (over : Option Status) (after_it : Flashes) → IsNext start is.ops is.answer done over after_it → StayFree after_it
+  free_goes done _ _ ended left at =
+      free_stops is.ops (stop_whole is.ops) (record { internal = left.internal; external = left.external; shown = shown_by is.ops })
+      (record { internal = at.internal; external = at.external; shown = refl })
+  free_goes done _ _ (cut_behind {left} at) again is_left = clean_free left again (free_stops is.ops (stop_whole is.ops) left at) is_left
+  free_goes done _ _ (cut {left} stop at) again is_left = clean_free left again (free_stops done stop left at) is_left
 
   abbrev Anew : Flashes → Type 0
-  Anew flashes = (u : TablesData) (q : RollData) → HasDocuments (Some x.files) names.tables names.roll u q
-      → (asked : Section) × IsSectionAsked names u q asked × AreReady u q asked (ready_state u (length q.titles)) flashes
+  Anew flashes = (t : TablesData) (r : RollData) → HasDocuments (Some x.files) names.tables names.roll t r
+      → (section : Section) × IsSectionAsked names t r section × AreReady t r section (ready_state t (length r.titles)) flashes
 
   anew_at_end : is.answer ≡ status.Done → Anew (after is.ops start)
-  anew_at_end done u q given =
+  anew_at_end done t r given =
       let made = load_makes_ready x.words is.cabinet is.cabinet_after is.machine is.machine_after
-      (subst (Ends x.words is.cabinet is.cabinet_after is.machine is.machine_after) done is.ends) names x.files u q command is.told given (after is.ops start) flashes_after in
+      (subst (Ends x.words is.cabinet is.cabinet_after is.machine is.machine_after) done is.ends) names x.files t r command is.told given (after is.ops start) flashes_after in
       (made.0, made.1, made.2)
 
   anew : (done : List Op) (over : Option Status) (after_it : Flashes) → IsNext start is.ops is.answer done over after_it → over ≡ Some status.Done → Anew after_it
-  anew done _ _ ended well u q given = anew_at_end (let same : is.answer ≡ status.Done = cc in same) u q given
-  anew done _ _ (cut_behind {left} at) well u q given =
-      let (asked, of, made) = anew_at_end (let same : is.answer ≡ status.Done = cc in same) u q given in
-      (asked, of, ready_left u q asked (ready_state u (length q.titles)) (after is.ops start) (shown_by is.ops) left made at)
-  anew done _ _ (cut stop at) well u q given = absurd (cc)
+  anew done _ _ ended well t r given = anew_at_end (let same : is.answer ≡ status.Done = cc in same) t r given
+  anew done _ _ (cut_behind {left} at) well t r given =
+      let (section, of, made) = anew_at_end (let same : is.answer ≡ status.Done = cc in same) t r given in
+      (section, of, ready_left t r section (ready_state t (length r.titles)) (after is.ops start) (shown_by is.ops) left made at)
+  anew done _ _ (cut stop at) well t r given = absurd (cc)
 
 pub load_may_follow : LoadMayFollow
-load_may_follow t r section start next x names ready free is command =
-    (free_next t r section start next x names ready free is command is.done x.status is.goes_on, λ well. anew t r section start next x names ready free is command is.done x.status next is.goes_on well)
+load_may_follow start next x names free is command =
+    (free_goes start next x names free is command is.done x.status next is.goes_on, λ well. anew start next x names free is command is.done x.status next is.goes_on well)

@@ -29,10 +29,10 @@ use Rattle.urna_commands.specs.Emite.{EmiteEnds, emit_no_cabinet, emit_no_memory
 use Rattle.urna_commands.specs.Ending.{CommandEnds, NoCommandEnds}
 use Rattle.urna_commands.specs.Ensaio.{EnsaioEnds, not_rehearsed, rehearsal_files, rehearsal_names, rehearsal_not_put, rehearsal_not_told, rehearsed}
 use Rattle.urna_commands.specs.FaultLines.{Tells, fault_line, fault_text}
-use Rattle.urna_commands.specs.Putting.{HavePut, PutsResults, StopPutting, no_results, result_files, results_not_made, results_not_put, results_put}
+use Rattle.urna_commands.specs.Putting.{HavePut, PutsResults, StopPutting, no_results, result_files, result_names, results_not_made, results_not_put, results_put}
 use Rattle.urna_commands.specs.Taking.{HasTaken, calls_made}
 use Rattle.urna_commands.specs.Totaliza.{TotalizaEnds, list_no_cabinet, list_no_memory, list_refused, report_no_cabinet, report_no_memory, report_refused, totalled, totals_not_told, verdict_lines, verdict_not_told, IsListed}
-use Rattle.urna_commands.specs.Touching.{AreAny, AreSyncsAndShows, EachTouchesAtMost, Touches, TouchesAtMost, result_names}
+use Rattle.urna_commands.specs.Touching.{AreAny, AreSyncsAndShows, EachTouchesAtMost, Touches, TouchesAtMost}
 use Rattle.urna_outside.specs.Shows.{AreShows}
 use Rattle.urna_outside.proofs.Showing.{are_shows-append}
 use Rattle.urna_outside.proofs.ShowingLines.{cut_front, shows_lines}
@@ -281,7 +281,7 @@ carga_touches names c d m b s (load_refused why taken un) = took AreAny [] 2 2 s
 carga_touches names c d m b s (load_no_memory taken un) = took AreAny [] 2 2 s c d m b (omega arith) (none_so m b un) taken
 carga_touches names c d m b s (load_no_cabinet taken un) = took AreAny [] 2 2 s c d m b (omega arith) (none_so m b un) taken
 carga_touches names c d m b s (no_section given lacks taken un) = took AreAny [] 2 2 s c d m b (omega arith) (none_so m b un) taken
-carga_touches names c d m b s (not_loaded e given asked taken h) = took AreAny [] 2 2 s c d m b (omega arith) (load_so m b e h) taken
+carga_touches names c d m b s (not_loaded e given asked taken h) = took AreAny [] 2 2 s c d m b (omega arith) (load_so m b e h.fails) taken
 carga_touches names c d m b s (not_told {section} between given asked taken h off) =
     took AreAny [] 2 2 s c d m b (omega arith) (any_then m between b (any_so m between h.ran) (cut_so (loaded_line section ∷ []) between b off)) taken
 carga_touches names c d m b s (loaded {section} between given asked taken h shown) =

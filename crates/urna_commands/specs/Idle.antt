@@ -34,7 +34,7 @@ PutsNothing (Show bytes) = Unit {0}
 abbrev pub AreIdle : List Op → Type 0
 AreIdle ops = AllByRecursion PutsNothing ops
 
--- Where the power stops such a call, what it leaves it might have left before the call.
+-- Where the power stops a call that does nothing but sync and show, what it leaves it might have left before the call.
 abbrev pub IdleLeavesNoMore : Type 0
 IdleLeavesNoMore =
     (start : Flashes) (ops done : List Op) (left : Left) → AreIdle ops → IsStop ops done
@@ -58,7 +58,7 @@ IsIdleEnding (Some (ToTotal names)) s = Unit {0}
 IsIdleEnding (Some (ToRehearse voters)) s = Unit {0}
 IsIdleEnding None s = Unit {0}
 
--- a call that ends so did nothing but sync and show
+-- A call that ends with one of these did nothing but sync and show.
 abbrev pub IdleEndings : Type 0
 IdleEndings =
     (words : List (List ℕ)) (c d : CabinetTold) (m n : Told) (answer : Status) → Ends words c d m n answer
@@ -66,8 +66,8 @@ IdleEndings =
 
 -- ---- over flashes that hold a poll
 
--- Over flashes of which one is in use carga puts nothing, however it ends; and it made no call of the machine, or answers that one is in
--- use, or that a flash failed.
+-- Over flashes of which one is in use carga puts nothing, however it ends; and but for the line that tells a fault it made no call of the
+-- machine, or it answers that one is in use, or that a flash failed.
 abbrev pub LoadIsKeptOut : Type 0
 LoadIsKeptOut =
     (names : Carga) (c d : CabinetTold) (m n : Told) (answer : Status) → CargaEnds names c d m n answer
@@ -86,7 +86,7 @@ abbrev pub GivesOthers : TablesData → RollData → Files → Vota → Type 0
 GivesOthers t r files names =
     (u : TablesData) (q : RollData) (es : List Event) → IsGiven (Some files) names u q es → ¬ ((u.digest ≡ t.digest) × (q.digest ≡ r.digest))
 
--- Over flashes that hold a poll of these tables and this roll vota puts nothing where it is given others.
+-- Over flashes that hold a poll of these tables and this roll vota puts nothing where it is given others, of another hash.
 abbrev pub OthersAreKeptOut : Type 0
 OthersAreKeptOut =
     (t : TablesData) (r : RollData) (section : Section) (s : State) (start : Flashes) → IsTables t → IsRoll r → AreFound t r section s start

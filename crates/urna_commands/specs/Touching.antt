@@ -1,5 +1,5 @@
 -- What each command may touch: the flashes, the files, and how many calls of the cabinet it makes
-use Rattle.std.specs.Prelude.{◌≡◌, ◌≢◌, ◌⊎◌, ◌≤◌, ◌+◌, ◌++◌, ℕ, List, [], ◌∷◌, Option, Some, None, codes, length}
+use Rattle.std.specs.Prelude.{◌≡◌, ◌≢◌, ◌⊎◌, ◌≤◌, ◌+◌, ◌++◌, ℕ, List, [], Option, Some, None, length}
 use Rattle.std.specs.List.{AllByRecursion}
 use Rattle.urna_outside.specs.Cabinet.{CabinetTold, Files, file_at}
 use Rattle.urna_outside.specs.Flash.{Op}
@@ -10,6 +10,7 @@ use Rattle.state_store.specs.Calls.{IsFrontOfSyncs}
 use Rattle.urna_commands.specs.Command.{Command, ToCheck, ToEmit, ToLoad, ToRehearse, ToTotal, ToVote, Totaliza, command_of}
 use Rattle.urna_commands.specs.Ending.{Ends}
 use Rattle.urna_commands.specs.Ensaio.{rehearsal_names}
+use Rattle.urna_commands.specs.Putting.{result_names}
 use Rattle.urna_commands.specs.Taking.{calls_made}
 use Rattle.urna_commands.specs.Totaliza.{IsListed}
 use Rattle.urna_commands.specs.declared.status.Status.{Status}
@@ -36,16 +37,12 @@ pub record Touches (does : List Op → Type 0) (own : List (List ℕ)) (most : �
   pub few : made ≤ most
   pub calls : d.calls ≡ calls_made made c.calls
 
--- the names of the files of results
-abbrev pub result_names : List ℕ → List (List ℕ)
-result_names out = (out ++ codes ".bu") ∷ (out ++ codes ".rdv") ∷ []
-
 -- how many reports there are to take: those that the list names, or none where it couldn't be read
 abbrev pub AreToTake : CabinetTold → Totaliza → ℕ → Type 0
 AreToTake c names k = (k ≡ 0) ⊎ ((t : TablesData) × (listed : List (List ℕ)) × IsListed c.files names t listed × (k ≡ length listed))
 
--- What each command may touch, however it ends. Words of no command, confere, totaliza and ensaio call no flash; emite syncs both and puts
--- nothing; confere, totaliza and carga leave each file as it is; vota and emite change their two files of results alone, and ensaio its six.
+-- What each command may touch, however it ends. Words of no command, confere, totaliza and ensaio put and sync nothing on a flash; emite syncs
+-- each at most once, and puts nothing; confere, totaliza and carga leave each file as it is; vota and emite change their two files of results alone, and ensaio its six.
 abbrev pub TouchesAtMost : Option Command → CabinetTold → CabinetTold → Told → Told → Type 0
 TouchesAtMost None c d m n = Touches AreShows [] 0 c d m n
 TouchesAtMost (Some (ToCheck names)) c d m n = Touches AreShows [] 2 c d m n
@@ -55,7 +52,7 @@ TouchesAtMost (Some (ToEmit names)) c d m n = Touches AreSyncsAndShows (result_n
 TouchesAtMost (Some (ToLoad names)) c d m n = Touches AreAny [] 2 c d m n
 TouchesAtMost (Some (ToVote names)) c d m n = Touches AreAny (result_names names.out) 5 c d m n
 
--- so each call does
+-- Each call, however it ends, touches no more than its command may.
 abbrev pub EachTouchesAtMost : Type 0
 EachTouchesAtMost =
     (words : List (List ℕ)) (c d : CabinetTold) (m n : Told) (answer : Status) → Ends words c d m n answer → TouchesAtMost (command_of words) c d m n

@@ -60,9 +60,10 @@ pub fn votes_are_kept()
 
 /// Calls of any words over flashes that a load made ready, one after the other, each of which the power stops anywhere or which ends: what
 /// is left behind them is the poll to which prefixes of the presses of the calls of `vota` lead, with the ballots whose FIM was shown in any of
-/// them, and at most one more of each that was stopped or that a flash or the display failed. A poll that was opened stays one that was, and no
-/// `carga` takes it away. The next call finds such a poll, and the headline holds of it. While the poll is still ready a `carga` may load anew,
-/// and with one that is Done the list begins anew.
+/// them, and at most one more of each that was stopped or that a flash or the display failed. Two things are asked of the calls: no `carga`
+/// writes while the poll is still ready, and no `vota` gets other tables or another roll of the same SHA-256. A poll that was opened stays one
+/// that was, and no `carga` takes it away. The next call finds such a poll, and the headline holds of it. Where neither flash is in use,
+/// whatever a power cut leaves of them, as a load leaves them, a `carga` leaves such flashes again, and with one that is Done the list begins anew.
 pub fn again_and_again()
     ensures kept { CallsKeepVotes }
     ensures next { NextIsSafe }
@@ -71,17 +72,18 @@ pub fn again_and_again()
     ensures anew { LoadMayFollow }
 {}
 
-/// Over a machine that tells its flashes: where `vota` is Done, the text of the whole run was shown, both flashes are at rest with its last
-/// state, and where that is sealed the two files of results are there and all other names are as before. Where memory was wanted or the
-/// cabinet failed, it made no call of the machine, or that state is sealed and at rest. However it ends, where no flash failed it made no call of
-/// the machine, or both flashes are at rest with the state after a prefix of the presses.
+/// What a `vota` that has its documents leaves of a poll of them, where machine and cabinet tell. Done: the text of the whole run was shown,
+/// both flashes are at rest with its last state, and where that is sealed the two files of results are there and all other names are as
+/// before. Where memory was wanted or the cabinet failed, it made no call of the machine, or that state is sealed and at rest. Where no flash
+/// failed, it made no call of the machine, or both flashes are at rest with the state after a prefix of the presses.
 pub fn what_vota_leaves()
     ensures done { DoneIsWhole }
     ensures late { LateFaultIsSealed }
     ensures rest { RestsWhereNoFlashFailed }
 {}
 
-/// The report that a `vota` or an `emite` put that is Done is accepted by a `confere` of it with the same tables.
+/// The report that a `vota` or an `emite` put that is Done is accepted by a `confere` of it with the same tables, whose name is none of the two
+/// files'; or memory was wanted, or the cabinet or the display failed.
 pub fn put_and_accepted()
     ensures voted { VotedIsAccepted }
     ensures emitted { EmittedIsAccepted }
@@ -97,8 +99,8 @@ pub fn never_busy()
     ensures opened { OpenedIsInUse }
 {}
 
-/// The endings with which a command has put nothing on a flash. Over flashes that hold a poll `vota` puts nothing where it is given other tables
-/// or another roll. Where the power stops such a call, what it leaves it might have left before.
+/// The endings with which a command has put nothing on a flash. Over flashes that hold a poll `vota` puts nothing where it is given tables or
+/// a roll of another SHA-256. Where the power stops such a call, what it leaves it might have left before.
 pub fn puts_nothing()
     ensures endings { IdleEndings }
     ensures others { OthersAreKeptOut }
@@ -122,7 +124,8 @@ pub fn six_files()
 {}
 
 /// Two polls of one load with the same moments, voters and votes leave the same flashes and the same files of results, in whatever order
-/// the voters came and whoever chose what. So do two sessions over one poll whose ballots are the same in another order.
+/// the voters came and whoever chose what. So do two sessions over one poll, with the same word OUT, that are Done, whose ballots are the same
+/// in another order and which leave it in the same phase with the same moments; the files, where it is sealed.
 pub fn no_order()
     ensures states { SameAtRest }
     ensures sessions { SameInAnyOrder }
