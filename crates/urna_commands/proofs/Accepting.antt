@@ -127,7 +127,7 @@ first_not_done (first_other has h) done = fault_not_done h done
 module _ (names : Emite) (files : Files) (c d : CabinetTold) (told : c.files ≡ Some files) (own : IsOwnName names.tables names.out) (m n : Told) where
   abbrev Emitted : Type 0
   Emitted = (t : TablesData) × (r : RollData) × (section : Section) × (s : State) × HasDocuments (Some files) names.tables names.roll t r
-      × ForSome m.flashes (AreFound t r section s) × IsAccepted names.tables names.out section d
+      × ForSome m.flashes (AreFound t r section s) × (opened : ℕ) × (closed : ℕ) × (s.phase ≡ phase.Sealed opened closed) × IsAccepted names.tables names.out section d
 
   emite_done : (answer : Status) → answer ≡ status.Done → EmiteEnds names c d m n answer → Emitted
   emite_done answer done (emit_refused why taken un) = absurd (first_not_done why done)
@@ -147,6 +147,9 @@ module _ (names : Emite) (files : Files) (c d : CabinetTold) (told : c.files ≡
         s,
         has,
         h.found,
+        opened,
+        closed,
+        sealed,
         accepted_after now names.tables names.out t section s opened closed (tables_stay names.tables t files now (both.others names.tables own) has.tables) h.one_of.listed h.state
             sealed both.report d is,
       )

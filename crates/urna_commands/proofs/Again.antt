@@ -1,4 +1,5 @@
 -- Any calls one after the other keep the votes of a poll
+use Rattle.state_store.specs.Held.{HeldByBoth}
 use Rattle.std.proofs.Common.{◌≡◌, ◌≢◌, ◌⊎◌, inl, inr, ℕ, ◌+◌, List, [], ◌∷◌, ◌++◌, Option, Some, None, length, refl, sym, ap, subst, ◌∙◌, arith, append_assoc, length-append}
 use Rattle.std.specs.Prelude.{false, replicate, slice_index_or}
 use Rattle.std.specs.Str.{bytes_eq}
@@ -60,7 +61,7 @@ use Rattle.urna_commands.specs.declared.status.Status.TheVariants as status
 use Rattle.urna_commands.proofs.Completion.{port_silent}
 use Rattle.urna_commands.proofs.Endings.{ends_as}
 use Rattle.urna_commands.proofs.Headline.{not_empty, not_foreign, of_given, results_silent, voted_shown, votes_are_kept, given_once}
-use Rattle.urna_commands.proofs.Idle.{Idles, idle_left, idle_stop, idle_trail, idles-append, told_idles, untouched_idles}
+use Rattle.urna_commands.proofs.Idle.{Idles, front_idles, idle_left, idle_stop, idle_trail, idles-append, told_idles, untouched_idles}
 use Rattle.urna_commands.proofs.Keeping.{found_roll}
 use Rattle.urna_commands.proofs.Leaving.{idle_endings, load_is_kept_out, opened_is_in_use, others_are_kept_out}
 use Rattle.urna_commands.proofs.Once.{refused_or_given}
@@ -177,6 +178,11 @@ ballots_led-push stays last = append-nil (ballots_in last)
 ballots_led-push (leads one rest) last =
     ap (λ (l : List Ballot). ballots_in one ++ l) (ballots_led-push rest last) ∙ sym (append_assoc (ballots_in one) (ballots_led rest) (ballots_in last))
 
+-- nothing was shown, or something
+none_or_some : (l : List ℕ) → (l ≡ []) ⊎ (l ≢ [])
+none_or_some [] = inl refl
+none_or_some (one ∷ l) = inr (λ is. absurd (cc))
+
 -- a poll is ready, or was opened
 ready_or_opened : (p : Phase) → (p ≡ phase.Ready) ⊎ (p ≢ phase.Ready)
 ready_or_opened phase.Ready = inl refl
@@ -292,13 +298,13 @@ module _ (t : TablesData) (r : RollData) (section : Section) (s : State) (origin
               traced = subst (λ (l : List Op). IsTraced m n start l) front traced;
             }) last out run done stop left (record { internal = internal; external = external; shown = refl })
 
-        poll : IsPollOf t r section (votes_kept.both.state ∷ []) left
-        poll =
-            poll_left t r section u votes_kept.both.state (votes_kept.both.state ∷ []) start left whole found votes_kept.frames votes_kept.both.is
-            (Contains-get_or (votes_kept.both.state ∷ []) 0 votes_kept.both.state (omega arith))
-
-        poll_state : poll.state ≡ votes_kept.both.state
-        poll_state = sym (found_once t r section poll.state votes_kept.both.state (clean_flashes a e) given.tables.valid poll.found votes_kept.both.is)
+        -- a state that both then hold is that of a poll of the section
+        found_of : (v : State) → HeldByBoth t (length r.titles) a e v → AreFound t r section v (clean_flashes a e)
+        found_of v held =
+            let poll : IsPollOf t r section (v ∷ []) left =
+            poll_left t r section u v (v ∷ []) start left whole found votes_kept.frames held (Contains-get_or (v ∷ []) 0 v (omega arith)) in
+            subst (λ (y : State). AreFound t r section y (clean_flashes a e))
+            (sym (found_once t r section poll.state v (clean_flashes a e) given.tables.valid poll.found held)) poll.found
 
         -- it was interrupted, or the whole text was shown
         ended_so : IsInterrupted x.status ⊎ (shown_by done ≡ text_in pieces)
@@ -354,10 +360,14 @@ module _ (t : TablesData) (r : RollData) (section : Section) (s : State) (origin
         late : AtNext a e
         unfolding votes_kept on
         late =
-            add before x start.internal.content start.external.content a e here votes_kept.both.state
-            (subst (λ (y : State). AreFound t r section y (clean_flashes a e)) poll_state poll.found)
-            (session of on) votes_kept.both.has
-            (frames_of origin a e (shown_by done) (frames_then origin start left [] here.frames votes_kept.frames))
+            let frames = frames_of origin a e (shown_by done) (frames_then origin start left [] here.frames votes_kept.frames) in
+            elim (none_or_some (shown_by done)) [
+              | inl none ↦
+                  add before x start.internal.content start.external.content a e here u (found_of u (votes_kept.before none)) (silent (shown ∙ none)) (also_none (ballot_lines t) u) frames
+              | inr some ↦
+                  add before x start.internal.content start.external.content a e here votes_kept.both.state (found_of votes_kept.both.state votes_kept.both.is)
+                  (session of (λ none. some (sym shown ∙ none)) on) votes_kept.both.has frames
+            ]
 
       within_stop : (done : List Op) → IsWithinSyncs ops → IsStop ops done → IsStop both_synced done
       within_stop done (inl nothing) stop = nothing_stop done (subst (λ (l : List Op). IsStop l done) nothing stop)
@@ -439,7 +449,7 @@ module _ (t : TablesData) (r : RollData) (section : Section) (s : State) (origin
 
         others_step : GivesOthers t r x.files names → AtNext a e
         others_step gives =
-            idle_here (then_told (others_are_kept_out t r section here.state start ready.tables ready.roll found names x.files gives is.cabinet is.cabinet_after is.machine is.ends.between is.answer ends is.told is.traced.flashes))
+            idle_here (then_told (front_idles is.machine is.ends.between (others_are_kept_out t r section here.state start ready.tables ready.roll found names x.files gives is.cabinet is.cabinet_after is.machine is.ends.between is.answer ends is.told is.traced.flashes)))
             (λ es of. gives t r es (given_of es of) (refl, refl))
 
         these_step : (es : List Event) → IsGiven (Some x.files) names t r es → AtNext a e
@@ -542,4 +552,4 @@ pub next_is_safe : NextIsSafe
 next_is_safe t r section s start last calls ready are =
     let kept = contents_kept t r section s start ready calls last (all_kept t r section s start ready [] start last calls (kept_first t r section s start ready) are) in
     let found : AreFound t r section kept.state last = record { loaded = kept.found.loaded; held = kept.found.held } in
-    (kept.state, kept.led, found, votes_are_kept t r section kept.state last found)
+    (kept.state, kept.led, kept.has, found, votes_are_kept t r section kept.state last found)

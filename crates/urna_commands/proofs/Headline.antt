@@ -1,5 +1,5 @@
 -- However a call of vota ends, what a power cut leaves keeps its votes
-use Rattle.std.proofs.Common.{◌≡◌, ◌⊎◌, inl, inr, ℕ, List, [], ◌∷◌, ◌++◌, Option, Some, length, refl, sym, ap, subst, ◌∙◌}
+use Rattle.std.proofs.Common.{◌≡◌, ◌⊎◌, inl, inr, ℕ, List, [], ◌∷◌, ◌++◌, Option, Some, length, sym, ap, subst, ◌∙◌}
 use Rattle.std.specs.List.{concat}
 use Rattle.std.proofs.lemmas.List.{append-nil}
 use Rattle.urna_outside.specs.Cabinet.{CabinetTold, Files}
@@ -12,7 +12,7 @@ use Rattle.urna_outside.specs.declared.device.Dev.TheVariants as dev
 use Rattle.urna_outside.specs.declared.device.Port.{Port}
 use Rattle.urna_outside.specs.declared.device.Port.TheVariants as port
 use Rattle.urna_outside.proofs.Courses.{in_shows, stops_silent}
-use Rattle.urna_outside.proofs.Doing.{does-append, does_nothing, shown_by-append, told_after}
+use Rattle.urna_outside.proofs.Doing.{does-append, does_nothing, shown_by-append}
 use Rattle.urna_outside.proofs.Keeping.{synced_clean}
 use Rattle.urna_outside.proofs.Stops.{stops_none}
 use Rattle.urna_outside.proofs.Traced.{traced_is}
@@ -21,15 +21,12 @@ use Rattle.election_tables.specs.TablesData.{IsTables, TablesData}
 use Rattle.election_tables.specs.declared.tables.sections.Section.{Section}
 use Rattle.key_script.specs.Script.{events_of}
 use Rattle.key_script.specs.declared.keys.Event.{Event}
-use Rattle.vote_kinds.specs.Ballot.{ballot_lines}
-use Rattle.image_codec.specs.Also.{HasAlso}
 use Rattle.image_codec.specs.State.{State}
 use Rattle.state_store.specs.Calls.{AreFound, FromSyncs, IsUntouched, KeepFrames, Recovers, both_synced}
 use Rattle.state_store.specs.Held.{HeldByBoth, bodies_of_both}
 use Rattle.state_store.specs.Load.{IsSectionOf}
 use Rattle.state_store.specs.Played.{Survives}
-use Rattle.state_store.specs.Rest.{AreAtRest}
-use Rattle.state_store.specs.Pieces.{lines_in, state_after, text_in}
+use Rattle.state_store.specs.Pieces.{lines_in, text_in}
 use Rattle.state_store.specs.Load.{load_of}
 use Rattle.state_store.specs.declared.load.Load.{Load}
 use Rattle.state_store.proofs.Going.{found_once, loaded_once, loaded_or_foreign}
@@ -45,12 +42,11 @@ use Rattle.station.specs.Text.{session_pieces}
 use Rattle.station.specs.declared.station.StartError.{StartError}
 use Rattle.station.specs.declared.station.StartError.TheVariants as starting
 use Rattle.station.proofs.Performing.{tables_setting}
-use Rattle.station.proofs.Casting.{run_counts, run_last}
 use Rattle.station.proofs.RunLaws.{run_exists, run_unique}
 use Rattle.urna_commands.specs.Command.{Vota}
 use Rattle.urna_commands.specs.Errors.{port_status, start_status}
 use Rattle.urna_commands.specs.FaultLines.{Tells, fault_text}
-use Rattle.urna_commands.specs.Headline.{AllAreCounted, KeepsVotes, KeysHaveRun, VotesAreKept, session_of}
+use Rattle.urna_commands.specs.Headline.{KeepsVotes, KeysHaveRun, VotesAreKept, session_of}
 use Rattle.urna_commands.specs.Putting.{PutsResults, no_results, results_not_made, results_not_put, results_put}
 use Rattle.urna_commands.specs.Vota.{HasVoted, HasVotedTo, IsGiven, VotaEnds, cut, session_held, no_cabinet, no_memory, not_started, refused, IsRefused}
 use Rattle.urna_commands.specs.declared.status.Doc.TheVariants as doc
@@ -129,22 +125,7 @@ module _ (t : TablesData) (r : RollData) (s last : State) (es : List Event) (out
       let again : IsRun (setting_of t r.titles) s es voted.last voted.out = subst (λ (x : State). IsRun (setting_of t r.titles) x es voted.last voted.out) here.0 voted.run in
       (here.0, (run_unique (setting_of t r.titles) s voted.last last es voted.out out (tables_setting t r.titles tables) again run).1)
 
-  -- both flashes are at rest with all ballots in the end
-  pub voted_counted : HasVoted t r es m n → HasAlso (ballot_lines t) s (ballots_of run) last × (now : Flashes) × (n.flashes ≡ Some now) × AreAtRest t (load_of t r section) last now
-  voted_counted voted =
-      let same = voted_same voted in
-      let end : state_after voted.first (session_pieces t voted.out) ≡ last =
-      ap (λ (x : State). state_after x (session_pieces t voted.out)) same.0 ∙ ap (λ (o : List Output). state_after s (session_pieces t o)) same.1 ∙ run_last t r.titles roll run in
-      let told = told_after (ops_of voted) m n start (voted_does voted) traced.flashes in (
-        run_counts t r.titles roll run,
-        after (ops_of voted) start,
-        told,
-        subst (λ (load : Load). AreAtRest t load last (after (ops_of voted) start))
-            (same_load t r tables section s m start found traced.flashes voted.load voted.first voted.opens.between voted.opens.recovered)
-            (subst (λ (y : State). AreAtRest t voted.load y (after (ops_of voted) start)) end (voted.put.rest (after (ops_of voted) start) told)),
-      )
-
-  -- and its whole text was shown
+  -- whose whole text was shown
   pub voted_shown : HasVoted t r es m n → shown_by rest ≡ text_in (session_of t s out)
   voted_shown voted =
       let recovery = voted.opens.recovered.ran in
@@ -253,20 +234,6 @@ results_silent word t section s c d _ b n (results_put sealed put) tells = tells
 results_silent word t section s c d _ b n (results_not_made sealed same) tells = tells
 results_silent word t section s c d _ b n (results_not_put sealed stop) tells = tells
 
--- no error is Done
-pub start_not_done : (e : StartError) → start_status e ≡ status.Done → ⊥
-start_not_done starting.Memory is = absurd (cc)
-start_not_done (starting.Port port.Internal) is = absurd (cc)
-start_not_done (starting.Port port.External) is = absurd (cc)
-start_not_done (starting.Port port.Display) is = absurd (cc)
-start_not_done (starting.Foreign e) is = absurd (cc)
-start_not_done starting.NoImage is = absurd (cc)
-
-pub port_not_done : (p : Port) → port_status p ≡ status.Done → ⊥
-port_not_done port.Internal is = absurd (cc)
-port_not_done port.External is = absurd (cc)
-port_not_done port.Display is = absurd (cc)
-
 module _ (names : Vota) (files : Files) (c d : CabinetTold) (told : c.files ≡ Some files) (t : TablesData) (r : RollData) (es : List Event) (given : IsGiven (Some files) names t r es)
     (section : Section) (s last : State) (out : List Output) (run : IsRun (setting_of t r.titles) s es last out) (m b n : Told) (start : Flashes) (rest : List Op)
     (found : AreFound t r section s start) (traced : IsTraced m n start (both_synced ++ rest)) where
@@ -304,27 +271,9 @@ module _ (names : Vota) (files : Files) (c d : CabinetTold) (told : c.files ≡ 
       voted_kept t r s last es out run tables section m n start rest found traced
       (at_end (λ x. HasVoted t r es m x) (results_silent _ _ _ _ _ _ _ b n put tells) (of_given files names c told t u r q es fs (λ x y z. HasVoted x y z m b) given also h))
 
-  -- with Done
-  abbrev Counted : Type 0
-  Counted = HasAlso (ballot_lines t) s (ballots_of run) last × (now : Flashes) × (n.flashes ≡ Some now) × AreAtRest t (load_of t r section) last now
-
-  pub vota_counted : (answer : Status) → answer ≡ status.Done → VotaEnds names c d m b answer → Tells (fault_text answer) b n → Counted
-  vota_counted answer ok (refused bad taken un) tells = absurd (refused_or_given files names answer t r es (subst (λ (o : Option Files). IsRefused o names answer) told bad) given)
-  vota_counted _ ok (no_memory taken un) tells = absurd (cc)
-  vota_counted _ ok (no_cabinet taken un) tells = absurd (cc)
-  vota_counted _ ok (not_started e also taken h) tells = absurd (start_not_done e ok)
-  vota_counted _ ok (cut p also taken h) tells = absurd (port_not_done p ok)
-  vota_counted _ ok (session_held {t = u} {r = q} {es = fs} after also taken h one_of state put) tells =
-      voted_counted t r s last es out run tables section m n start rest found traced
-      (at_end (λ x. HasVoted t r es m x) (results_silent _ _ _ _ _ _ _ b n put tells) (of_given files names c told t u r q es fs (λ x y z. HasVoted x y z m b) given also h))
-
 pub votes_are_kept : VotesAreKept
 votes_are_kept t r section s start found names c d m n answer es ops is last out run =
     vota_kept names is.files c d is.call.cabinet t r es is.call.given section s last out run m is.call.between n start ops found is.traced answer is.call.ends is.call.told
-
-pub all_are_counted : AllAreCounted
-all_are_counted names c d m n t r es start ops is section s found last out run =
-    vota_counted names is.files c d is.call.cabinet t r es is.call.given section s last out run m is.call.between n start ops found is.traced status.Done refl is.call.ends is.call.told
 
 pub keys_have_run : KeysHaveRun
 keys_have_run files names t r es s given = run_exists (setting_of t r.titles) s es (tables_setting t r.titles given.tables.valid)

@@ -1,4 +1,5 @@
 -- Calls that put nothing on a flash
+use Rattle.urna_outside.proofs.Doing.{does_nothing}
 use Rattle.urna_commands.specs.Errors.{load_status, port_status, start_status}
 use Rattle.urna_commands.specs.Putting.{PutsResults, no_results, results_not_made, results_not_put, results_put}
 use Rattle.urna_outside.specs.declared.device.Port.{Port}
@@ -25,7 +26,7 @@ use Rattle.turnout.specs.declared.phase.Phase.TheVariants as phase
 use Rattle.image_codec.specs.Encoding.{IsEncoding, encode, encode1, phase_byte, written, written1}
 use Rattle.image_codec.specs.Layout.{phase_offset}
 use Rattle.image_codec.specs.State.{State}
-use Rattle.state_store.specs.Calls.{AreFound, FromSyncs, Recovers, both_synced, FailsToLoad, IsUntouched, Loads}
+use Rattle.state_store.specs.Calls.{AreFound, FromSyncs, Recovers, both_synced, FailsToLoad, IsUntouched, Loads, IsFrontOfSyncs, IsSynced}
 use Rattle.state_store.specs.Held.{HasFrameOf, Hold, open_bodies, open_body}
 use Rattle.state_store.specs.Load.{IsSectionOf, device_byte, header, header_zeros, load_of, magic}
 use Rattle.state_store.specs.Rest.{IsUsed, IsInUse}
@@ -39,13 +40,13 @@ use Rattle.urna_commands.specs.Confere.{ConfereEnds, check_no_cabinet, check_no_
 use Rattle.urna_commands.specs.Ending.{CommandEnds}
 use Rattle.urna_commands.specs.Ensaio.{EnsaioEnds, not_rehearsed, rehearsal_not_put, rehearsal_not_told, rehearsed}
 use Rattle.urna_commands.specs.FaultLines.{fault_text}
-use Rattle.urna_commands.specs.Idle.{AreIdle, GivesOthers, IdleEndings, IdleLeavesNoMore, IsIdleEnding, IsNoneOf, LoadIsKeptOut, OpenedIsInUse, OthersAreKeptOut}
+use Rattle.urna_commands.specs.Idle.{GivesOthers, IdleEndings, IdleLeavesNoMore, IsIdleEnding, IsNoneOf, LoadIsKeptOut, OpenedIsInUse, OthersAreKeptOut}
 use Rattle.urna_commands.specs.Totaliza.{TotalizaEnds, list_no_cabinet, list_no_memory, list_refused, report_no_cabinet, report_no_memory, report_refused, totalled, totals_not_told, verdict_lines, verdict_not_told}
 use Rattle.urna_commands.specs.Verdicts.{verdict_line}
 use Rattle.urna_commands.specs.Vota.{IsGiven, VotaEnds, cut, no_cabinet, no_memory, not_started, refused, session_held}
 use Rattle.urna_commands.specs.declared.status.Status.{Status}
 use Rattle.urna_commands.proofs.Idle.{Idles, cut_idles, emite_idles, idle_left, idle_stop, idles-append, shown_idles, synced_idles, told_idles, untouched_idles}
-use Rattle.urna_commands.proofs.NeverBusy.{carga_does, within_idle}
+use Rattle.urna_commands.proofs.NeverBusy.{carga_does}
 
 -- ---- commands that have no flash
 
@@ -248,32 +249,40 @@ module _ (names : Vota) (files : Files) (c d : CabinetTold) (told : c.files ≡ 
   not_recovered : (u : TablesData) (q : RollData) (es : List Event) (load : Load) (v : State) (between : Told) → IsGiven c.files names u q es → IsRecovered u q load v m between → ⊥
   not_recovered u q es load v between given recovered = clash u q es load.section v given (recovered.ran.2.2.stops start flashes).0
 
-  flash_idles : (u : TablesData) (q : RollData) (es : List Event) → IsGiven c.files names u q es
-      → Runs (FromSyncs (λ ops. (ops ≡ []) ⊎ ((other : Section) × (v : State) × IsSectionOf u q other × Recovers u q other v m ops))) m b → Idles m b
-  flash_idles u q es given (ops, does, inl within) = (ops, does, within_idle ops within)
-  flash_idles u q es given (ops, does, inr (rest, is, inl none)) =
-      (ops, does, subst AreIdle (sym (is ∙ ap (λ (l : List Op). both_synced ++ l) none)) (tt, (tt, tt)))
-  flash_idles u q es given (ops, does, inr (rest, is, inr (other, v, fits, recovers))) = absurd (clash u q es other v given (recovers.stops start flashes).0)
+  abbrev Fronts : Type 0
+  Fronts = Runs IsFrontOfSyncs m b
 
-  start_idles : (u : TablesData) (q : RollData) (es : List Event) (e : StartError) → IsGiven c.files names u q es → FailsToStart u q m b e → Idles m b
-  start_idles u q es starting.Memory given h = untouched_idles m b h
-  start_idles u q es (starting.Port port.Internal) given h = flash_idles u q es given h.1
-  start_idles u q es (starting.Port port.External) given h = flash_idles u q es given h.1
-  start_idles u q es (starting.Port port.Display) given h = absurd (not_recovered u q es h.load h.state h.between given h.recovered)
-  start_idles u q es (starting.Foreign e) given h = synced_idles m b h.0
-  start_idles u q es starting.NoImage given h = synced_idles m b h.0
+  untouched_front : IsUntouched m b → Fronts
+  untouched_front same = subst (Runs IsFrontOfSyncs m) (sym same) ([], does_nothing m, inl (inl refl))
 
-  others_idle : (answer : Status) → VotaEnds names c d m b answer → Idles m b
-  others_idle _ (refused why taken un) = untouched_idles m b un
-  others_idle _ (no_memory taken un) = untouched_idles m b un
-  others_idle _ (no_cabinet taken un) = untouched_idles m b un
-  others_idle _ (not_started {t = u} {r = q} {es} e given taken h) = start_idles u q es e given h
-  others_idle _ (cut {t = u} {r = q} {es} p given taken h) = absurd (not_recovered u q es h.load h.first h.opens.between given h.opens.recovered)
-  others_idle _ (session_held {t = u} {r = q} {es} after given taken h one_of state put) = absurd (not_recovered u q es h.load h.first h.opens.between given h.opens.recovered)
+  synced_front : IsSynced m b → Fronts
+  synced_front h = (both_synced, h.does, inr refl)
+
+  flash_front : (u : TablesData) (q : RollData) (es : List Event) → IsGiven c.files names u q es
+      → Runs (FromSyncs (λ ops. (ops ≡ []) ⊎ ((other : Section) × (v : State) × IsSectionOf u q other × Recovers u q other v m ops))) m b → Fronts
+  flash_front u q es given (ops, does, inl within) = (ops, does, inl within)
+  flash_front u q es given (ops, does, inr (rest, is, inl none)) = (ops, does, inr (is ∙ ap (λ (l : List Op). both_synced ++ l) none))
+  flash_front u q es given (ops, does, inr (rest, is, inr (other, v, fits, recovers))) = absurd (clash u q es other v given (recovers.stops start flashes).0)
+
+  start_front : (u : TablesData) (q : RollData) (es : List Event) (e : StartError) → IsGiven c.files names u q es → FailsToStart u q m b e → Fronts
+  start_front u q es starting.Memory given h = untouched_front h
+  start_front u q es (starting.Port port.Internal) given h = flash_front u q es given h.1
+  start_front u q es (starting.Port port.External) given h = flash_front u q es given h.1
+  start_front u q es (starting.Port port.Display) given h = absurd (not_recovered u q es h.load h.state h.between given h.recovered)
+  start_front u q es (starting.Foreign e) given h = synced_front h.0
+  start_front u q es starting.NoImage given h = synced_front h.0
+
+  others_front : (answer : Status) → VotaEnds names c d m b answer → Fronts
+  others_front _ (refused why taken un) = untouched_front un
+  others_front _ (no_memory taken un) = untouched_front un
+  others_front _ (no_cabinet taken un) = untouched_front un
+  others_front _ (not_started {t = u} {r = q} {es} e given taken h) = start_front u q es e given h
+  others_front _ (cut {t = u} {r = q} {es} p given taken h) = absurd (not_recovered u q es h.load h.first h.opens.between given h.opens.recovered)
+  others_front _ (session_held {t = u} {r = q} {es} after given taken h one_of state put) = absurd (not_recovered u q es h.load h.first h.opens.between given h.opens.recovered)
 
 pub others_are_kept_out : OthersAreKeptOut
 others_are_kept_out t r section s start tables roll found names files gives c d m n answer ends told flashes =
-    others_idle names files c d told t r section s tables roll start found gives m n flashes answer ends
+    others_front names files c d told t r section s tables roll start found gives m n flashes answer ends
 
 -- ---- by the ending
 

@@ -164,7 +164,7 @@ clean_free : (left again : Left) → FreeAt left → IsLeft (clean_flashes left.
 clean_free left again at is dev.Internal = subst (λ (y : List ℕ). ¬ IsInUse y) (sym (clean_image (clean_flash left.internal) again.internal (clean_is_clean left.internal) is.internal)) (at dev.Internal)
 clean_free left again at is dev.External = subst (λ (y : List ℕ). ¬ IsInUse y) (sym (clean_image (clean_flash left.external) again.external (clean_is_clean left.external) is.external)) (at dev.External)
 
-module _ (start next : Flashes) (x : Call) (names : Carga) (free : StayFree start) (is : IsCall start x next) (command : command_of x.words ≡ Some (ToLoad names)) where
+module _ (start next : Flashes) (x : Call) (names : Carga) (is : IsCall start x next) (command : command_of x.words ≡ Some (ToLoad names)) where
   ends : CargaEnds names is.cabinet is.cabinet_after is.machine is.ends.between is.answer
   ends = ends_as x.words (ToLoad names) is.cabinet is.cabinet_after is.machine is.ends.between is.answer command is.ends.command
 
@@ -188,35 +188,6 @@ module _ (start next : Flashes) (x : Call) (names : Carga) (free : StayFree star
     | inr run ↦ inr (run.2.0 ++ run.2.1, sym (traced_is is.machine is.machine_after start is.ops run.0 is.traced run.1) ∙ run.2.2)
   ]
 
-  free_idle : (done : List Op) (left : Left) → AreIdle done → IsLeft (after done start) (shown_by done) left → FreeAt left
-  free_idle done left idle at =
-      let before = idle_left done start (shown_by done) left idle at in
-      free (record { internal = left.internal; external = left.external; shown = [] }) (record { internal = before.internal; external = before.external; shown = refl })
-
-  free_here : AreFree start
-  free_here = free_content start [] (at_end start [] FreeAt (stops_none start FreeAt free))
-
-  -- at each stop of the call neither is in use
-  free_stops : AtEachStop start is.ops FreeAt
-  free_stops done stop left at = elim does [
-    | inl idle ↦ free_idle done left (idle_stop is.ops done idle stop) at
-    | inr (rest, front) ↦ elim (stop-append both_synced rest done (subst (λ (l : List Op). IsStop l done) front stop)) [
-      | inl before_them ↦ free_idle done left (idle_stop both_synced done (tt, (tt, tt)) before_them) at
-      | inr (more, all, late) ↦
-          let there : IsLeft (after more (after both_synced start)) (shown_by more) left =
-          subst (λ (l : List Op). IsLeft (after l start) (shown_by l) left) all at in
-          load_leaves_free x.words is.cabinet is.cabinet_after is.machine is.machine_after is.answer is.ends names command start rest
-          (subst (λ (l : List Op). IsTraced is.machine is.machine_after start l) front is.traced) free_here more late left there
-    ]
-  ]
-
-  free_goes : (done : List Op) (over : Option Status) (after_it : Flashes) → IsNext start is.ops is.answer done over after_it → StayFree after_it
-  free_goes done _ _ ended left at =
-      free_stops is.ops (stop_whole is.ops) (record { internal = left.internal; external = left.external; shown = shown_by is.ops })
-      (record { internal = at.internal; external = at.external; shown = refl })
-  free_goes done _ _ (cut_behind {left} at) again is_left = clean_free left again (free_stops is.ops (stop_whole is.ops) left at) is_left
-  free_goes done _ _ (cut {left} stop at) again is_left = clean_free left again (free_stops done stop left at) is_left
-
   abbrev Anew : Flashes → Type 0
   Anew flashes = (t : TablesData) (r : RollData) → HasDocuments (Some x.files) names.tables names.roll t r
       → (section : Section) × IsSectionAsked names t r section × AreReady t r section (ready_state t (length r.titles)) flashes
@@ -234,6 +205,36 @@ module _ (start next : Flashes) (x : Call) (names : Carga) (free : StayFree star
       (section, of, ready_left t r section (ready_state t (length r.titles)) (after is.ops start) (shown_by is.ops) left made at)
   anew done _ _ (cut stop at) well t r given = absurd (cc)
 
+  module _ (free : StayFree start) where
+    free_idle : (done : List Op) (left : Left) → AreIdle done → IsLeft (after done start) (shown_by done) left → FreeAt left
+    free_idle done left idle at =
+        let before = idle_left done start (shown_by done) left idle at in
+        free (record { internal = left.internal; external = left.external; shown = [] }) (record { internal = before.internal; external = before.external; shown = refl })
+
+    free_here : AreFree start
+    free_here = free_content start [] (at_end start [] FreeAt (stops_none start FreeAt free))
+
+    -- at each stop of the call neither is in use
+    free_stops : AtEachStop start is.ops FreeAt
+    free_stops done stop left at = elim does [
+      | inl idle ↦ free_idle done left (idle_stop is.ops done idle stop) at
+      | inr (rest, front) ↦ elim (stop-append both_synced rest done (subst (λ (l : List Op). IsStop l done) front stop)) [
+        | inl before_them ↦ free_idle done left (idle_stop both_synced done (tt, (tt, tt)) before_them) at
+        | inr (more, all, late) ↦
+            let there : IsLeft (after more (after both_synced start)) (shown_by more) left =
+            subst (λ (l : List Op). IsLeft (after l start) (shown_by l) left) all at in
+            load_leaves_free x.words is.cabinet is.cabinet_after is.machine is.machine_after is.answer is.ends names command start rest
+            (subst (λ (l : List Op). IsTraced is.machine is.machine_after start l) front is.traced) free_here more late left there
+      ]
+    ]
+
+    free_goes : (done : List Op) (over : Option Status) (after_it : Flashes) → IsNext start is.ops is.answer done over after_it → StayFree after_it
+    free_goes done _ _ ended left at =
+        free_stops is.ops (stop_whole is.ops) (record { internal = left.internal; external = left.external; shown = shown_by is.ops })
+        (record { internal = at.internal; external = at.external; shown = refl })
+    free_goes done _ _ (cut_behind {left} at) again is_left = clean_free left again (free_stops is.ops (stop_whole is.ops) left at) is_left
+    free_goes done _ _ (cut {left} stop at) again is_left = clean_free left again (free_stops done stop left at) is_left
+
 pub load_may_follow : LoadMayFollow
-load_may_follow start next x names free is command =
-    (free_goes start next x names free is command is.done x.status next is.goes_on, λ well. anew start next x names free is command is.done x.status next is.goes_on well)
+load_may_follow start next x names is command =
+    (λ free. free_goes start next x names is command free is.done x.status next is.goes_on, λ well. anew start next x names is command is.done x.status next is.goes_on well)

@@ -37,7 +37,7 @@ run_opened (visits before e w visit run) opened = run_opened run (visit_opened v
 run_opened (cut_off before e w on) opened = opened
 
 led_opened : {t : TablesData} {r : RollData} {x : Call} {s u : State} → LeadsTo t r x s u → s.phase ≢ phase.Ready → u.phase ≢ phase.Ready
-led_opened (session of on) opened = run_opened on.after.run opened
+led_opened (session of begun on) opened = run_opened on.after.run opened
 led_opened (other others) opened = opened
 led_opened (silent none) opened = opened
 

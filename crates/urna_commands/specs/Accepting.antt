@@ -38,7 +38,7 @@ IsAccepted tables out section told =
 abbrev pub IsOwnName : List ℕ → List ℕ → Type 0
 IsOwnName tables out = AllByRecursion (λ own. tables ≢ own) (result_names out)
 
--- Where vota is Done and its run leaves the poll sealed, the report that lies there then is accepted;
+-- Where vota is Done, its run leaves the poll sealed, and the tables have a name of their own, the report that lies there then is accepted;
 abbrev pub VotedIsAccepted : Type 0
 VotedIsAccepted =
     (names : Vota) (c d : CabinetTold) (m n : Told) (t : TablesData) (r : RollData) (es : List Event) (section : Section) (s : State) (files : Files)
@@ -46,9 +46,9 @@ VotedIsAccepted =
     → (last : State) (out : List Output) → IsRun (setting_of t r.titles) s es last out → (opened closed : ℕ) → last.phase ≡ phase.Sealed opened closed
     → IsOwnName names.tables names.out → IsAccepted names.tables names.out section d
 
--- and where emite is Done, the one that it put, of the section whose sealed poll the flashes hold.
+-- and so is the one that emite put where it is Done, of a section whose sealed poll the flashes hold, where they are told.
 abbrev pub EmittedIsAccepted : Type 0
 EmittedIsAccepted =
     (names : Emite) (c d : CabinetTold) (m n : Told) → EmiteEnds names c d m n status.Done → (files : Files) → c.files ≡ Some files → IsOwnName names.tables names.out
     → (t : TablesData) × (r : RollData) × (section : Section) × (s : State) × HasDocuments (Some files) names.tables names.roll t r × ForSome m.flashes (AreFound t r section s)
-    × IsAccepted names.tables names.out section d
+    × (opened : ℕ) × (closed : ℕ) × (s.phase ≡ phase.Sealed opened closed) × IsAccepted names.tables names.out section d

@@ -12,7 +12,7 @@ use Rattle.election_tables.specs.declared.tables.sections.Section.{Section}
 use Rattle.key_script.specs.declared.keys.Event.{Event}
 use Rattle.turnout.specs.declared.phase.Phase.TheVariants as phase
 use Rattle.image_codec.specs.State.{State}
-use Rattle.state_store.specs.Calls.{AreFound, IsUntouched}
+use Rattle.state_store.specs.Calls.{AreFound, IsUntouched, IsFrontOfSyncs}
 use Rattle.state_store.specs.Rest.{IsInUse}
 use Rattle.urna_commands.specs.Carga.{CargaEnds}
 use Rattle.urna_commands.specs.Command.{Carga, Command, ToCheck, ToEmit, ToLoad, ToRehearse, ToTotal, ToVote, Vota, command_of}
@@ -86,9 +86,10 @@ abbrev pub GivesOthers : TablesData → RollData → Files → Vota → Type 0
 GivesOthers t r files names =
     (u : TablesData) (q : RollData) (es : List Event) → IsGiven (Some files) names u q es → ¬ ((u.digest ≡ t.digest) × (q.digest ≡ r.digest))
 
--- Over flashes that hold a poll of these tables and this roll vota puts nothing where it is given others, of another hash.
+-- Over flashes that hold a poll of these tables and this roll vota does no more than the two opening syncs where it is given others, of another
+-- hash: it puts nothing, and shows nothing but the line that tells a fault.
 abbrev pub OthersAreKeptOut : Type 0
 OthersAreKeptOut =
     (t : TablesData) (r : RollData) (section : Section) (s : State) (start : Flashes) → IsTables t → IsRoll r → AreFound t r section s start
     → (names : Vota) (files : Files) → GivesOthers t r files names
-    → (c d : CabinetTold) (m n : Told) (answer : Status) → VotaEnds names c d m n answer → c.files ≡ Some files → m.flashes ≡ Some start → Runs AreIdle m n
+    → (c d : CabinetTold) (m n : Told) (answer : Status) → VotaEnds names c d m n answer → c.files ≡ Some files → m.flashes ≡ Some start → Runs IsFrontOfSyncs m n

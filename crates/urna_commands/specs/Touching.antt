@@ -37,7 +37,7 @@ pub record Touches (does : List Op → Type 0) (own : List (List ℕ)) (most : �
   pub few : made ≤ most
   pub calls : d.calls ≡ calls_made made c.calls
 
--- how many reports there are to take: those that the list names, or none where it couldn't be read
+-- how many reports there are to take: none, or as many as a list that can be read names
 abbrev pub AreToTake : CabinetTold → Totaliza → ℕ → Type 0
 AreToTake c names k = (k ≡ 0) ⊎ ((t : TablesData) × (listed : List (List ℕ)) × IsListed c.files names t listed × (k ≡ length listed))
 

@@ -4,10 +4,10 @@
 //! files that are put (`specs/Putting.antt`, `specs/Ensaio.antt`).
 ghost use Rattle.urna_commands.specs.Accepting.{EmittedIsAccepted, VotedIsAccepted};
 ghost use Rattle.urna_commands.specs.Again.{CallsKeepVotes, LoadMakesReady, LoadMayFollow, NextIsSafe, OpenedStays};
-ghost use Rattle.urna_commands.specs.AtRest.{DoneIsWhole, LateFaultIsSealed, RestsWhereNoFlashFailed, SameAtRest, SameInAnyOrder};
+ghost use Rattle.urna_commands.specs.AtRest.{AllAreCounted, DoneIsWhole, LateFaultIsSealed, RestsWhereNoFlashFailed, SameAtRest, SameInAnyOrder};
 ghost use Rattle.urna_commands.specs.Completion.{CompletesWhereItCan, TellsOfRisenCounts};
 ghost use Rattle.urna_commands.specs.Ensaio.{OnlySixChange, SixAreThere};
-ghost use Rattle.urna_commands.specs.Headline.{AllAreCounted, AloneFromTheFirstShow, KeysHaveRun, VotesAreKept};
+ghost use Rattle.urna_commands.specs.Headline.{AloneFromTheFirstShow, KeysHaveRun, VotesAreKept};
 ghost use Rattle.urna_commands.specs.Idle.{IdleEndings, IdleLeavesNoMore, LoadIsKeptOut, OpenedIsInUse, OthersAreKeptOut};
 ghost use Rattle.urna_commands.specs.Laws.{FoundOnce, OneTotalStatus, RefusedEndSo, RefusedOnce, RefusedOrGiven, TotalEndsSo, VerdictEndsSo};
 ghost use Rattle.urna_commands.specs.NeverBusy.{LoadIsNotBusy, LoadLeavesFree};
@@ -63,7 +63,8 @@ pub fn votes_are_kept()
 /// them, and at most one more of each that was stopped or that a flash or the display failed. Two things are asked of the calls: no `carga`
 /// writes while the poll is still ready, and no `vota` gets other tables or another roll of the same SHA-256. A poll that was opened stays one
 /// that was, and no `carga` takes it away. The next call finds such a poll, and the headline holds of it. Where neither flash is in use,
-/// whatever a power cut leaves of them, as a load leaves them, a `carga` leaves such flashes again, and with one that is Done the list begins anew.
+/// whatever a power cut leaves of them, as a load leaves them, a `carga` leaves such flashes again, ended or stopped. With each `carga` that is
+/// Done the list begins anew.
 pub fn again_and_again()
     ensures kept { CallsKeepVotes }
     ensures next { NextIsSafe }
@@ -112,7 +113,8 @@ pub fn what_is_touched()
     ensures { EachTouchesAtMost }
 {}
 
-/// Where both files of results were put, both are in the cabinet, under two names, and all other names are as before.
+/// Where both files of results were put into a cabinet that tells its files, both are there, each under its name, and all other names are as
+/// before.
 pub fn both_files()
     ensures { BothAreThere }
 {}
@@ -124,8 +126,8 @@ pub fn six_files()
 {}
 
 /// Two polls of one load with the same moments, voters and votes leave the same flashes and the same files of results, in whatever order
-/// the voters came and whoever chose what. So do two sessions over one poll, with the same word OUT, that are Done, whose ballots are the same
-/// in another order and which leave it in the same phase with the same moments; the files, where it is sealed.
+/// the voters came and whoever chose what. So do two sessions over one poll that are Done, whose ballots are the same in another order and
+/// which leave it in the same phase with the same moments; the files, where it is sealed and the word OUT is the same.
 pub fn no_order()
     ensures states { SameAtRest }
     ensures sessions { SameInAnyOrder }
