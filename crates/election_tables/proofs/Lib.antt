@@ -14,6 +14,7 @@ mod RollLines
 pub mod Reading
 pub mod Determined
 pub mod Named
+pub mod LinePanels
 pub mod Places
 pub mod PlacesOfPanels
 mod Numbers

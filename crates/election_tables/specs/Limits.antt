@@ -5,6 +5,10 @@ use Rattle.std.specs.Prelude.{ℕ}
 abbrev pub most_offices : ℕ
 most_offices = 8
 
+-- the most lines of a ballot
+abbrev pub most_lines : ℕ
+most_lines = 9
+
 -- the most parties
 abbrev pub most_parties : ℕ
 most_parties = 40

@@ -1,6 +1,6 @@
 -- What contracts see of the tables, and what is so of all tables that were read.
-use Rattle.std.specs.Prelude.{◌≡◌, ◌≢◌, ℕ, ◌≤◌, List, [], length, map, slice_get, slice_index, Option, Some, option_map, IsTrue, ◌==◌, ◌&&◌}
-use Rattle.std.specs.List.{All, AllPairs, find, list_any, position, sum_by}
+use Rattle.std.specs.Prelude.{◌≡◌, ◌≢◌, ℕ, ◌≤◌, List, [], length, map, replicate, slice_get, slice_index, Option, Some, option_map, IsTrue, ◌==◌, ◌&&◌}
+use Rattle.std.specs.List.{All, AllPairs, find, flat_map, list_any, position, range_with_len, sum_by}
 use Rattle.std.specs.List.Sorted.{IsStrictlyIncreasing, IsStrictlySortedBy}
 use Rattle.std.specs.Option.{option_map_or}
 use Rattle.std.specs.Ordering.{nat_cmp, ordering_then}
@@ -36,12 +36,17 @@ candidates_at panel t = option_map_or (λ p. p.candidates) (slice_get t.panels p
 abbrev pub places_in : Panel → ℕ
 places_in p = 1
 
--- the same of each panel of the tables, and of the panel of a number, 0 where there is no such panel
+-- the same of each panel of the tables
 abbrev pub places_of : TablesData → List ℕ
 places_of t = map places_in t.panels
 
+-- and of the panel of a number, 0 where there is no such panel
 abbrev pub places_at : TablesData → ℕ → ℕ
 places_at t panel = slice_index (places_of t) panel
+
+-- the panel of each line of the ballot: for each panel one line for each vote that a voter has in it, panels in order
+unfoldable pub line_panels : TablesData → List ℕ
+line_panels t = flat_map (λ panel. replicate (places_at t panel) panel) (range_with_len 0 (length t.panels))
 
 -- what `candidate` tells of a candidate
 abbrev pub without_name : NamedCandidate → Candidate

@@ -3,11 +3,11 @@ ghost use Rattle.std.specs.Prelude.{◌≡◌, ◌≢◌, ◌<◌, ◌≤◌, �
 ghost use Rattle.toml.specs.View.{table_view};
 ghost use Rattle.election_tables.specs.Entries.{document_of};
 ghost use Rattle.election_tables.specs.Fields.{is_name};
-ghost use Rattle.election_tables.specs.Limits.{longest_name, most_candidates, most_voters};
+ghost use Rattle.election_tables.specs.Limits.{longest_name, most_candidates, most_lines, most_voters};
 ghost use Rattle.election_tables.specs.Rules.{broken_rule, first_broken, typed_rules};
 ghost use Rattle.election_tables.specs.Tables.{AreTablesOf, BreaksFirst, IsNoDocument, IsReadAs, KeepsRules};
 ghost use Rattle.election_tables.specs.Verdict.{IsAnswerFor};
-ghost use Rattle.election_tables.specs.TablesData.{TablesData, IsOffice, IsTables, candidate_name, candidates_at, party_name, place_with, places_at, section_with, without_name};
+ghost use Rattle.election_tables.specs.TablesData.{TablesData, IsOffice, IsTables, candidate_name, candidates_at, line_panels, party_name, place_with, places_at, section_with, without_name};
 
 mod candidates;
 mod panels;
@@ -187,6 +187,36 @@ impl Tables {
         ensures few { (1 ≤ result) × (result ≤ 2) }
     {
         1
+    }
+
+    /// How many lines the ballot has: in each panel one for each vote that a voter has there.
+    pub fn ballot_lines(&self) -> u32
+        ensures count { result ≡ length (line_panels self.now) }
+        ensures few { result ≤ most_lines }
+        ensures tables { IsTables self.now }
+    {
+        let mut lines = 0;
+        for panel in 0..self.panels() {
+            lines += self.places(panel);
+        }
+        lines
+    }
+
+    /// The panel of a line of the ballot, counted from 0. Panels stand in their order.
+    pub fn line_panel(&self, line: u32) -> u32
+        requires { line < length (line_panels self.now) }
+        ensures panel { slice_get (line_panels self.now) line ≡ Some result }
+        ensures within { result < length self.now.panels }
+    {
+        // few enough to count
+        let _panels = self.panels();
+        let mut panel = 0;
+        let mut left = line;
+        while self.places(panel) <= left {
+            left -= self.places(panel);
+            panel += 1;
+        }
+        panel
     }
 
     /// How many parties there are.

@@ -24,6 +24,15 @@ full_at n [] (b ∷ bags) panel full lt = absurd (cc)
 full_at n (p ∷ places) (b ∷ bags) zero full lt = full_head n p places b bags full
 full_at n (p ∷ places) (b ∷ bags) (suc panel) full lt = full_at n places bags panel (full_tail n p places b bags full) (omega arith)
 
+-- they have where each bag has them
+pub full_by : (n : ℕ) (places : List ℕ) (bags : List (List Choice)) → length bags ≡ length places
+    → ((panel : ℕ) → panel < length bags → length (bag_at bags panel) ≡ n * slice_index places panel) → AllHaveVoted n places bags
+full_by n [] [] many each = refl
+full_by n [] (b ∷ bags) many each = absurd (omega arith)
+full_by n (p ∷ places) [] many each = absurd (omega arith)
+full_by n (p ∷ places) (b ∷ bags) many each =
+    full_cons n p places b bags (each zero (omega arith)) (full_by n places bags (omega arith) (λ panel lt. each (suc panel) (omega arith)))
+
 -- nobody's votes
 pub full_empty : (places : List ℕ) → AllHaveVoted 0 places (replicate (length places) [])
 full_empty [] = refl

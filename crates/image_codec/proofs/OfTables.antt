@@ -32,7 +32,7 @@ of_tables-with_ballot t voters s place choices of may ballot = record {
   valid = valid-with_ballot t s place choices of.valid may ballot of.places;
   roll = length-set s.came place true ∙ of.roll;
   places = of.places;
-  choices = choices-with_votes t choices s.bags (bag_for_each t s of.valid of.places) ballot.0 of.choices;
+  choices = choices-with_votes t choices s.bags ballot.0 of.choices;
 }
 
 pub of_tables-sealed_at : (t : TablesData) (voters : ℕ) (s : State) (m : ℕ) → IsStateOf t voters s → MayClose s.phase m → is_moment m ≡ true → IsStateOf t voters (sealed_at s m)

@@ -77,7 +77,7 @@ valid-with_ballot t s place choices valid may ballot places =
       moments = valid.moments;
       started = started_polling s.phase (number_came (slice_set s.came place true)) may.polling;
       full = subst (λ (n : ℕ). AllHaveVoted n s.places bags) (sym more) (subst (λ (p : List ℕ). AllHaveVoted (number_came s.came + 1) p bags) (sym places) full);
-      in_order = in_order-with_votes t choices s.bags (bag_for_each t s valid places) valid.in_order;
+      in_order = in_order-with_votes (ballot_lines t) choices s.bags valid.in_order;
     }
 
 -- the parts of a state that is seen as `now`, after a ballot

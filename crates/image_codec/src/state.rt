@@ -178,7 +178,7 @@ pub(crate) fn rank_with(phase: Phase, came: u32) -> u32
     }
 }
 
-/// One voter's choices: each goes into the bag of its panel.
+/// One voter's choices: each goes into the bag of its line's panel.
 fn add_choices(votes: &mut Rdv, tables: &Tables, choices: &[Choice])
     requires ballot { IsBallot (ballot_lines tables.now) choices.now }
     requires panels { length votes.old.bags ≡ length tables.now.panels }
@@ -186,7 +186,7 @@ fn add_choices(votes: &mut Rdv, tables: &Tables, choices: &[Choice])
     requires room { HasRoomForVoter votes.old }
     ensures { votes.new ≡ record votes.old { bags = with_votes (ballot_lines tables.now) choices.now votes.old.bags } }
 {
-    for panel in 0..tables.panels() {
-        votes.add(tables, panel, choices[panel as usize]);
+    for line in 0..tables.ballot_lines() {
+        votes.add(tables, tables.line_panel(line), choices[line as usize]);
     }
 }

@@ -55,7 +55,9 @@ fn told(state: &State) -> Told
 #[test]
 fn a_poll_of_two_voters_of_whom_one_came(rt: HostRuntime) -> Result<(), Fail> {
     let tables = Tables::read(rt.alloc(), TABLES)?;
-    assert!(rt; tables.panels() == 1 && moment_ok(OPENED) && moment_ok(CLOSED));
+    assert!(rt; tables.panels() == 1);
+    assert!(rt; tables.ballot_lines() == 1);
+    assert!(rt; moment_ok(OPENED) && moment_ok(CLOSED));
     let mut state = State::ready(rt.alloc(), &tables, 2)?;
     let ready = state.rank();
     state.begin(OPENED);

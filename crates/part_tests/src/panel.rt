@@ -5,7 +5,7 @@ use election_tables::Tables;
 use key_script::Key;
 use std::process::Abort;
 use std::test::Fail;
-use vote_kinds::office_digits;
+use vote_kinds::{Choice, office_digits};
 use voter_term::{Panel, Shown, screen};
 
 const TABLES: &[u8] = br#"
@@ -40,11 +40,12 @@ fn key_of(byte: u8) -> Key
     }
 }
 
-/// What keys show on a panel of CAP digits, and each choice with which one ends it.
+/// What keys show on a panel of CAP digits, and each choice with which one ends it, where the line before has this choice of it.
 fn shown_by<const CAP: u8>(
     rt: &(impl Abort + AllocGlobal),
     tables: &Tables,
     number: u32,
+    before: Option<Choice>,
     keys: &str,
 ) -> Result<String, Fail> {
     assert!(rt; number < tables.panels());
@@ -52,11 +53,11 @@ fn shown_by<const CAP: u8>(
     let mut panel = Panel::<CAP>::new();
     let mut text = String::new(rt.alloc());
     for &byte in keys.as_bytes() {
-        match panel.key(tables, number, key_of(byte)) {
+        match panel.key(tables, number, before, key_of(byte)) {
             Shown::Nothing => {}
             Shown::Screen => {
                 let mut line = [b'#'; 128];
-                let length = screen(tables, number, &panel.field(), &mut line);
+                let length = screen(tables, number, before, &panel.field(), &mut line);
                 text.push_str(std::str::from_utf8(&line[..length as usize])?)?;
             }
             Shown::Voted(choice) => write!(text, "{choice:?}")?,
@@ -89,7 +90,7 @@ fn five_digits_of_a_proportional_office(rt: HostRuntime) -> Result<(), Fail> {
     ];
     for (keys, want) in rows {
         assert_eq!(rt;
-            shown_by::<5>(&rt, &tables, 0, keys)?.as_str(),
+            shown_by::<5>(&rt, &tables, 0, None, keys)?.as_str(),
             want,
             "{keys}"
         );
@@ -101,15 +102,25 @@ fn five_digits_of_a_proportional_office(rt: HostRuntime) -> Result<(), Fail> {
 fn two_digits_of_a_majority_office(rt: HostRuntime) -> Result<(), Fail> {
     let tables = Tables::read(rt.alloc(), TABLES)?;
     let rows = [
-        ("C", ""),
-        ("9C", "TELA 9\n"),
-        ("9C9C", "TELA 9\nTELA 99 NULO\nNull"),
-        ("13C", "TELA 1\nTELA 13 CANDIDATO CARLA\nNominal(13)"),
-        ("BRRC", "TELA BRANCO\nTELA VAZIA\n"),
+        (None, "C", ""),
+        (None, "9C", "TELA 9\n"),
+        (None, "9C9C", "TELA 9\nTELA 99 NULO\nNull"),
+        (None, "13C", "TELA 1\nTELA 13 CANDIDATO CARLA\nNominal(13)"),
+        (None, "BRRC", "TELA BRANCO\nTELA VAZIA\n"),
+        (
+            Some(Choice::Nominal(13)),
+            "13C",
+            "TELA 1\nTELA 13 NULO\nNull",
+        ),
+        (
+            Some(Choice::Nominal(45)),
+            "13C",
+            "TELA 1\nTELA 13 CANDIDATO CARLA\nNominal(13)",
+        ),
     ];
-    for (keys, want) in rows {
+    for (before, keys, want) in rows {
         assert_eq!(rt;
-            shown_by::<2>(&rt, &tables, 1, keys)?.as_str(),
+            shown_by::<2>(&rt, &tables, 1, before, keys)?.as_str(),
             want,
             "{keys}"
         );

@@ -126,6 +126,10 @@ falt_ends : says TABLE.missed (codes "FALT:0" ∷ codes "FALT:9999" ∷ codes "F
 unfolding number_at value_at decimal_value
 falt_ends = refl
 
+dtpl_ends : says TABLE.date (codes "DTPL:10000101" ∷ codes "DTPL:99991231" ∷ codes "DTPL:20261032" ∷ []) ≡ Some 10000101 ∷ Some 99991231 ∷ None ∷ []
+unfolding number_at value_at digits_value is_date
+dtpl_ends = refl
+
 dtab_ends : says TABLE.open_date (codes "DTAB:10000101" ∷ codes "DTAB:99991231" ∷ codes "DTAB:20261032" ∷ []) ≡ Some 10000101 ∷ Some 99991231 ∷ None ∷ []
 unfolding number_at value_at digits_value is_date
 dtab_ends = refl
@@ -133,6 +137,14 @@ dtab_ends = refl
 hrab_ends : says TABLE.open_time (codes "HRAB:000000" ∷ codes "HRAB:235959" ∷ codes "HRAB:240000" ∷ []) ≡ Some 0 ∷ Some 235959 ∷ None ∷ []
 unfolding number_at value_at digits_value
 hrab_ends = refl
+
+dtfc_ends : says TABLE.close_date (codes "DTFC:10000101" ∷ codes "DTFC:99991231" ∷ codes "DTFC:20261032" ∷ []) ≡ Some 10000101 ∷ Some 99991231 ∷ None ∷ []
+unfolding number_at value_at digits_value is_date
+dtfc_ends = refl
+
+hrfc_ends : says TABLE.close_time (codes "HRFC:000000" ∷ codes "HRFC:235959" ∷ codes "HRFC:240000" ∷ []) ≡ Some 0 ∷ Some 235959 ∷ None ∷ []
+unfolding number_at value_at digits_value
+hrfc_ends = refl
 
 carg_ends : says TABLE.office (codes "CARG:0" ∷ codes "CARG:1" ∷ codes "CARG:99" ∷ codes "CARG:100" ∷ []) ≡ None ∷ Some 1 ∷ Some 99 ∷ None ∷ []
 unfolding number_at value_at decimal_value

@@ -23,7 +23,7 @@ use Rattle.seat_remainders.specs.Majority.{majority_outcome, NobodyHasMajority}
 abbrev pub HasOutcome : Type 0
 HasOutcome = (contest : Contest) → IsOutcome contest (outcome_of contest)
 
--- and no other
+-- a contest has no other outcome than that one
 abbrev pub HasOneOutcome : Type 0
 HasOneOutcome = (contest : Contest) (o : Outcome) → IsOutcome contest o → o ≡ outcome_of contest
 

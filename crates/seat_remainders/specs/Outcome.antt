@@ -54,12 +54,13 @@ IsOutcome contest (outcome.Seats s) = AreSeats contest s
 IsOutcome contest (outcome.NoQuotient valid seats) = HasNoQuotient contest valid seats
 IsOutcome contest (outcome.Over first seats) = IsOver contest first seats
 
--- whether it is that there is no quotient, and whether the first phase comes to too many seats
+-- the outcome is that there is no quotient
 abbrev pub is_without_quotient : Outcome → Bool
 is_without_quotient (outcome.Seats s) = false
 is_without_quotient (outcome.NoQuotient valid seats) = true
 is_without_quotient (outcome.Over first seats) = false
 
+-- the outcome is that the first phase comes to more seats than there are
 abbrev pub is_over : Outcome → Bool
 is_over (outcome.Seats s) = false
 is_over (outcome.NoQuotient valid seats) = false

@@ -6,6 +6,7 @@ use Rattle.std.proofs.lemmas.Bool.{cases_Bool, cases_lt}
 use Rattle.std.proofs.lemmas.List.{drop-append-le, take-append-le, length-replicate}
 use Rattle.std.proofs.Math.Seq.{drop-append-add}
 use Rattle.election_tables.specs.TablesData.{TablesData, IsTables}
+use Rattle.election_tables.proofs.PlacesOfPanels.{lines_few}
 use Rattle.vote_kinds.specs.declared.choice.Choice.{Choice}
 use Rattle.vote_kinds.specs.Choice.{AreRising, choice_le, is_same}
 use Rattle.vote_kinds.specs.Ballot.{BallotLine, ballot_lines, choices_of, lines_by_panel}
@@ -255,9 +256,9 @@ opening_costs_one_page t s m = omega (arith, phase_pages t s (phase.Polling m))
 pub sealing_costs_one_page : SealingCostsOnePage
 sealing_costs_one_page t s m = omega (arith, phase_pages t s (sealed_by s.phase m))
 
--- a ballot changes one page more than there are panels, at most
+-- a ballot changes two pages more than there are panels, at most
 ballot_pages : (t : TablesData) (voters : ℕ) (s : State) (place : ℕ) (choices : List Choice) → IsTables t → IsStateOf t voters s
-    → length (changed_pages (encode t s) (encode t (with_ballot (ballot_lines t) s place choices))) ≤ 1 + length t.panels
+    → length (changed_pages (encode t s) (encode t (with_ballot (ballot_lines t) s place choices))) ≤ 2 + length t.panels
 ballot_pages t voters s place choices is of =
     let u : State = with_ballot (ballot_lines t) s place choices in
     let n : ℕ = length (encode t u) / page_size in
@@ -265,7 +266,7 @@ ballot_pages t voters s place choices is of =
     let as_many : length u.bags ≡ length (lines_by_panel t) = length-with_votes (ballot_lines t) choices s.bags ∙ many in
     let long : length (text_of t u) ≡ length (text_of t s) = length-counters_text (lines_by_panel t) u.bags as_many ∙ sym (length-counters_text (lines_by_panel t) s.bags many) in
     let few = ballot_changes t (zeros_of t s) (first_page s) (first_page u) (ballot_lines t) choices s.bags n is (is_page s) (is_page u) in
-    omega (arith, changed_between t s u long, few, lines_length t)
+    omega (arith, changed_between t s u long, few, lines_length t, lines_few t is)
 
 pub ballot_costs_few : BallotCostsFew
 ballot_costs_few t voters s place choices is few of ballot = omega (arith, ballot_pages t voters s place choices is of)

@@ -26,6 +26,6 @@ abbrev pub IsLoad : TablesData → Load → State → Flashes → List Op → Ty
 IsLoad t load s start ops =
     ops ≡ both_synced ++ load_ops body_size (header load Internal) (header load External) (encode t s) start
 
--- a front of such a load: its first operations were done as they are, and the next one failed
+-- a front of such a load: its first operations as they are, and of the next one a part or nothing
 abbrev pub IsFrontOfLoad : TablesData → Load → State → Flashes → List Op → Type 0
 IsFrontOfLoad t load s start ops = IsFrontOfSome (IsLoad t load s start) ops

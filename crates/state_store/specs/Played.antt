@@ -120,8 +120,8 @@ IsCutAt port.Internal pieces shown =
 IsCutAt port.External pieces shown =
     (before : List Piece) × (piece : Piece) × (behind : List Piece) × (pieces ≡ before ++ piece ∷ behind) × IsSome piece.commit × (shown ≡ shows (lines_in before))
 
--- A port failed while the pieces were put out in order, and no call of the machine was made after it. Where it was the display, both
--- flashes are at rest with one of the states.
+-- A port failed while the pieces were put out in order, and no call of the machine was made after it, as far as calls are told. Where it
+-- was the display, both flashes are at rest with one of the states.
 pub record HasStopped (t : TablesData) (load : Load) (s : State) (pieces : List Piece) (at : Port) (old new : Told) : Type 0 where
   pub ops : List Op
   pub does : Does ops old new

@@ -1,5 +1,5 @@
 -- The ballots of a run, by what it puts out
-use Rattle.std.proofs.Common.{◌≡◌, ℕ, zero, suc, ◌+◌, Bool, true, false, cond, ◌&&◌, List, [], ◌∷◌, ◌++◌, length, map, take, refl, sym, ap, subst, ◌∙◌, arith, append_assoc}
+use Rattle.std.proofs.Common.{◌≡◌, ℕ, zero, suc, ◌+◌, Bool, true, false, cond, ◌&&◌, List, [], ◌∷◌, ◌++◌, length, map, take, refl, sym, ap, subst, ◌∙◌, arith, append_assoc, Option}
 use Rattle.std.specs.Prelude.{nat_eq, codes}
 use Rattle.std.specs.Fmt.{decimal}
 use Rattle.std.specs.List.{AllByRecursion}
@@ -30,7 +30,7 @@ use Rattle.image_codec.specs.State.{State, MayVote, filled_up, with_ballot}
 use Rattle.state_store.specs.Pieces.{commits_in, lines_in, quiet, state_after, text_in}
 use Rattle.state_store.proofs.Counting.{commits_in-append, commits_in-quiet}
 use Rattle.station.specs.Acts.{last_state}
-use Rattle.station.specs.Output.{Output, Says, Commits, Reports, commits_of, refusal, echo, screen}
+use Rattle.station.specs.Output.{Output, Says, Commits, Reports, commits_of, refusal, echo, screen, earlier_for}
 use Rattle.station.specs.Press.{idle_at}
 use Rattle.station.specs.Run.{wait_outputs, line_outputs, Votes, start, voted, IsOpen, open_at, IsRun, ends, ignores, refuses, opens, seals, waits, cancels, visits, cut_off, Visit, whole, suspended, after_suspension, suspension}
 use Rattle.station.specs.Setting.{Setting, reply_at, setting_of}
@@ -61,7 +61,7 @@ EndsNone line.Released = Unit {0}
 EndsNone line.Canceled = Unit {0}
 EndsNone line.Suspended = Unit {0}
 EndsNone (line.Ballot number code) = Unit {0}
-EndsNone (line.Screen panel f) = Unit {0}
+EndsNone (line.Screen panel before f) = Unit {0}
 EndsNone (line.Opened m) = Unit {0}
 EndsNone line.Ended = ⊥
 EndsNone (line.Sealed m came) = Unit {0}
@@ -117,27 +117,27 @@ cond_quiet : (b : Bool) (o : Output) → IsQuiet o → AreQuiet (cond b [] (o �
 cond_quiet true o h = tt
 cond_quiet false o h = (h, tt)
 
-key_quiet : (l : BallotLine) (w : List Key) (k : Key) → AreQuiet (echo l w k)
-key_quiet l w key.Confirm = tt
-key_quiet l w key.Blank = cond_quiet _ (screen l _) tt
-key_quiet l w key.Correct = cond_quiet _ (screen l _) tt
-key_quiet l w (key.Digit d) = cond_quiet _ (screen l _) tt
+key_quiet : (l : BallotLine) (earlier : Option Choice) (w : List Key) (k : Key) → AreQuiet (echo l earlier w k)
+key_quiet l earlier w key.Confirm = tt
+key_quiet l earlier w key.Blank = cond_quiet _ (screen l earlier _) tt
+key_quiet l earlier w key.Correct = cond_quiet _ (screen l earlier _) tt
+key_quiet l earlier w (key.Digit d) = cond_quiet _ (screen l earlier _) tt
 
-line_quiet : (v : Setting) (s : State) (place : ℕ) (l : BallotLine) (w : List Key) (es : List Event) → AreQuiet (line_outputs v s place l w es)
-line_quiet v s place l w [] = tt
-line_quiet v s place l w (Clerk c ∷ es) =
-    quiet-append (refusal (reply_at v s (mode.Voting place) c)) (line_outputs v s place l w es) (refusal_quiet (reply_at v s (mode.Voting place) c)) (line_quiet v s place l w es)
-line_quiet v s place l w (Voter k ∷ es) =
-    quiet-append (echo l w k) (line_outputs v s place l (w ++ k ∷ []) es) (key_quiet l w k) (line_quiet v s place l (w ++ k ∷ []) es)
+line_quiet : (v : Setting) (s : State) (place : ℕ) (l : BallotLine) (earlier : Option Choice) (w : List Key) (es : List Event) → AreQuiet (line_outputs v s place l earlier w es)
+line_quiet v s place l earlier w [] = tt
+line_quiet v s place l earlier w (Clerk c ∷ es) =
+    quiet-append (refusal (reply_at v s (mode.Voting place) c)) (line_outputs v s place l earlier w es) (refusal_quiet (reply_at v s (mode.Voting place) c)) (line_quiet v s place l earlier w es)
+line_quiet v s place l earlier w (Voter k ∷ es) =
+    quiet-append (echo l earlier w k) (line_outputs v s place l earlier (w ++ k ∷ []) es) (key_quiet l earlier w k) (line_quiet v s place l earlier (w ++ k ∷ []) es)
 
 votes_quiet : {v : Setting} {s : State} {place : ℕ} {es : List Event} {choices : List Choice} {text : List Output} → Votes v s place es choices text → AreQuiet text
 votes_quiet start = tt
 votes_quiet {v} {s} {place} (voted {choices} {text} l on votes at visit confirms) =
-    quiet-append text _ (votes_quiet votes) (tt, line_quiet v s place l [] on)
+    quiet-append text _ (votes_quiet votes) (tt, line_quiet v s place l (earlier_for v choices l) [] on)
 
 open_quiet : {v : Setting} {s : State} {place : ℕ} {es : List Event} {choices : List Choice} {text : List Output} → IsOpen v s place es choices text → AreQuiet text
 open_quiet {v} {s} {place} (open_at {choices} {text} l on votes at visit unconfirmed) =
-    quiet-append text _ (votes_quiet votes) (tt, line_quiet v s place l [] on)
+    quiet-append text _ (votes_quiet votes) (tt, line_quiet v s place l (earlier_for v choices l) [] on)
 
 moved : {v : Setting} {s t : State} {a b : List Output} {ballots : List Ballot} → a ≡ b → Casts v s b ballots t → Casts v s a ballots t
 moved {v} {s} {t} {ballots} e h = subst (λ (o : List Output). Casts v s o ballots t) (sym e) h
@@ -216,7 +216,7 @@ line_other t line.Released none = refl
 line_other t line.Canceled none = refl
 line_other t line.Suspended none = refl
 line_other t (line.Ballot number code) none = refl
-line_other t (line.Screen panel f) none = refl
+line_other t (line.Screen panel before f) none = refl
 line_other t (line.Opened m) none = refl
 line_other t line.Ended none = absurd none
 line_other t (line.Sealed m came) none = refl

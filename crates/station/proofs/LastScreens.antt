@@ -100,61 +100,61 @@ get_more (z ∷ xs) x (suc n) y h = elim (get_more xs x n y h) [
 -- What is put out on a line of the ballot
 
 -- nothing is called, and the screens are those of the fields
-abbrev ShowsFields : ℕ → List Output → List Field → Type 0
-ShowsFields panel out fields = NoCalls (shown_lines out) × (filter is_screen (shown_lines out) ≡ map (line.Screen panel) fields)
+abbrev ShowsFields : ℕ → Option Choice → List Output → List Field → Type 0
+ShowsFields panel earlier out fields = NoCalls (shown_lines out) × (filter is_screen (shown_lines out) ≡ map (line.Screen panel earlier) fields)
 
-shows-append : (panel : ℕ) (a b : List Output) (f g : List Field) → ShowsFields panel a f → ShowsFields panel b g → ShowsFields panel (a ++ b) (f ++ g)
-shows-append panel a b f g h k =
+shows-append : (panel : ℕ) (earlier : Option Choice) (a b : List Output) (f g : List Field) → ShowsFields panel earlier a f → ShowsFields panel earlier b g → ShowsFields panel earlier (a ++ b) (f ++ g)
+shows-append panel earlier a b f g h k =
     let parts : shown_lines (a ++ b) ≡ shown_lines a ++ shown_lines b = flat_map-append lines_told a b in (
       subst NoCalls (sym parts) (no_calls-append (shown_lines a) (shown_lines b) h.0 k.0),
       ap (filter is_screen) parts ∙ filter-append is_screen (shown_lines a) (shown_lines b)
-          ∙ (ap (λ (x : List Line). x ++ filter is_screen (shown_lines b)) h.1 ∙ ap (λ (x : List Line). map (line.Screen panel) f ++ x) k.1
-          ∙ sym (map-append (line.Screen panel) f g)),
+          ∙ (ap (λ (x : List Line). x ++ filter is_screen (shown_lines b)) h.1 ∙ ap (λ (x : List Line). map (line.Screen panel earlier) f ++ x) k.1
+          ∙ sym (map-append (line.Screen panel earlier) f g)),
     )
 
-shows_refusal : (panel : ℕ) (a : ClerkAnswer) → ShowsFields panel (refusal a) []
-shows_refusal panel (answer.Refused n) = ((refl, tt), refl)
-shows_refusal panel (answer.Opens m) = (tt, refl)
-shows_refusal panel (answer.Identifies p) = (tt, refl)
-shows_refusal panel (answer.Releases p) = (tt, refl)
-shows_refusal panel (answer.Cancels p) = (tt, refl)
-shows_refusal panel (answer.Suspends p) = (tt, refl)
-shows_refusal panel (answer.Seals m) = (tt, refl)
+shows_refusal : (panel : ℕ) (earlier : Option Choice) (a : ClerkAnswer) → ShowsFields panel earlier (refusal a) []
+shows_refusal panel earlier (answer.Refused n) = ((refl, tt), refl)
+shows_refusal panel earlier (answer.Opens m) = (tt, refl)
+shows_refusal panel earlier (answer.Identifies p) = (tt, refl)
+shows_refusal panel earlier (answer.Releases p) = (tt, refl)
+shows_refusal panel earlier (answer.Cancels p) = (tt, refl)
+shows_refusal panel earlier (answer.Suspends p) = (tt, refl)
+shows_refusal panel earlier (answer.Seals m) = (tt, refl)
 
-shows_change : (l : BallotLine) (f : Field) (same : Bool) → ShowsFields l.panel (cond same [] (screen l f ∷ [])) (screen_in (cond same shown.Nothing shown.Screen) f)
-shows_change l f true = (tt, refl)
-shows_change l f false = ((refl, tt), refl)
+shows_change : (l : BallotLine) (earlier : Option Choice) (f : Field) (same : Bool) → ShowsFields l.panel earlier (cond same [] (screen l earlier f ∷ [])) (screen_in (cond same shown.Nothing shown.Screen) f)
+shows_change l earlier f true = (tt, refl)
+shows_change l earlier f false = ((refl, tt), refl)
 
-shows_end : (panel : ℕ) (f : Field) (c : Choice) (taken : Bool) → ShowsFields panel [] (screen_in (cond taken (shown.Voted c) shown.Nothing) f)
-shows_end panel f c true = (tt, refl)
-shows_end panel f c false = (tt, refl)
+shows_end : (panel : ℕ) (earlier : Option Choice) (f : Field) (c : Choice) (taken : Bool) → ShowsFields panel earlier [] (screen_in (cond taken (shown.Voted c) shown.Nothing) f)
+shows_end panel earlier f c true = (tt, refl)
+shows_end panel earlier f c false = (tt, refl)
 
 module _ (l : BallotLine) (earlier : Option Choice) where
   abbrev behind : List Key → List Key → List Field
   behind w keys = screens_behind l earlier w keys
 
-  shows_key : (w : List Key) (k : Key) → ShowsFields l.panel (echo l w k) (screen_in (shown_by l earlier w k) (field_after l.digits (w ++ k ∷ [])))
-  shows_key w key.Confirm = shows_end l.panel (field_after l.digits (w ++ key.Confirm ∷ [])) (choice_of l earlier (field_after l.digits w)) (is_confirmable l (field_after l.digits w))
-  shows_key w key.Blank = shows_change l (field_after l.digits (w ++ key.Blank ∷ [])) (same_field (field_after l.digits (w ++ key.Blank ∷ [])) (field_after l.digits w))
-  shows_key w key.Correct = shows_change l (field_after l.digits (w ++ key.Correct ∷ [])) (same_field (field_after l.digits (w ++ key.Correct ∷ [])) (field_after l.digits w))
-  shows_key w (key.Digit d) = shows_change l (field_after l.digits (w ++ key.Digit d ∷ [])) (same_field (field_after l.digits (w ++ key.Digit d ∷ [])) (field_after l.digits w))
+  shows_key : (w : List Key) (k : Key) → ShowsFields l.panel earlier (echo l earlier w k) (screen_in (shown_by l earlier w k) (field_after l.digits (w ++ k ∷ [])))
+  shows_key w key.Confirm = shows_end l.panel earlier (field_after l.digits (w ++ key.Confirm ∷ [])) (choice_of l earlier (field_after l.digits w)) (is_confirmable l (field_after l.digits w))
+  shows_key w key.Blank = shows_change l earlier (field_after l.digits (w ++ key.Blank ∷ [])) (same_field (field_after l.digits (w ++ key.Blank ∷ [])) (field_after l.digits w))
+  shows_key w key.Correct = shows_change l earlier (field_after l.digits (w ++ key.Correct ∷ [])) (same_field (field_after l.digits (w ++ key.Correct ∷ [])) (field_after l.digits w))
+  shows_key w (key.Digit d) = shows_change l earlier (field_after l.digits (w ++ key.Digit d ∷ [])) (same_field (field_after l.digits (w ++ key.Digit d ∷ [])) (field_after l.digits w))
 
-  shows_line : (v : Setting) (s : State) (place : ℕ) (w : List Key) (es : List Event) → ShowsFields l.panel (line_outputs v s place l w es) (behind w (keys_of es))
+  shows_line : (v : Setting) (s : State) (place : ℕ) (w : List Key) (es : List Event) → ShowsFields l.panel earlier (line_outputs v s place l earlier w es) (behind w (keys_of es))
   shows_line v s place w [] = (tt, refl)
   shows_line v s place w (Clerk c ∷ es) =
-      shows-append l.panel (refusal (reply_at v s (mode.Voting place) c)) (line_outputs v s place l w es) [] (behind w (keys_of es))
-      (shows_refusal l.panel (reply_at v s (mode.Voting place) c)) (shows_line v s place w es)
+      shows-append l.panel earlier (refusal (reply_at v s (mode.Voting place) c)) (line_outputs v s place l earlier w es) [] (behind w (keys_of es))
+      (shows_refusal l.panel earlier (reply_at v s (mode.Voting place) c)) (shows_line v s place w es)
   shows_line v s place w (Voter k ∷ es) =
-      shows-append l.panel (echo l w k) (line_outputs v s place l (w ++ k ∷ []) es)
+      shows-append l.panel earlier (echo l earlier w k) (line_outputs v s place l earlier (w ++ k ∷ []) es)
       (screen_in (shown_by l earlier w k) (field_after l.digits (w ++ k ∷ []))) (behind (w ++ k ∷ []) (keys_of es))
       (shows_key w k) (shows_line v s place (w ++ k ∷ []) es)
 
 -- a line of the ballot, behind what was put out before
 line_screens : (v : Setting) (s : State) (place : ℕ) (choices : List Choice) (text : List Output) (l : BallotLine) (es : List Event)
-    → screens_of (text ++ call_of choices l ∷ line_outputs v s place l [] es) ≡ screens_of text ++ filter is_screen (shown_lines (line_outputs v s place l [] es)) ∷ []
+    → screens_of (text ++ call_of choices l ∷ line_outputs v s place l (earlier_for v choices l) [] es) ≡ screens_of text ++ filter is_screen (shown_lines (line_outputs v s place l (earlier_for v choices l) [] es)) ∷ []
 line_screens v s place choices text l es =
-    let on = line_outputs v s place l [] es in
-    let quiet = (shows_line l None v s place [] es).0 in
+    let on = line_outputs v s place l (earlier_for v choices l) [] es in
+    let quiet = (shows_line l (earlier_for v choices l) v s place [] es).0 in
     ap screens_by_call (flat_map-append lines_told text (call_of choices l ∷ on))
     ∙ (by_called (shown_lines text) (shown_lines on) (line.Ballot (length choices + 1) l.code) refl
     ∙ (ap (λ (x : List Line). screens_of text ++ x ∷ screens_by_call (shown_lines on)) (until_all (shown_lines on) quiet)
@@ -169,9 +169,11 @@ screens_stay v choices out put more e are number c h =
     let is = are number c h in
     record {
       line = is.line;
+      earlier = is.earlier;
       field = is.field;
       before = is.before;
       stands = is.stands;
+      line_before = is.line_before;
       screens = ap (λ (x : List (List Line)). slice_get x number) e ∙ get_front (screens_of out) more number _ is.screens;
       confirmable = is.confirmable;
       chosen = is.chosen;
@@ -185,30 +187,34 @@ before_one v choices c out are number d h =
     let within = slice_get_within choices number d h in
     record {
       line = is.line;
+      earlier = is.earlier;
       field = is.field;
       before = is.before;
       stands = is.stands;
+      line_before = is.line_before ∙ ap (λ (cs : List Choice). earlier_for v cs is.line) (sym (take-append-le number choices (c ∷ []) (omega arith)));
       screens = is.screens;
       confirmable = is.confirmable;
-      chosen = is.chosen ∙ ap (λ (cs : List Choice). choice_of is.line (earlier_for v cs is.line) is.field) (sym (take-append-le number choices (c ∷ []) (omega arith)));
+      chosen = is.chosen;
     }
 
 -- the choice that was confirmed last
 last_one : (v : Setting) (choices : List Choice) (c : Choice) (l : BallotLine) (f : Field) (out put : List Output) (before : List Line)
     → line_at v choices ≡ Some l → is_confirmable l f ≡ true → c ≡ choice_of l (earlier_for v choices l) f
-    → length (screens_of out) ≡ length choices → screens_of put ≡ screens_of out ++ (before ++ line.Screen l.panel f ∷ []) ∷ []
+    → length (screens_of out) ≡ length choices → screens_of put ≡ screens_of out ++ (before ++ line.Screen l.panel (earlier_for v choices l) f ∷ []) ∷ []
     → IsOfLastScreen v (choices ++ c ∷ []) put (length choices) c
 last_one v choices c l f out put before at may chosen as_many e =
     record {
       line = l;
+      earlier = earlier_for v choices l;
       field = f;
       before = before;
       stands = at;
+      line_before = ap (λ (cs : List Choice). earlier_for v cs l) (sym (take-append_seam choices (c ∷ [])));
       screens = ap (λ (x : List (List Line)). slice_get x (length choices)) e
-          ∙ (ap (slice_get (screens_of out ++ (before ++ line.Screen l.panel f ∷ []) ∷ [])) (sym as_many)
-          ∙ get_last (screens_of out) (before ++ line.Screen l.panel f ∷ []));
+          ∙ (ap (slice_get (screens_of out ++ (before ++ line.Screen l.panel (earlier_for v choices l) f ∷ []) ∷ [])) (sym as_many)
+          ∙ get_last (screens_of out) (before ++ line.Screen l.panel (earlier_for v choices l) f ∷ []));
       confirmable = may;
-      chosen = chosen ∙ ap (λ (cs : List Choice). choice_of l (earlier_for v cs l) f) (sym (take-append_seam choices (c ∷ [])));
+      chosen = chosen;
     }
 
 abbrev Told : Setting → List Choice → List Output → Type 0
@@ -216,11 +222,11 @@ Told v choices text = (length (screens_of text) ≡ length choices) × AreOfLast
 
 told_more : (v : Setting) (choices : List Choice) (c : Choice) (l : BallotLine) (f : Field) (out put : List Output) (before : List Line)
     → line_at v choices ≡ Some l → is_confirmable l f ≡ true → c ≡ choice_of l (earlier_for v choices l) f
-    → screens_of put ≡ screens_of out ++ (before ++ line.Screen l.panel f ∷ []) ∷ [] → Told v choices out → Told v (choices ++ c ∷ []) put
+    → screens_of put ≡ screens_of out ++ (before ++ line.Screen l.panel (earlier_for v choices l) f ∷ []) ∷ [] → Told v choices out → Told v (choices ++ c ∷ []) put
 told_more v choices c l f out put before at may chosen e told =
     let last = last_one v choices c l f out put before at may chosen told.0 e in
-    let stay = before_one v choices c put (screens_stay v choices out put ((before ++ line.Screen l.panel f ∷ []) ∷ []) e told.1) in (
-      ap length e ∙ (length-append (screens_of out) ((before ++ line.Screen l.panel f ∷ []) ∷ [])
+    let stay = before_one v choices c put (screens_stay v choices out put ((before ++ line.Screen l.panel (earlier_for v choices l) f ∷ []) ∷ []) e told.1) in (
+      ap length e ∙ (length-append (screens_of out) ((before ++ line.Screen l.panel (earlier_for v choices l) f ∷ []) ∷ [])
           ∙ (ap (λ (n : ℕ). n + 1) told.0 ∙ sym (length-append choices (c ∷ [])))),
       λ number d h. elim (get_more choices c number d h) [
         | inl p ↦ stay number d p
@@ -236,14 +242,14 @@ votes_told {v} {s} {place} valid (voted {choices} {text} {c} l on votes at visit
     let f = field_after l.digits (keys_of on) in
     let last = last_screen l earlier (valid _ l at) (keys_of on) confirms.confirmable in
     let shows = (shows_line l earlier v s place [] on).1 in
-    let ends : filter is_screen (shown_lines (line_outputs v s place l [] on)) ≡ map (line.Screen l.panel) last.0 ++ line.Screen l.panel f ∷ [] =
-    shows ∙ (ap (map (line.Screen l.panel)) last.1 ∙ map-append (line.Screen l.panel) last.0 (f ∷ [])) in
-    told_more v choices c l f text (text ++ call_of choices l ∷ line_outputs v s place l [] on) (map (line.Screen l.panel) last.0) at confirms.confirmable confirms.chosen
+    let ends : filter is_screen (shown_lines (line_outputs v s place l (earlier_for v choices l) [] on)) ≡ map (line.Screen l.panel earlier) last.0 ++ line.Screen l.panel earlier f ∷ [] =
+    shows ∙ (ap (map (line.Screen l.panel earlier)) last.1 ∙ map-append (line.Screen l.panel earlier) last.0 (f ∷ [])) in
+    told_more v choices c l f text (text ++ call_of choices l ∷ line_outputs v s place l (earlier_for v choices l) [] on) (map (line.Screen l.panel earlier) last.0) at confirms.confirmable confirms.chosen
     (line_screens v s place choices text l on ∙ ap (λ (x : List Line). screens_of text ++ x ∷ []) ends) (votes_told valid votes)
 
 open_told : {v : Setting} {s : State} {place : ℕ} {es : List Event} {choices : List Choice} {text : List Output} → IsSetting v → IsOpen v s place es choices text → AreOfLastScreens v choices text
 open_told {v} {s} {place} valid (open_at {choices} {text} l on votes at visit unconfirmed) =
-    screens_stay v choices text (text ++ call_of choices l ∷ line_outputs v s place l [] on) (filter is_screen (shown_lines (line_outputs v s place l [] on)) ∷ [])
+    screens_stay v choices text (text ++ call_of choices l ∷ line_outputs v s place l (earlier_for v choices l) [] on) (filter is_screen (shown_lines (line_outputs v s place l (earlier_for v choices l) [] on)) ∷ [])
     (line_screens v s place choices text l on) (votes_told valid votes).1
 
 -- one line more that is no call and no screen

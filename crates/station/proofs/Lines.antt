@@ -1,77 +1,31 @@
--- The lines of the ballot, by their numbers
-use Rattle.std.proofs.Common.{◌≡◌, ℕ, zero, suc, ◌-◌, ◌<◌, ◌≤◌, false, List, [], ◌∷◌, length, slice_get, Option, Some, None, option_map, unwrap_or, nat_eq, refl, sym, ap, subst, ◌∙◌, inl, inr, arith}
+-- The line of the ballot behind some choices
+use Rattle.std.proofs.Common.{◌≡◌, ◌≢◌, ℕ, ◌-◌, ◌≤◌, Bool, true, false, cond, List, length, slice_get, Option, Some, None, option_map, nat_eq, sym, ap, ◌∙◌, arith}
 use Rattle.std.proofs.lemmas.Bool.Decides.{nat_tests}
-use Rattle.std.proofs.lemmas.Option.{slice_get_cases}
-use Rattle.election_tables.specs.TablesData.{TablesData}
-use Rattle.election_tables.specs.declared.tables.panels.Panel.{Panel}
+use Rattle.std.proofs.lemmas.Option.{slice_get_past}
+use Rattle.election_tables.specs.TablesData.{TablesData, line_panels}
 use Rattle.vote_kinds.specs.declared.choice.Choice.{Choice}
-use Rattle.vote_kinds.specs.Ballot.{BallotLine, no_panel, line_for, line_of, ballot_lines}
-use Rattle.vote_kinds.proofs.Lookups.{line_get}
+use Rattle.vote_kinds.specs.Ballot.{BallotLine, ballot_lines, line_of}
+use Rattle.vote_kinds.proofs.Lookups.{line_get, lines_length}
 use Rattle.station.specs.Setting.{setting_of}
-use Rattle.station.specs.Output.{line_at, earlier_of, earlier_for}
-use Rattle.poll_report.proofs.LineLists.{known}
+use Rattle.station.specs.Output.{earlier_of, earlier_for}
 
-missing : (panels : List Panel) (n : ℕ) → length panels ≤ n → slice_get panels n ≡ None
-missing [] n h = refl
-missing (p ∷ panels) zero h = absurd (omega arith)
-missing (p ∷ panels) (suc n) h = missing panels n (omega arith)
+-- a line of the ballot is that of its panel
+pub found_line : (t : TablesData) (n panel : ℕ) → slice_get (line_panels t) n ≡ Some panel → slice_get (ballot_lines t) n ≡ Some (line_of t panel)
+found_line t n panel at = line_get t n ∙ ap (option_map (line_of t)) at
 
--- a line within the ballot is that of the panel of its number
-pub found_line : (t : TablesData) (n : ℕ) → n < length t.panels → slice_get (ballot_lines t) n ≡ Some (line_of t n)
-found_line t n h = line_get t n ∙ ap (option_map (line_for t n)) (known t.panels n h)
+pub no_line : (t : TablesData) (n : ℕ) → length (line_panels t) ≤ n → slice_get (ballot_lines t) n ≡ None
+no_line t n h = slice_get_past (ballot_lines t) n (omega (arith, lines_length t))
 
-pub no_line : (t : TablesData) (n : ℕ) → length t.panels ≤ n → slice_get (ballot_lines t) n ≡ None
-no_line t n h = line_get t n ∙ ap (option_map (line_for t n)) (missing t.panels n h)
+-- the choice of the line before, where that line is of the panel, and where it is of another one
+module _ (t : TablesData) (titles : List ℕ) (choices : List Choice) (panel k : ℕ) (c : Choice)
+    (at : slice_get (line_panels t) (length choices - 1) ≡ Some k) (last : slice_get choices (length choices - 1) ≡ Some c) where
+  compared : earlier_for (setting_of t titles) choices (line_of t panel) ≡ cond (nat_eq k panel) (Some c) None
+  compared =
+      ap (λ (o : Option BallotLine). earlier_of o (slice_get choices (length choices - 1)) (line_of t panel)) (found_line t (length choices - 1) k at)
+      ∙ ap (λ (o : Option Choice). earlier_of (Some (line_of t k)) o (line_of t panel)) last
 
-number_in : (t : TablesData) (n : ℕ) (o : Option Panel) (l : BallotLine) → option_map (line_for t n) o ≡ Some l → l.panel ≡ n
-number_in t n None l e = absurd (cc)
-number_in t n (Some p) l e = let same : line_for t n p ≡ l = cc in ap (λ (k : BallotLine). k.panel) (sym same)
+  pub of_panel : k ≡ panel → Some c ≡ earlier_for (setting_of t titles) choices (line_of t panel)
+  of_panel same = let is : nat_eq k panel ≡ true = grind (arith, nat_tests, same) in sym (compared ∙ ap (λ (b : Bool). cond b (Some c) None) is)
 
--- each line has a panel of its own
-line_number : (t : TablesData) (n : ℕ) (l : BallotLine) → slice_get (ballot_lines t) n ≡ Some l → l.panel ≡ n
-line_number t n l e = number_in t n (slice_get t.panels n) l (sym (line_get t n) ∙ e)
-
-panel_in : (t : TablesData) (n : ℕ) (p : Panel) (l : BallotLine) → n < length t.panels → slice_get t.panels n ≡ Some p → line_for t n p ≡ l
-    → (l.panel < length t.panels) × (line_of t l.panel ≡ l)
-panel_in t n p l h at same =
-    let number : l.panel ≡ n = ap (λ (k : BallotLine). k.panel) (sym same) in
-    let found : line_of t n ≡ line_for t n p = ap (λ (o : Option Panel). line_for t n (unwrap_or o no_panel)) at in
-    (subst (λ (k : ℕ). k < length t.panels) (sym number) h, ap (line_of t) number ∙ (found ∙ same))
-
--- each line is one of a panel of the tables
-pub line_panel : (t : TablesData) (n : ℕ) (l : BallotLine) → slice_get (ballot_lines t) n ≡ Some l → (l.panel < length t.panels) × (line_of t l.panel ≡ l)
-line_panel t n l e = elim ((slice_get_cases t.panels n).1) [
-  | inl found ↦
-      let p = found.0 in
-      let whole : Some (line_for t n p) ≡ Some l = sym (ap (option_map (line_for t n)) found.2) ∙ (sym (line_get t n) ∙ e) in
-      let same : line_for t n p ≡ l = cc in
-      panel_in t n p l found.1 found.2 same
-  | inr past ↦
-      let none : None ≡ Some l = sym (ap (option_map (line_for t n)) past.1) ∙ (sym (line_get t n) ∙ e) in
-      absurd (cc)
-]
-
-other_panel : (previous l : BallotLine) (choice : Option Choice) (n : ℕ) → previous.panel ≡ n → l.panel ≡ suc n → earlier_of (Some previous) choice l ≡ None
-other_panel previous l None n e f = refl
-other_panel previous l (Some c) n e f =
-    let differ : nat_eq previous.panel l.panel ≡ false = grind (arith, nat_tests, e, f) in
-    rw differ refl
-
-before_line : (t : TablesData) (previous : Option BallotLine) (choice : Option Choice) (n : ℕ) (l : BallotLine) → slice_get (ballot_lines t) n ≡ previous → l.panel ≡ suc n
-    → earlier_of previous choice l ≡ None
-before_line t None choice n l e f = refl
-before_line t (Some previous) choice n l e f = other_panel previous l choice n (line_number t n previous e) f
-
-no_choice : (previous : Option BallotLine) (l : BallotLine) → earlier_of previous None l ≡ None
-no_choice None l = refl
-no_choice (Some previous) l = refl
-
--- Where each panel has one line, no line has an earlier choice of its panel.
-pub no_earlier : (t : TablesData) (titles : List ℕ) (choices : List Choice) (l : BallotLine) → line_at (setting_of t titles) choices ≡ Some l
-    → earlier_for (setting_of t titles) choices l ≡ None
-no_earlier t titles [] l e = no_choice (slice_get (ballot_lines t) 0) l
-no_earlier t titles (c ∷ choices) l e =
-    let last : length (c ∷ choices) - 1 ≡ length choices = omega arith in
-    ap (λ (k : ℕ). earlier_of (slice_get (ballot_lines t) k) (slice_get (c ∷ choices) k) l) last
-    ∙ before_line t (slice_get (ballot_lines t) (length choices)) (slice_get (c ∷ choices) (length choices)) (length choices) l refl
-    (line_number t (suc (length choices)) l e)
+  pub of_another : k ≢ panel → None ≡ earlier_for (setting_of t titles) choices (line_of t panel)
+  of_another other = let isnt : nat_eq k panel ≡ false = grind (arith, nat_tests, other) in sym (compared ∙ ap (λ (b : Bool). cond b (Some c) None) isnt)

@@ -12,7 +12,7 @@ use Rattle.election_tables.specs.TablesData.{TablesData, IsTables}
 use Rattle.vote_kinds.specs.declared.choice.Choice.{Choice}
 use Rattle.vote_kinds.specs.declared.choice.Field.{Field}
 use Rattle.vote_kinds.specs.Ballot.{BallotLine, IsField, line_of}
-use Rattle.vote_kinds.proofs.Lookups.{line_digits}
+use Rattle.vote_kinds.proofs.Lookups.{line_digits, line_has_panel}
 use Rattle.voter_term.specs.declared.panel.Shown.{Shown}
 use Rattle.voter_term.specs.declared.panel.Shown.TheVariants as shown
 use Rattle.voter_term.specs.Panel.{next_field, next_shown}
@@ -30,7 +30,6 @@ use Rattle.station.specs.Press.{Standing, press, typed, on_line, after_key, call
 use Rattle.station.specs.Acts.{IsAct, act_of}
 use Rattle.station.specs.Valid.{IsStanding, IsPlaced, IsAnswer}
 use Rattle.station.specs.Text.{IsLine}
-use Rattle.station.proofs.Lines.{line_panel}
 use Rattle.station.proofs.Replies.{answer_of}
 
 -- each line of the ballot is one of a panel of the tables
@@ -41,10 +40,10 @@ pub tables_setting : (t : TablesData) (titles : List ℕ) → IsTables t → IsS
 tables_setting t titles h n l at = omega (arith, (line_digits t h n l at).0)
 
 pub tables_panels : (t : TablesData) (titles : List ℕ) → ArePanels t (setting_of t titles)
-tables_panels t titles n l at = line_panel t n l at
+tables_panels t titles n l at = let has = line_has_panel t n l at in (has.within, has.same)
 
-screen_is : (t : TablesData) (l : BallotLine) (f : Field) → (l.panel < length t.panels) × (line_of t l.panel ≡ l) → IsField l.digits f → IsLine t (line.Screen l.panel f)
-screen_is t l f in_tables is = (in_tables.0, subst (λ (m : BallotLine). IsField m.digits f) (sym in_tables.1) is)
+screen_is : (t : TablesData) (l : BallotLine) (earlier : Option Choice) (f : Field) → (l.panel < length t.panels) × (line_of t l.panel ≡ l) → IsField l.digits f → IsLine t (line.Screen l.panel earlier f)
+screen_is t l earlier f in_tables is = (in_tables.0, subst (λ (m : BallotLine). IsField m.digits f) (sym in_tables.1) is)
 
 call_acts : (t : TablesData) (v : Setting) (s : State) (place : ℕ) (choices : List Choice) (o : Option BallotLine) → AllByRecursion (IsAct t) (map act_of (call v s place choices o).out)
 call_acts t v s place choices (Some l) = (tt, tt)
@@ -54,7 +53,7 @@ after_key_acts : (t : TablesData) (v : Setting) (s : State) (place : ℕ) (choic
     → line_at v choices ≡ Some l → IsField l.digits f → AllByRecursion (IsAct t) (map act_of (after_key v s place choices f l k r).out)
 after_key_acts t v s place choices f l k shown.Nothing setting panels valid at is = tt
 after_key_acts t v s place choices f l k shown.Screen setting panels valid at is =
-    (screen_is t l (next_field l.digits f k) (panels (length choices) l at) (next_field-fits l.digits f k (setting (length choices) l at) valid is), tt)
+    (screen_is t l (earlier_for v choices l) (next_field l.digits f k) (panels (length choices) l at) (next_field-fits l.digits f k (setting (length choices) l at) valid is), tt)
 after_key_acts t v s place choices f l k (shown.Voted c) setting panels valid at is = call_acts t v s place (choices ++ c ∷ []) (line_at v (choices ++ c ∷ []))
 
 on_line_acts : (t : TablesData) (v : Setting) (s : State) (place : ℕ) (choices : List Choice) (f : Field) (k : Key) (l : BallotLine) (o : Option BallotLine) → IsSetting v → ArePanels t v → IsKey k

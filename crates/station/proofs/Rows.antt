@@ -1,5 +1,5 @@
 -- Worked sessions, and what they show: a section with two offices and three voters
-use Rattle.std.proofs.Common.{◌≡◌, List, [], ◌∷◌, ◌++◌, true, false, map, refl}
+use Rattle.std.proofs.Common.{◌≡◌, List, [], ◌∷◌, ◌++◌, true, false, map, refl, Option, Some, None}
 use Rattle.std.specs.Prelude.{flat_map}
 use Rattle.key_script.specs.declared.keys.Key.{Key}
 use Rattle.key_script.specs.declared.keys.Key.TheVariants.{Digit, Blank, Correct, Confirm}
@@ -7,6 +7,7 @@ use Rattle.key_script.specs.declared.keys.Event.{Event}
 use Rattle.key_script.specs.declared.keys.Event.TheVariants.{Clerk, Voter}
 use Rattle.key_script.specs.declared.keys.ClerkKey.TheVariants as clerk
 use Rattle.vote_kinds.specs.Ballot.{BallotLine}
+use Rattle.vote_kinds.specs.declared.choice.Choice.{Choice}
 use Rattle.vote_kinds.specs.declared.choice.Choice.TheVariants as choice
 use Rattle.vote_kinds.specs.declared.choice.Field.TheVariants as field
 use Rattle.turnout.specs.declared.phase.Phase.TheVariants as phase
@@ -45,10 +46,10 @@ abbrev party_45 : List Key
 party_45 = Digit 4 ∷ Digit 5 ∷ Confirm ∷ []
 
 abbrev at_4 : Line
-at_4 = line.Screen 0 (field.Digits 1 4)
+at_4 = line.Screen 0 None (field.Digits 1 4)
 
 abbrev at_45 : Line
-at_45 = line.Screen 0 (field.Digits 2 45)
+at_45 = line.Screen 0 None (field.Digits 2 45)
 
 -- a party's vote is confirmed with two digits of five
 party_vote : told polling (admitted ++ keys party_45) ≡ greeted ++ at_4 ∷ at_45 ∷ line.Ballot 2 11 ∷ []
@@ -56,19 +57,19 @@ party_vote = refl
 
 -- the digits after a party's don't name a candidate
 party_with_more_digits : told polling (admitted ++ keys (Digit 4 ∷ Digit 5 ∷ Digit 9 ∷ Digit 9 ∷ Digit 9 ∷ Confirm ∷ []))
-    ≡ greeted ++ at_4 ∷ at_45 ∷ line.Screen 0 (field.Digits 3 459) ∷ line.Screen 0 (field.Digits 4 4599)
-    ∷ line.Screen 0 (field.Digits 5 45999) ∷ line.Ballot 2 11 ∷ []
+    ≡ greeted ++ at_4 ∷ at_45 ∷ line.Screen 0 None (field.Digits 3 459) ∷ line.Screen 0 None (field.Digits 4 4599)
+    ∷ line.Screen 0 None (field.Digits 5 45999) ∷ line.Ballot 2 11 ∷ []
 party_with_more_digits = refl
 
 -- null in both offices; one digit of two may not be confirmed in a majority office
 null_votes : told polling (admitted ++ keys (Digit 9 ∷ Digit 9 ∷ Confirm ∷ Digit 9 ∷ Confirm ∷ Digit 9 ∷ Confirm ∷ []))
-    ≡ greeted ++ line.Screen 0 (field.Digits 1 9) ∷ line.Screen 0 (field.Digits 2 99) ∷ line.Ballot 2 11
-    ∷ line.Screen 1 (field.Digits 1 9) ∷ line.Screen 1 (field.Digits 2 99) ∷ line.Ended ∷ []
+    ≡ greeted ++ line.Screen 0 None (field.Digits 1 9) ∷ line.Screen 0 None (field.Digits 2 99) ∷ line.Ballot 2 11
+    ∷ line.Screen 1 None (field.Digits 1 9) ∷ line.Screen 1 None (field.Digits 2 99) ∷ line.Ended ∷ []
 null_votes = refl
 
 -- a digit after BRANCO is ignored, and CORRIGE empties the field
 corrected : told polling (admitted ++ keys (Blank ∷ Digit 4 ∷ Digit 5 ∷ Correct ∷ Confirm ∷ party_45))
-    ≡ greeted ++ line.Screen 0 field.Blank ∷ line.Screen 0 field.Empty ∷ at_4 ∷ at_45 ∷ line.Ballot 2 11 ∷ []
+    ≡ greeted ++ line.Screen 0 None field.Blank ∷ line.Screen 0 None field.Empty ∷ at_4 ∷ at_45 ∷ line.Ballot 2 11 ∷ []
 corrected = refl
 
 -- a voter who is suspended before the first choice may come again
@@ -77,7 +78,7 @@ comes_again = admitted ++ keys (Digit 4 ∷ Digit 5 ∷ []) ++ Clerk clerk.Suspe
 
 suspended : told polling comes_again
     ≡ greeted ++ at_4 ∷ at_45 ∷ line.Suspended ∷ (greeted ++ at_4 ∷ at_45 ∷ line.Ballot 2 11
-    ∷ line.Screen 1 (field.Digits 1 1) ∷ line.Screen 1 (field.Digits 2 13) ∷ line.Ended ∷ [])
+    ∷ line.Screen 1 None (field.Digits 1 1) ∷ line.Screen 1 None (field.Digits 2 13) ∷ line.Ended ∷ [])
 suspended = refl
 
 suspended_state : (after setting (idle_at polling) comes_again).state
@@ -115,13 +116,16 @@ senator = record { panel = 0; code = 5; digits = 3; proportional = false; places
 abbrev two_senators : Setting
 two_senators = record { lines = senator ∷ senator ∷ []; places = 2 ∷ []; roll = 10000000001 ∷ [] }
 
+abbrev eva : Option Choice
+eva = Some (choice.Nominal 101)
+
 abbrev same_twice : List Event
 same_twice = admitted ++ keys (Digit 1 ∷ Digit 0 ∷ Digit 1 ∷ Confirm ∷ Digit 1 ∷ Digit 0 ∷ Digit 1 ∷ Confirm ∷ [])
 
 same_candidate_twice : flat_map lines_told (outputs two_senators (idle_at polling) same_twice)
-    ≡ line.Voter 10000000001 ∷ line.Released ∷ line.Ballot 1 5 ∷ line.Screen 0 (field.Digits 1 1) ∷ line.Screen 0 (field.Digits 2 10)
-    ∷ line.Screen 0 (field.Digits 3 101) ∷ line.Ballot 2 5 ∷ line.Screen 0 (field.Digits 1 1)
-    ∷ line.Screen 0 (field.Digits 2 10) ∷ line.Screen 0 (field.Digits 3 101) ∷ line.Ended ∷ []
+    ≡ line.Voter 10000000001 ∷ line.Released ∷ line.Ballot 1 5 ∷ line.Screen 0 None (field.Digits 1 1) ∷ line.Screen 0 None (field.Digits 2 10)
+    ∷ line.Screen 0 None (field.Digits 3 101) ∷ line.Ballot 2 5 ∷ line.Screen 0 eva (field.Digits 1 1)
+    ∷ line.Screen 0 eva (field.Digits 2 10) ∷ line.Screen 0 eva (field.Digits 3 101) ∷ line.Ended ∷ []
 same_candidate_twice = refl
 
 second_is_null : (after two_senators (idle_at polling) same_twice).state.bags ≡ (choice.Nominal 101 ∷ choice.Null ∷ []) ∷ [] ∷ []
@@ -129,5 +133,5 @@ second_is_null = refl
 
 -- the screens, by the lines of the ballot
 screens_of_a_visit : screens_of (outputs setting (idle_at polling) (admitted ++ keys (Blank ∷ Correct ∷ party_45 ++ Digit 9 ∷ Confirm ∷ [])))
-    ≡ (line.Screen 0 field.Blank ∷ line.Screen 0 field.Empty ∷ at_4 ∷ at_45 ∷ []) ∷ (line.Screen 1 (field.Digits 1 9) ∷ []) ∷ []
+    ≡ (line.Screen 0 None field.Blank ∷ line.Screen 0 None field.Empty ∷ at_4 ∷ at_45 ∷ []) ∷ (line.Screen 1 None (field.Digits 1 9) ∷ []) ∷ []
 screens_of_a_visit = refl

@@ -1,7 +1,7 @@
 -- Laws of runs
 use Rattle.std.proofs.lemmas.List.{append-nil, append_cancel_left}
 use Rattle.station.proofs.Faithful.{press_faithful}
-use Rattle.std.proofs.Common.{◌≡◌, ◌≤◌, length, ℕ, Bool, true, false, cond, List, [], ◌∷◌, ◌++◌, refl, sym, ap, subst, ◌∙◌, append_assoc}
+use Rattle.std.proofs.Common.{◌≡◌, ◌≤◌, length, ℕ, Bool, true, false, cond, List, [], ◌∷◌, ◌++◌, refl, sym, ap, subst, ◌∙◌, append_assoc, Option}
 use Rattle.key_script.specs.declared.keys.Key.{Key}
 use Rattle.key_script.specs.declared.keys.Key.TheVariants as key
 use Rattle.vote_kinds.specs.declared.choice.Choice.{Choice}
@@ -16,7 +16,7 @@ use Rattle.image_codec.specs.State.{State, with_ballot, filled_up, MayVote}
 use Rattle.image_codec.specs.Valid.{MayClose}
 use Rattle.image_codec.proofs.OfTables.{of_tables-opened_at, of_tables-sealed_at, of_tables-with_ballot}
 use Rattle.station.specs.Setting.{Setting, IsSetting, reply_at, setting_of}
-use Rattle.station.specs.Output.{Output, Says, Commits, Reports, commits_of, refusal, echo, screen}
+use Rattle.station.specs.Output.{Output, Says, Commits, Reports, commits_of, refusal, echo, screen, earlier_for}
 use Rattle.station.specs.Run.{wait_outputs, line_outputs, Votes, start, voted, IsOpen, open_at, IsRun, ends, ignores, refuses, opens, seals, waits, cancels, visits, cut_off, Visit, whole, suspended, after_suspension, suspension}
 use Rattle.station.specs.Press.{Standing, press, idle_at, after, outputs}
 use Rattle.station.specs.Stands.{idle}
@@ -88,23 +88,23 @@ cond_says : (b : Bool) (o : Output) → commits_of (o ∷ []) ≡ [] → commits
 cond_says true o h = refl
 cond_says false o h = h
 
-key_says : (l : BallotLine) (w : List Key) (k : Key) → commits_of (echo l w k) ≡ []
-key_says l w key.Confirm = refl
-key_says l w key.Blank = cond_says _ (screen l _) refl
-key_says l w key.Correct = cond_says _ (screen l _) refl
-key_says l w (key.Digit d) = cond_says _ (screen l _) refl
+key_says : (l : BallotLine) (earlier : Option Choice) (w : List Key) (k : Key) → commits_of (echo l earlier w k) ≡ []
+key_says l earlier w key.Confirm = refl
+key_says l earlier w key.Blank = cond_says _ (screen l earlier _) refl
+key_says l earlier w key.Correct = cond_says _ (screen l earlier _) refl
+key_says l earlier w (key.Digit d) = cond_says _ (screen l earlier _) refl
 
-line_says : (v : Setting) (s : State) (place : ℕ) (l : BallotLine) (w : List Key) (es : List Event) → commits_of (line_outputs v s place l w es) ≡ []
-line_says v s place l w [] = refl
-line_says v s place l w (Clerk c ∷ es) = says (refusal (reply_at v s (mode.Voting place) c)) _ (refusal_says (reply_at v s (mode.Voting place) c)) ∙ line_says v s place l w es
-line_says v s place l w (Voter k ∷ es) = says (echo l w k) _ (key_says l w k) ∙ line_says v s place l (w ++ k ∷ []) es
+line_says : (v : Setting) (s : State) (place : ℕ) (l : BallotLine) (earlier : Option Choice) (w : List Key) (es : List Event) → commits_of (line_outputs v s place l earlier w es) ≡ []
+line_says v s place l earlier w [] = refl
+line_says v s place l earlier w (Clerk c ∷ es) = says (refusal (reply_at v s (mode.Voting place) c)) _ (refusal_says (reply_at v s (mode.Voting place) c)) ∙ line_says v s place l earlier w es
+line_says v s place l earlier w (Voter k ∷ es) = says (echo l earlier w k) _ (key_says l earlier w k) ∙ line_says v s place l earlier (w ++ k ∷ []) es
 
 pub votes_say : {v : Setting} {s : State} {place : ℕ} {es : List Event} {choices : List Choice} {text : List Output} → Votes v s place es choices text → commits_of text ≡ []
 votes_say start = refl
-votes_say {v} {s} {place} (voted {choices} {text} l on votes at visit confirms) = says text _ (votes_say votes) ∙ line_says v s place l [] on
+votes_say {v} {s} {place} (voted {choices} {text} l on votes at visit confirms) = says text _ (votes_say votes) ∙ line_says v s place l (earlier_for v choices l) [] on
 
 pub open_says : {v : Setting} {s : State} {place : ℕ} {es : List Event} {choices : List Choice} {text : List Output} → IsOpen v s place es choices text → commits_of text ≡ []
-open_says {v} {s} {place} (open_at {choices} {text} l on votes at visit unconfirmed) = says text _ (votes_say votes) ∙ line_says v s place l [] on
+open_says {v} {s} {place} (open_at {choices} {text} l on votes at visit unconfirmed) = says text _ (votes_say votes) ∙ line_says v s place l (earlier_for v choices l) [] on
 
 history_moved : {v : Setting} {s t : State} {a b : List State} → a ≡ b → IsHistory v s b t → IsHistory v s a t
 history_moved {v} {s} {t} e h = subst (λ (ss : List State). IsHistory v s ss t) (sym e) h

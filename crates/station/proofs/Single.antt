@@ -84,14 +84,14 @@ press_refused v x c r = rw r.1 refl
 after_change : (v : Setting) (s : State) (place : ℕ) (choices : List Choice) (l : BallotLine) (k : Key) (f g : Field) (b : Bool)
     → same_field g f ≡ b → next_field l.digits f k ≡ g
     → after_key v s place choices f l k (cond b shown.Nothing shown.Screen)
-    ≡ record { standing = voting_at s place choices g; out = cond b [] (screen l g ∷ []) }
+    ≡ record { standing = voting_at s place choices g; out = cond b [] (screen l (earlier_for v choices l) g ∷ []) }
 after_change v s place choices l k f g true t e = ap (λ (h : Field). record { standing = voting_at s place choices h; out = [] }) (sym (same_field_is g f t))
-after_change v s place choices l k f g false t e = ap (λ (h : Field). record { standing = voting_at s place choices h; out = screen l h ∷ [] }) e
+after_change v s place choices l k f g false t e = ap (λ (h : Field). record { standing = voting_at s place choices h; out = screen l (earlier_for v choices l) h ∷ [] }) e
 
 changes : (v : Setting) (s : State) (place : ℕ) (choices : List Choice) (l : BallotLine) (k : Key) (f g : Field)
     → g ≡ next_field l.digits f k
     → after_key v s place choices f l k (cond (same_field (next_field l.digits f k) f) shown.Nothing shown.Screen)
-    ≡ record { standing = voting_at s place choices g; out = cond (same_field g f) [] (screen l g ∷ []) }
+    ≡ record { standing = voting_at s place choices g; out = cond (same_field g f) [] (screen l (earlier_for v choices l) g ∷ []) }
 changes v s place choices l k f g e =
     ap (λ (h : Field). after_key v s place choices f l k (cond (same_field h f) shown.Nothing shown.Screen)) (sym e)
     ∙ after_change v s place choices l k f g (same_field g f) refl (sym e)
@@ -100,7 +100,7 @@ changes v s place choices l k f g e =
 pub press_key : (v : Setting) (s : State) (place : ℕ) (choices : List Choice) (l : BallotLine) (w : List Key) (k : Key)
     → 0 < l.digits → line_at v choices ≡ Some l → (k ≡ key.Confirm → is_confirmable l (field_after l.digits w) ≡ false)
     → press v (voting_at s place choices (field_after l.digits w)) (Voter k)
-    ≡ record { standing = voting_at s place choices (field_after l.digits (w ++ k ∷ [])); out = echo l w k }
+    ≡ record { standing = voting_at s place choices (field_after l.digits (w ++ k ∷ [])); out = echo l (earlier_for v choices l) w k }
 press_key v s place choices l w key.Confirm h at last =
     rw (at, last refl) (ap (λ (f : Field). record { standing = voting_at s place choices f; out = [] }) (sym (field_after-more l.digits w key.Confirm h)))
 press_key v s place choices l w key.Blank h at last = rw at (changes v s place choices l key.Blank (field_after l.digits w) _ (field_after-more l.digits w key.Blank h))

@@ -63,17 +63,17 @@ wait_outputs-append v s place (Clerk c ∷ es) fs =
     let told = refusal (reply_at v s (mode.Identified place) c) in
     ap (λ (o : List Output). told ++ o) (wait_outputs-append v s place es fs) ∙ sym (append_assoc told (wait_outputs v s place es) (wait_outputs v s place fs))
 
-line_outputs-append : (v : Setting) (s : State) (place : ℕ) (l : BallotLine) (w : List Key) (es fs : List Event)
-    → line_outputs v s place l w (es ++ fs) ≡ line_outputs v s place l w es ++ line_outputs v s place l (w ++ keys_of es) fs
-line_outputs-append v s place l w [] fs = ap (λ (u : List Key). line_outputs v s place l u fs) (sym (append-nil w))
-line_outputs-append v s place l w (Clerk c ∷ es) fs =
+line_outputs-append : (v : Setting) (s : State) (place : ℕ) (l : BallotLine) (earlier : Option Choice) (w : List Key) (es fs : List Event)
+    → line_outputs v s place l earlier w (es ++ fs) ≡ line_outputs v s place l earlier w es ++ line_outputs v s place l earlier (w ++ keys_of es) fs
+line_outputs-append v s place l earlier w [] fs = ap (λ (u : List Key). line_outputs v s place l earlier u fs) (sym (append-nil w))
+line_outputs-append v s place l earlier w (Clerk c ∷ es) fs =
     let told = refusal (reply_at v s (mode.Voting place) c) in
-    ap (λ (o : List Output). told ++ o) (line_outputs-append v s place l w es fs) ∙ sym (append_assoc told (line_outputs v s place l w es) _)
-line_outputs-append v s place l w (Voter k ∷ es) fs =
-    let told = echo l w k in
-    ap (λ (o : List Output). told ++ o) (line_outputs-append v s place l (w ++ k ∷ []) es fs
-    ∙ ap (λ (u : List Key). line_outputs v s place l (w ++ k ∷ []) es ++ line_outputs v s place l u fs) (append_assoc w (k ∷ []) (keys_of es)))
-    ∙ sym (append_assoc told (line_outputs v s place l (w ++ k ∷ []) es) _)
+    ap (λ (o : List Output). told ++ o) (line_outputs-append v s place l earlier w es fs) ∙ sym (append_assoc told (line_outputs v s place l earlier w es) _)
+line_outputs-append v s place l earlier w (Voter k ∷ es) fs =
+    let told = echo l earlier w k in
+    ap (λ (o : List Output). told ++ o) (line_outputs-append v s place l earlier (w ++ k ∷ []) es fs
+    ∙ ap (λ (u : List Key). line_outputs v s place l earlier (w ++ k ∷ []) es ++ line_outputs v s place l earlier u fs) (append_assoc w (k ∷ []) (keys_of es)))
+    ∙ sym (append_assoc told (line_outputs v s place l earlier (w ++ k ∷ []) es) _)
 
 -- Nobody is identified
 
@@ -216,19 +216,19 @@ module _ (v : Setting) (s : State) (number place : ℕ) (before es : List Event)
   here = voting_at s place choices (field_after l.digits (keys_of on))
 
   abbrev told : List Output
-  told = visit_outputs v s number place before (text ++ call_of choices l ∷ line_outputs v s place l [] on)
+  told = visit_outputs v s number place before (text ++ call_of choices l ∷ line_outputs v s place l (earlier_for v choices l) [] on)
 
   -- an event that leaves the voter on the line
   goes_on_line : (e : Event) → IsVisiting e → IsUnconfirmed l (keys_of (on ++ e ∷ []))
-      → press v here e ≡ record { standing = voting_at s place choices (field_after l.digits (keys_of (on ++ e ∷ []))); out = line_outputs v s place l (keys_of on) (e ∷ []) }
+      → press v here e ≡ record { standing = voting_at s place choices (field_after l.digits (keys_of (on ++ e ∷ []))); out = line_outputs v s place l (earlier_for v choices l) (keys_of on) (e ∷ []) }
       → Goes v s (press v here e).standing (visit_events number before (es ++ (on ++ e ∷ []))) (told ++ (press v here e).out)
   goes_on_line e visiting u p =
-      let called : List Output = text ++ call_of choices l ∷ line_outputs v s place l [] on in
-      let shown : List Output = line_outputs v s place l (keys_of on) (e ∷ []) in
+      let called : List Output = text ++ call_of choices l ∷ line_outputs v s place l (earlier_for v choices l) [] on in
+      let shown : List Output = line_outputs v s place l (earlier_for v choices l) (keys_of on) (e ∷ []) in
       goes_press v s here e _ _ told p
       (goes_moved refl refl
-      (ap (λ (o : List Output). visit_outputs v s number place before (text ++ call_of choices l ∷ o)) (line_outputs-append v s place l [] on (e ∷ []))
-      ∙ ap (visit_outputs v s number place before) (sym (append_assoc text (call_of choices l ∷ line_outputs v s place l [] on) shown))
+      (ap (λ (o : List Output). visit_outputs v s number place before (text ++ call_of choices l ∷ o)) (line_outputs-append v s place l (earlier_for v choices l) [] on (e ∷ []))
+      ∙ ap (visit_outputs v s number place before) (sym (append_assoc text (call_of choices l ∷ line_outputs v s place l (earlier_for v choices l) [] on) shown))
       ∙ visit_outputs-append v s number place before called shown)
       (stands (voting before l (on ++ e ∷ []) h w votes at (all_more IsVisiting on e visit visiting) u)))
 
@@ -239,8 +239,8 @@ module _ (v : Setting) (s : State) (number place : ℕ) (before es : List Event)
       let more : keys_of (on ++ Voter k ∷ []) ≡ keys_of on ++ k ∷ [] = keys_of-append on (Voter k ∷ []) in
       goes_on_line (Voter k) tt (subst (IsUnconfirmed l) (sym more) (unconfirmed_more l (keys_of on) k unconfirmed (λ e. last (sym e))))
       (press_key v s place choices l (keys_of on) k (valid _ l at) at last
-      ∙ ap (λ (u : List Key). record { standing = voting_at s place choices (field_after l.digits u); out = echo l (keys_of on) k }) (sym more)
-      ∙ ap (λ (o : List Output). record { standing = voting_at s place choices (field_after l.digits (keys_of (on ++ Voter k ∷ []))); out = o }) (sym (append-nil (echo l (keys_of on) k))))
+      ∙ ap (λ (u : List Key). record { standing = voting_at s place choices (field_after l.digits u); out = echo l (earlier_for v choices l) (keys_of on) k }) (sym more)
+      ∙ ap (λ (o : List Output). record { standing = voting_at s place choices (field_after l.digits (keys_of (on ++ Voter k ∷ []))); out = o }) (sym (append-nil (echo l (earlier_for v choices l) (keys_of on) k))))
 
   -- a key of the clerk that is refused
   goes_refused : (c : ClerkKey) → IsVisiting (Clerk c)
@@ -260,14 +260,14 @@ module _ (v : Setting) (s : State) (number place : ℕ) (before es : List Event)
       let chosen = choice_of l (earlier_for v choices l) (field_after l.digits (keys_of on)) in
       goes_press v s here (Voter key.Confirm) _ _ told (press_confirm v s place choices l (keys_of on) at t)
       (goes_called v s number place before (es ++ (on ++ Voter key.Confirm ∷ [])) (choices ++ chosen ∷ [])
-      (text ++ call_of choices l ∷ line_outputs v s place l [] on) (line_at v (choices ++ chosen ∷ [])) h w
+      (text ++ call_of choices l ∷ line_outputs v s place l (earlier_for v choices l) [] on) (line_at v (choices ++ chosen ∷ [])) h w
       (voted l on votes at visit (record { confirmable = t; shortest = unconfirmed; chosen = refl })) refl)
 
   goes_suspended : Goes v s (press v here (Clerk clerk.Suspende)).standing (visit_events number before (es ++ (on ++ Clerk clerk.Suspende ∷ []))) (told ++ (press v here (Clerk clerk.Suspende)).out)
   goes_suspended =
       let polling = polls v s s.phase number place h in
       let suspends : reply_at v s (mode.Voting place) clerk.Suspende ≡ answer.Suspends place = rw polling.1 refl in
-      let shown : List Output = text ++ call_of choices l ∷ line_outputs v s place l [] on in
+      let shown : List Output = text ++ call_of choices l ∷ line_outputs v s place l (earlier_for v choices l) [] on in
       let last = suspension v s place choices in
       goes_press v s here (Clerk clerk.Suspende) (answered v here clerk.Suspende (answer.Suspends place)) _ told (ap (answered v here clerk.Suspende) suspends)
       (done (after_suspension v s place choices) (λ more u put run. run_moved

@@ -18,40 +18,38 @@ use Rattle.station.specs.Run.{after_suspension}
 use Rattle.station.specs.Press.{typed, on_line, after_key, calls_next, voting_at}
 
 typed_is : (v : Setting) (s : State) (place : ℕ) (choices : List Choice) (f : Field) (k : Key) (l : BallotLine) (r : Shown)
-    → line_at v choices ≡ Some l → earlier_for v choices l ≡ None → next_shown l None f k ≡ r
+    → line_at v choices ≡ Some l → next_shown l (earlier_for v choices l) f k ≡ r
     → typed v s (mode.Voting place) choices f k ≡ after_key v s place choices f l k r
-typed_is v s place choices f k l r at none shows =
-    ap (on_line v s place choices f k) at
-    ∙ (ap (λ (e : Option Choice). after_key v s place choices f l k (next_shown l e f k)) none ∙ ap (after_key v s place choices f l k) shows)
+typed_is v s place choices f k l r at shows = ap (on_line v s place choices f k) at ∙ ap (after_key v s place choices f l k) shows
 
 -- the key that isn't taken changes nothing
 pub typed_nothing : (v : Setting) (s : State) (place : ℕ) (choices : List Choice) (f : Field) (k : Key) (l : BallotLine)
-    → line_at v choices ≡ Some l → earlier_for v choices l ≡ None → next_shown l None f k ≡ shown.Nothing
+    → line_at v choices ≡ Some l → next_shown l (earlier_for v choices l) f k ≡ shown.Nothing
     → typed v s (mode.Voting place) choices f k ≡ record { standing = voting_at s place choices f; out = [] }
-typed_nothing v s place choices f k l at none shows = typed_is v s place choices f k l shown.Nothing at none shows
+typed_nothing v s place choices f k l at shows = typed_is v s place choices f k l shown.Nothing at shows
 
 unchanged : (f g : Field) (same : Bool) → same_field g f ≡ same → cond same shown.Nothing shown.Screen ≡ shown.Nothing → g ≡ f
 unchanged f g true e h = same_field_is g f e
 unchanged f g false e h = absurd (cc)
 
-pub nothing_stays : (l : BallotLine) (f : Field) (k : Key) → next_shown l None f k ≡ shown.Nothing → next_field l.digits f k ≡ f
-nothing_stays l f key.Confirm h = refl
-nothing_stays l f key.Blank h = unchanged f (next_field l.digits f key.Blank) _ refl h
-nothing_stays l f key.Correct h = unchanged f (next_field l.digits f key.Correct) _ refl h
-nothing_stays l f (key.Digit d) h = unchanged f (next_field l.digits f (key.Digit d)) _ refl h
+pub nothing_stays : (l : BallotLine) (earlier : Option Choice) (f : Field) (k : Key) → next_shown l earlier f k ≡ shown.Nothing → next_field l.digits f k ≡ f
+nothing_stays l earlier f key.Confirm h = refl
+nothing_stays l earlier f key.Blank h = unchanged f (next_field l.digits f key.Blank) _ refl h
+nothing_stays l earlier f key.Correct h = unchanged f (next_field l.digits f key.Correct) _ refl h
+nothing_stays l earlier f (key.Digit d) h = unchanged f (next_field l.digits f (key.Digit d)) _ refl h
 
 -- the key that changes the field shows the screen
 pub typed_screen : (v : Setting) (s : State) (place : ℕ) (choices : List Choice) (f : Field) (k : Key) (l : BallotLine)
-    → line_at v choices ≡ Some l → earlier_for v choices l ≡ None → next_shown l None f k ≡ shown.Screen
-    → typed v s (mode.Voting place) choices f k ≡ record { standing = voting_at s place choices (next_field l.digits f k); out = screen l (next_field l.digits f k) ∷ [] }
-typed_screen v s place choices f k l at none shows =
-    typed_is v s place choices f k l shown.Screen at none shows
+    → line_at v choices ≡ Some l → next_shown l (earlier_for v choices l) f k ≡ shown.Screen
+    → typed v s (mode.Voting place) choices f k ≡ record { standing = voting_at s place choices (next_field l.digits f k); out = screen l (earlier_for v choices l) (next_field l.digits f k) ∷ [] }
+typed_screen v s place choices f k l at shows =
+    typed_is v s place choices f k l shown.Screen at shows
 
 -- the key that ends the line goes on to the next
 pub typed_voted : (v : Setting) (s : State) (place : ℕ) (choices : List Choice) (f : Field) (k : Key) (l : BallotLine) (c : Choice)
-    → line_at v choices ≡ Some l → earlier_for v choices l ≡ None → next_shown l None f k ≡ shown.Voted c
+    → line_at v choices ≡ Some l → next_shown l (earlier_for v choices l) f k ≡ shown.Voted c
     → typed v s (mode.Voting place) choices f k ≡ calls_next v s place (choices ++ c ∷ [])
-typed_voted v s place choices f k l c at none shows = typed_is v s place choices f k l (shown.Voted c) at none shows
+typed_voted v s place choices f k l c at shows = typed_is v s place choices f k l (shown.Voted c) at shows
 
 -- a voter who is suspended after a choice came
 pub came_suspended : (v : Setting) (s : State) (place : ℕ) (choices : List Choice) → nat_eq (length choices) 0 ≡ false

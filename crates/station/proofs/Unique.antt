@@ -51,7 +51,7 @@ ends_wait v s place (Clerk c ∷ before) es t out polling w h =
 ends_line : (v : Setting) (s : State) (place : ℕ) (choices : List Choice) (l : BallotLine) (w : List Key) (on es : List Event) (t : State) (out : List Output)
     → Polls s → 0 < l.digits → line_at v choices ≡ Some l → AllByRecursion IsVisiting on → IsUnconfirmed l (w ++ keys_of on)
     → Ends v (voting_at s place choices (field_after l.digits (w ++ keys_of on))) es t out
-    → Ends v (voting_at s place choices (field_after l.digits w)) (on ++ es) t (line_outputs v s place l w on ++ out)
+    → Ends v (voting_at s place choices (field_after l.digits w)) (on ++ es) t (line_outputs v s place l (earlier_for v choices l) w on ++ out)
 ends_line v s place choices l w [] es t out polling d at visit u h =
     subst (λ (x : List Key). Ends v (voting_at s place choices (field_after l.digits x)) es t out) (append-nil w) h
 ends_line v s place choices l w (Clerk c ∷ on) es t out polling d at visit u h =
@@ -59,16 +59,16 @@ ends_line v s place choices l w (Clerk c ∷ on) es t out polling d at visit u h
     let told = refusal (reply_at v s (mode.Voting place) c) in
     let x = voting_at s place choices (field_after l.digits w) in
     ends_press v x (Clerk c) _ (on ++ es) t _ (press_refused v x c (refused_visiting v s place c polling visit.0))
-    (more.0, append_assoc told (line_outputs v s place l w on) out ∙ ap (λ (o : List Output). told ++ o) more.1)
+    (more.0, append_assoc told (line_outputs v s place l (earlier_for v choices l) w on) out ∙ ap (λ (o : List Output). told ++ o) more.1)
 ends_line v s place choices l w (Voter k ∷ on) es t out polling d at visit u h =
     let assoc : (w ++ k ∷ []) ++ keys_of on ≡ w ++ k ∷ keys_of on = append_assoc w (k ∷ []) (keys_of on) in
-    let told = echo l w k in
+    let told = echo l (earlier_for v choices l) w k in
     let more = ends_line v s place choices l (w ++ k ∷ []) on es t out polling d at visit.1
     (subst (IsUnconfirmed l) (sym assoc) u)
     (subst (λ (y : List Key). Ends v (voting_at s place choices (field_after l.digits y)) es t out) (sym assoc) h) in
     ends_press v (voting_at s place choices (field_after l.digits w)) (Voter k) _ (on ++ es) t _
     (press_key v s place choices l w k d at (λ e. u w (keys_of on) (ap (λ (j : Key). w ++ j ∷ keys_of on) e)))
-    (more.0, append_assoc told (line_outputs v s place l (w ++ k ∷ []) on) out ∙ ap (λ (o : List Output). told ++ o) more.1)
+    (more.0, append_assoc told (line_outputs v s place l (earlier_for v choices l) (w ++ k ∷ []) on) out ∙ ap (λ (o : List Output). told ++ o) more.1)
 
 ends_moved : (v : Setting) (r : Pressed) (es fs : List Event) (t : State) (out put : List Output) → es ≡ fs → out ≡ put → EndsAfter v r es t out → EndsAfter v r fs t put
 ends_moved v r es fs t out put p q h = subst (λ (o : List Output). EndsAfter v r fs t o) q (subst (λ (f : List Event). EndsAfter v r f t out) p h)
@@ -86,15 +86,15 @@ ends_votes {v} {s} {place} valid polling (voted {es} {choices} {text} {c} l on v
     let last : Ends v (voting_at s place choices (field_after l.digits (keys_of on))) (Voter key.Confirm ∷ more) t out =
     ends_press v (voting_at s place choices (field_after l.digits (keys_of on))) (Voter key.Confirm) _ more t out
     (press_confirm v s place choices l (keys_of on) at confirms.confirmable) chosen in
-    let typed : Ends v (voting_at s place choices field.Empty) (on ++ Voter key.Confirm ∷ more) t (line_outputs v s place l [] on ++ out) =
+    let typed : Ends v (voting_at s place choices field.Empty) (on ++ Voter key.Confirm ∷ more) t (line_outputs v s place l (earlier_for v choices l) [] on ++ out) =
     ends_line v s place choices l [] on (Voter key.Confirm ∷ more) t out polling (valid _ l at) at visit confirms.shortest last in
-    let called : EndsAfter v (calls_next v s place choices) (on ++ Voter key.Confirm ∷ more) t ((call_of choices l ∷ line_outputs v s place l [] on) ++ out) =
-    subst (λ (o : Option BallotLine). EndsAfter v (call v s place choices o) (on ++ Voter key.Confirm ∷ more) t ((call_of choices l ∷ line_outputs v s place l [] on) ++ out)) (sym at)
+    let called : EndsAfter v (calls_next v s place choices) (on ++ Voter key.Confirm ∷ more) t ((call_of choices l ∷ line_outputs v s place l (earlier_for v choices l) [] on) ++ out) =
+    subst (λ (o : Option BallotLine). EndsAfter v (call v s place choices o) (on ++ Voter key.Confirm ∷ more) t ((call_of choices l ∷ line_outputs v s place l (earlier_for v choices l) [] on) ++ out)) (sym at)
     (typed.0, ap (λ (o : List Output). call_of choices l ∷ o) typed.1) in
-    let before = ends_votes valid polling votes (on ++ Voter key.Confirm ∷ more) t ((call_of choices l ∷ line_outputs v s place l [] on) ++ out) called in
+    let before = ends_votes valid polling votes (on ++ Voter key.Confirm ∷ more) t ((call_of choices l ∷ line_outputs v s place l (earlier_for v choices l) [] on) ++ out) called in
     ends_moved v (calls_next v s place []) _ _ t _ _
     (sym (append_assoc es (on ++ confirm) more ∙ ap (λ (e : List Event). es ++ e) (append_assoc on confirm more)))
-    (sym (append_assoc text (call_of choices l ∷ line_outputs v s place l [] on) out))
+    (sym (append_assoc text (call_of choices l ∷ line_outputs v s place l (earlier_for v choices l) [] on) out))
     before
 
 -- where nobody is identified before the events, and again after the first of them
@@ -120,14 +120,14 @@ ends_open : {v : Setting} {s : State} {place : ℕ} {es : List Event} {choices :
     → IsSetting v → Polls s → IsOpen v s place es choices text → (more : List Event) (t : State) (out : List Output)
     → ((f : Field) → Ends v (voting_at s place choices f) more t out) → EndsAfter v (calls_next v s place []) (es ++ more) t (text ++ out)
 ends_open {v} {s} {place} valid polling (open_at {es} {choices} {text} l on votes at visit unconfirmed) more t out h =
-    let typed : Ends v (voting_at s place choices field.Empty) (on ++ more) t (line_outputs v s place l [] on ++ out) =
+    let typed : Ends v (voting_at s place choices field.Empty) (on ++ more) t (line_outputs v s place l (earlier_for v choices l) [] on ++ out) =
     ends_line v s place choices l [] on more t out polling (valid _ l at) at visit unconfirmed (h _) in
-    let called : EndsAfter v (calls_next v s place choices) (on ++ more) t ((call_of choices l ∷ line_outputs v s place l [] on) ++ out) =
-    subst (λ (o : Option BallotLine). EndsAfter v (call v s place choices o) (on ++ more) t ((call_of choices l ∷ line_outputs v s place l [] on) ++ out)) (sym at)
+    let called : EndsAfter v (calls_next v s place choices) (on ++ more) t ((call_of choices l ∷ line_outputs v s place l (earlier_for v choices l) [] on) ++ out) =
+    subst (λ (o : Option BallotLine). EndsAfter v (call v s place choices o) (on ++ more) t ((call_of choices l ∷ line_outputs v s place l (earlier_for v choices l) [] on) ++ out)) (sym at)
     (typed.0, ap (λ (o : List Output). call_of choices l ∷ o) typed.1) in
-    let before = ends_votes valid polling votes (on ++ more) t ((call_of choices l ∷ line_outputs v s place l [] on) ++ out) called in
+    let before = ends_votes valid polling votes (on ++ more) t ((call_of choices l ∷ line_outputs v s place l (earlier_for v choices l) [] on) ++ out) called in
     ends_moved v (calls_next v s place []) _ _ t _ _ (sym (append_assoc es on more))
-    (sym (append_assoc text (call_of choices l ∷ line_outputs v s place l [] on) out)) before
+    (sym (append_assoc text (call_of choices l ∷ line_outputs v s place l (earlier_for v choices l) [] on) out)) before
 
 -- a whole or suspended visit, and what follows from the state that it leaves
 ends_visited : {v : Setting} {s u : State} {place : ℕ} {visit : List Event} {text : List Output}

@@ -55,13 +55,13 @@ earlier_for v choices l = earlier_of (slice_get v.lines (length choices - 1)) (s
 abbrev pub call_of : List Choice → BallotLine → Output
 call_of choices l = Says (line.Ballot (length choices + 1) l.code)
 
--- the screen at a field
-abbrev pub screen : BallotLine → Field → Output
-screen l f = Says (line.Screen l.panel f)
+-- the screen at a field, where the line before in the same visit has this choice of the panel, if it has one
+abbrev pub screen : BallotLine → Option Choice → Field → Output
+screen l earlier f = Says (line.Screen l.panel earlier f)
 
 -- What a key shows after the word w, where it ends no panel word: CONFIRMA nothing, and each other key the screen where it
 -- changes the field.
-abbrev pub echo : BallotLine → List Key → Key → List Output
-echo l w k =
+abbrev pub echo : BallotLine → Option Choice → List Key → Key → List Output
+echo l earlier w k =
     if is_confirm k then [] else (if same_field (field_after l.digits (w ++ k ∷ [])) (field_after l.digits w) then []
-    else screen l (field_after l.digits (w ++ k ∷ [])) ∷ [])
+    else screen l earlier (field_after l.digits (w ++ k ∷ [])) ∷ [])

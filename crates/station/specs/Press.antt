@@ -57,7 +57,7 @@ calls_next v s place choices = call v s place choices (line_at v choices)
 abbrev pub after_key : Setting → State → ℕ → List Choice → Field → BallotLine → Key → Shown → Pressed
 after_key v s place choices f l k shown.Nothing = record { standing = voting_at s place choices f; out = [] }
 after_key v s place choices f l k shown.Screen =
-    record { standing = voting_at s place choices (next_field l.digits f k); out = screen l (next_field l.digits f k) ∷ [] }
+    record { standing = voting_at s place choices (next_field l.digits f k); out = screen l (earlier_for v choices l) (next_field l.digits f k) ∷ [] }
 after_key v s place choices f l k (shown.Voted c) = calls_next v s place (choices ++ c ∷ [])
 
 abbrev pub on_line : Setting → State → ℕ → List Choice → Field → Key → Option BallotLine → Pressed

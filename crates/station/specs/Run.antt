@@ -1,5 +1,5 @@
 -- What a list of events comes to, by whole visits
-use Rattle.std.specs.Prelude.{◌≡◌, ℕ, List, [], ◌∷◌, ◌++◌, Some, None}
+use Rattle.std.specs.Prelude.{◌≡◌, ℕ, List, [], ◌∷◌, ◌++◌, Option, Some, None}
 use Rattle.std.specs.List.{AllByRecursion}
 use Rattle.key_script.specs.declared.keys.Key.{Key}
 use Rattle.key_script.specs.declared.keys.Key.TheVariants as key
@@ -48,10 +48,10 @@ wait_outputs v s place (Clerk c ∷ es) = refusal (reply_at v s (mode.Identified
 
 -- What is put out on a line of the ballot, where the word w was typed before: each of the clerk's keys is refused in its
 -- place, and each of the voter's keys shows its echo.
-abbrev pub line_outputs : Setting → State → ℕ → BallotLine → List Key → List Event → List Output
-line_outputs v s place l w [] = []
-line_outputs v s place l w (Clerk c ∷ es) = refusal (reply_at v s (mode.Voting place) c) ++ line_outputs v s place l w es
-line_outputs v s place l w (Voter k ∷ es) = echo l w k ++ line_outputs v s place l (w ++ k ∷ []) es
+abbrev pub line_outputs : Setting → State → ℕ → BallotLine → Option Choice → List Key → List Event → List Output
+line_outputs v s place l earlier w [] = []
+line_outputs v s place l earlier w (Clerk c ∷ es) = refusal (reply_at v s (mode.Voting place) c) ++ line_outputs v s place l earlier w es
+line_outputs v s place l earlier w (Voter k ∷ es) = echo l earlier w k ++ line_outputs v s place l earlier (w ++ k ∷ []) es
 
 -- The events take the voter through the first lines of the ballot, with these choices: for each line a list without SUSPENDE,
 -- and then the CONFIRMA with which the voter's keys are one panel word. The text of each line begins with its call.
@@ -61,14 +61,14 @@ pub data Votes (v : Setting) (s : State) (place : ℕ) : List Event → List Cho
       (l : BallotLine) (more : List Event) → Votes v s place es choices text → line_at v choices ≡ Some l
       → AllByRecursion IsVisiting more → Confirms l (earlier_for v choices l) (keys_of more) c
       → Votes v s place (es ++ (more ++ Voter key.Confirm ∷ [])) (choices ++ c ∷ [])
-      (text ++ call_of choices l ∷ line_outputs v s place l [] more)
+      (text ++ call_of choices l ∷ line_outputs v s place l (earlier_for v choices l) [] more)
 
 -- The events take the voter through the first lines of the ballot, with these choices, and then on the next line to no end.
 pub data IsOpen (v : Setting) (s : State) (place : ℕ) : List Event → List Choice → List Output → Type 0 where
   open_at : {es : List Event} {choices : List Choice} {text : List Output}
       (l : BallotLine) (more : List Event) → Votes v s place es choices text → line_at v choices ≡ Some l
       → AllByRecursion IsVisiting more → IsUnconfirmed l (keys_of more)
-      → IsOpen v s place (es ++ more) choices (text ++ call_of choices l ∷ line_outputs v s place l [] more)
+      → IsOpen v s place (es ++ more) choices (text ++ call_of choices l ∷ line_outputs v s place l (earlier_for v choices l) [] more)
 
 -- A voter who is suspended before the first choice did not come; after it the ballot counts, with Null on each line that is
 -- left.

@@ -1,5 +1,5 @@
 -- The screens of a visit, by the lines of the ballot
-use Rattle.std.specs.Prelude.{◌≡◌, ℕ, Bool, true, false, List, [], ◌∷◌, ◌++◌, Some, if◌then◌else◌, flat_map, slice_get, take}
+use Rattle.std.specs.Prelude.{◌≡◌, ℕ, Bool, true, false, List, [], ◌∷◌, ◌++◌, Option, Some, if◌then◌else◌, flat_map, slice_get, take}
 use Rattle.key_script.specs.declared.keys.Event.{Event}
 use Rattle.vote_kinds.specs.declared.choice.Choice.{Choice}
 use Rattle.vote_kinds.specs.declared.choice.Field.{Field}
@@ -23,7 +23,7 @@ is_call (Ballot number code) = true
 is_call _ = false
 
 abbrev pub is_screen : Line → Bool
-is_screen (Screen panel f) = true
+is_screen (Screen panel before f) = true
 is_screen _ = false
 
 -- the screens before the next call
@@ -44,12 +44,14 @@ screens_of out = screens_by_call (flat_map lines_told out)
 -- number: CONFIRMA is taken at the field of this screen, and the choice is the one that the field stands for.
 pub record IsOfLastScreen (v : Setting) (choices : List Choice) (out : List Output) (number : ℕ) (c : Choice) : Type 0 where
   pub line : BallotLine
+  pub earlier : Option Choice
   pub field : Field
   pub before : List Line
   pub stands : slice_get v.lines number ≡ Some line
-  pub screens : slice_get (screens_of out) number ≡ Some (before ++ Screen line.panel field ∷ [])
+  pub line_before : earlier ≡ earlier_for v (take number choices) line
+  pub screens : slice_get (screens_of out) number ≡ Some (before ++ Screen line.panel earlier field ∷ [])
   pub confirmable : is_confirmable line field ≡ true
-  pub chosen : c ≡ choice_of line (earlier_for v (take number choices) line) field
+  pub chosen : c ≡ choice_of line earlier field
 
 abbrev pub AreOfLastScreens : Setting → List Choice → List Output → Type 0
 AreOfLastScreens v choices out = (number : ℕ) (c : Choice) → slice_get choices number ≡ Some c → IsOfLastScreen v choices out number c

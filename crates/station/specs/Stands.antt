@@ -13,7 +13,7 @@ use Rattle.clerk_term.specs.declared.replies.Mode.TheVariants as mode
 use Rattle.clerk_term.specs.declared.replies.ClerkAnswer.TheVariants as answer
 use Rattle.image_codec.specs.State.{State}
 use Rattle.station.specs.Setting.{Setting, reply_at}
-use Rattle.station.specs.Output.{Output, Says, line_at, call_of}
+use Rattle.station.specs.Output.{Output, Says, line_at, earlier_for, call_of}
 use Rattle.station.specs.Run.{IsWaiting, IsVisiting, wait_outputs, line_outputs, Votes, IsRun}
 use Rattle.station.specs.Press.{Standing, idle_at, identified_at, voting_at}
 use Rattle.station.specs.declared.line.Line.TheVariants as line
@@ -31,7 +31,7 @@ pub data StandsFor (v : Setting) (s : State) : Standing → List Event → List 
       → StandsFor v s (voting_at s place choices (field_after l.digits (keys_of more)))
       (Clerk (clerk.Titulo number) ∷ (before ++ Clerk clerk.Libera ∷ (es ++ more)))
       (Says (line.Voter number) ∷ (wait_outputs v s place before
-      ++ Says line.Released ∷ (text ++ call_of choices l ∷ line_outputs v s place l [] more)))
+      ++ Says line.Released ∷ (text ++ call_of choices l ∷ line_outputs v s place l (earlier_for v choices l) [] more)))
 
 -- After the events, which put this out, the station stands for s and the events where somebody is identified or voting. Where
 -- it is idle, the events were a run to its state, and it stands for that and no events.

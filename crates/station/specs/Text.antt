@@ -1,5 +1,5 @@
 -- The lines of the display as bytes (docs/FORMATS.md, "Shown texts"), each with its line feed
-use Rattle.std.specs.Prelude.{ℕ, ◌<◌, ◌^◌, List, [], ◌∷◌, ◌++◌, None, codes, flat_map, length}
+use Rattle.std.specs.Prelude.{ℕ, ◌<◌, ◌^◌, List, [], ◌∷◌, ◌++◌, codes, flat_map, length}
 use Rattle.std.specs.Fmt.{decimal}
 use Rattle.urna_base.specs.Digits.{padded}
 use Rattle.election_tables.specs.TablesData.{TablesData}
@@ -30,7 +30,7 @@ line_text t line.Released = codes "LIBERADO" ++ 10 ∷ []
 line_text t line.Canceled = codes "CANCELADO" ++ 10 ∷ []
 line_text t line.Suspended = codes "SUSPENSO" ++ 10 ∷ []
 line_text t (line.Ballot number code) = codes "VOTO " ++ decimal number ++ codes " CARGO " ++ decimal code ++ 10 ∷ []
-line_text t (line.Screen panel f) = screen_text t panel None f
+line_text t (line.Screen panel before f) = screen_text t panel before f
 line_text t (line.Opened m) = codes "ABERTA " ++ padded 14 m ++ 10 ∷ []
 line_text t line.Ended = codes "FIM" ++ 10 ∷ []
 line_text t (line.Sealed m came) = codes "ENCERRADA " ++ padded 14 m ++ codes " " ++ decimal came ++ 10 ∷ []
@@ -60,7 +60,7 @@ IsLine t line.Released = Unit {0}
 IsLine t line.Canceled = Unit {0}
 IsLine t line.Suspended = Unit {0}
 IsLine t (line.Ballot number code) = Unit {0}
-IsLine t (line.Screen panel f) = (panel < length t.panels) × IsField (line_of t panel).digits f
+IsLine t (line.Screen panel before f) = (panel < length t.panels) × IsField (line_of t panel).digits f
 IsLine t (line.Opened m) = m < 10 ^ 14
 IsLine t line.Ended = Unit {0}
 IsLine t (line.Sealed m came) = m < 10 ^ 14

@@ -1,4 +1,4 @@
-ghost use Rattle.std.specs.Prelude.{◌≡◌, ◌≤◌, ◌<◌, ◌^◌, ◌∷◌, ◌++◌, [], None, codes, length};
+ghost use Rattle.std.specs.Prelude.{◌≡◌, ◌≤◌, ◌<◌, ◌^◌, ◌∷◌, ◌++◌, [], codes, length};
 ghost use Rattle.std.specs.Fmt.{decimal};
 ghost use Rattle.urna_base.specs.Digits.{padded};
 ghost use Rattle.vote_kinds.specs.Ballot.{IsField, line_of};
@@ -8,7 +8,7 @@ ghost use Rattle.station.specs.Text.{IsLine, line_text, poll_text, title_text};
 use election_tables::Tables;
 use turnout::Phase;
 use urna_base::LineBuffer;
-use vote_kinds::Field;
+use vote_kinds::{Choice, Field};
 use voter_term::screen;
 
 /// The two reports of counts.
@@ -22,7 +22,10 @@ pub(crate) enum Title {
 #[derive(Clone, Copy, Debug, PartialEq, Eq)]
 pub(crate) enum Line {
     /// Where the poll stands, and how many came.
-    Poll { phase: Phase, came: u32 },
+    Poll {
+        phase: Phase,
+        came: u32,
+    },
     /// A key of the clerk is refused, with the number of the reason.
     Refused(u8),
     /// The voter of this title is identified.
@@ -31,15 +34,25 @@ pub(crate) enum Line {
     Canceled,
     Suspended,
     /// The ballot line of this number, from 1, stands, with its office's code.
-    Ballot { number: u32, code: u8 },
-    /// The field of a panel, counted from 0.
-    Screen { panel: u32, field: Field },
+    Ballot {
+        number: u32,
+        code: u8,
+    },
+    /// The field of a panel, counted from 0, and the choice of the line before, if that is of the same panel.
+    Screen {
+        panel: u32,
+        before: Option<Choice>,
+        field: Field,
+    },
     /// The poll was opened at this moment.
     Opened(u64),
     /// The visit of a voter who came has ended.
     Ended,
     /// The poll was sealed at this moment, and so many came.
-    Sealed { closed: u64, came: u32 },
+    Sealed {
+        closed: u64,
+        came: u32,
+    },
 }
 
 impl Title {
@@ -72,7 +85,11 @@ impl Line {
             Line::Canceled => bare(b"CANCELADO"),
             Line::Suspended => bare(b"SUSPENSO"),
             Line::Ballot { number, code } => ballot_text(number, code),
-            Line::Screen { panel, field } => screen_line(tables, panel, field),
+            Line::Screen {
+                panel,
+                before,
+                field,
+            } => screen_line(tables, panel, before, field),
             Line::Opened(moment) => padded_line(b"ABERTA ", moment, 14),
             Line::Ended => bare(b"FIM"),
             Line::Sealed { closed, came } => sealed_text(closed, came),
@@ -80,13 +97,13 @@ impl Line {
     }
 }
 
-fn screen_line(tables: &Tables, panel: u32, field: Field) -> LineBuffer
+fn screen_line(tables: &Tables, panel: u32, before: Option<Choice>, field: Field) -> LineBuffer
     requires panel { panel < length tables.now.panels }
     requires field { IsField (line_of tables.now panel).digits field }
-    ensures { result ≡ screen_text tables.now panel None field }
+    ensures { result ≡ screen_text tables.now panel before field }
 {
     let mut bytes = [0; 128];
-    let count = screen(tables, panel, &field, &mut bytes);
+    let count = screen(tables, panel, before, &field, &mut bytes);
     let mut line = LineBuffer::new();
     line.push_text(&bytes[..count as usize]);
     line

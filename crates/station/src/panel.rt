@@ -1,5 +1,5 @@
 //! The panel that stands on the voter's terminal, whatever its office's number of digits.
-ghost use Rattle.std.specs.Prelude.{◌≡◌, ◌<◌, ◌≤◌, None, length};
+ghost use Rattle.std.specs.Prelude.{◌≡◌, ◌<◌, ◌≤◌, length};
 ghost use Rattle.key_script.specs.Event.{IsKey};
 ghost use Rattle.vote_kinds.specs.declared.choice.Field.{Field};
 ghost use Rattle.vote_kinds.specs.Ballot.{IsField, line_of};
@@ -8,7 +8,7 @@ ghost use Rattle.station.specs.Terminal.{digits_in, field_in};
 
 use election_tables::Tables;
 use key_script::Key;
-use vote_kinds::Field;
+use vote_kinds::{Choice, Field};
 use voter_term::{Panel, Shown};
 
 /// A panel of each number of digits that an office has. Contracts see its digits and its field (`specs/Terminal.antt`).
@@ -48,21 +48,27 @@ impl OpenPanel {
         }
     }
 
-    /// One key, and what it does. The caller owes that the panel of this number is one of the tables, that its office has the digits
-    /// of this one, and that the key's digit is one.
-    pub(crate) fn key(&mut self, tables: &Tables, number: u32, key: Key) -> Shown
+    /// One key, and what it does, where the line before has this choice of the panel, if it has one. The caller owes that the panel of
+    /// this number is one of the tables, that its office has the digits of this one, and that the key's digit is one.
+    pub(crate) fn key(
+        &mut self,
+        tables: &Tables,
+        number: u32,
+        before: Option<Choice>,
+        key: Key,
+    ) -> Shown
         requires panel { number < length tables.now.panels }
         requires digits { (line_of tables.now number).digits ≡ digits_in self.old }
         requires key { IsKey key }
         ensures digits { digits_in self.new ≡ digits_in self.old }
         ensures next { field_in self.new ≡ next_field (digits_in self.old) (field_in self.old) key }
-        ensures tells { result ≡ next_shown (line_of tables.now number) None (field_in self.old) key }
+        ensures tells { result ≡ next_shown (line_of tables.now number) before (field_in self.old) key }
     {
         match self {
-            OpenPanel::Two(panel) => panel.key(tables, number, key),
-            OpenPanel::Three(panel) => panel.key(tables, number, key),
-            OpenPanel::Four(panel) => panel.key(tables, number, key),
-            OpenPanel::Five(panel) => panel.key(tables, number, key),
+            OpenPanel::Two(panel) => panel.key(tables, number, before, key),
+            OpenPanel::Three(panel) => panel.key(tables, number, before, key),
+            OpenPanel::Four(panel) => panel.key(tables, number, before, key),
+            OpenPanel::Five(panel) => panel.key(tables, number, before, key),
         }
     }
 }

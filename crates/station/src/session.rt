@@ -14,7 +14,7 @@ ghost use Rattle.station.specs.Valid.{IsAnswer, IsStanding};
 use crate::line::{Line, Title};
 use crate::panel::OpenPanel;
 use crate::perform::Act;
-use crate::visit::{Choices, fill_up, panel_of_line};
+use crate::visit::{Choices, fill_up, line_behind};
 use arrayvec::ArrayVec;
 use clerk_term::{ClerkAnswer, Mode, reply};
 use election_tables::{Roll, Tables};
@@ -142,13 +142,14 @@ impl Session {
         let Mode::Voting(place) = self.mode else {
             return Acts::new();
         };
-        let Some(panel) = panel_of_line(tables, self.choices.len()) else {
+        let Some(line) = line_behind(tables, &self.choices) else {
             return Acts::new();
         };
-        match self.panel.key(tables, panel, key) {
+        match self.panel.key(tables, line.panel, line.before, key) {
             Shown::Nothing => Acts::new(),
             Shown::Screen => one(Act::Say(Line::Screen {
-                panel,
+                panel: line.panel,
+                before: line.before,
                 field: self.panel.field(),
             })),
             Shown::Voted(choice) => {
@@ -218,13 +219,13 @@ impl Session {
         ensures panel { FitsLine (setting_of tables.now roll.now.titles) self.new.standing self.new.digits }
         ensures act { result ∷ [] ≡ map act_of (calls_next (setting_of tables.now roll.now.titles) self.old.standing.state place self.old.standing.choices).out }
     {
-        match panel_of_line(tables, self.choices.len()) {
-            Some(panel) => {
-                self.panel = OpenPanel::of(office_digits(tables, panel));
+        match line_behind(tables, &self.choices) {
+            Some(line) => {
+                self.panel = OpenPanel::of(office_digits(tables, line.panel));
                 self.mode = Mode::Voting(place);
                 Act::Say(Line::Ballot {
-                    number: panel + 1,
-                    code: tables.office(panel).code,
+                    number: self.choices.len() as u32 + 1,
+                    code: tables.office(line.panel).code,
                 })
             }
             None => {
@@ -249,7 +250,7 @@ impl Session {
             self.clear();
             return Act::Say(Line::Suspended);
         }
-        fill_up(&mut self.choices, tables.panels() as usize);
+        fill_up(&mut self.choices, tables.ballot_lines() as usize);
         self.state.ballot(tables, place, &self.choices);
         self.clear();
         Act::Commit(Line::Ended)

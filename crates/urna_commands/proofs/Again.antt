@@ -473,7 +473,7 @@ module _ (t : TablesData) (r : RollData) (section : Section) (s : State) (origin
               | inl first ↦ elim (cases_Bool (bytes_eq q.digest r.digest)) [
                 | inr other_roll ↦ others_step (others_by u q es given (λ same. differ q.digest r.digest other_roll same.1))
                 | inl second ↦
-                    let same = may.no_twins names is_this u q es given ((bytes_eq-Decides u.digest t.digest).0 first) ((bytes_eq-Decides q.digest r.digest).0 second) in
+                    let same = may.no_collision names is_this u q es given ((bytes_eq-Decides u.digest t.digest).0 first) ((bytes_eq-Decides q.digest r.digest).0 second) in
                     these_step es (subst (λ (y : TablesData). IsGiven (Some x.files) names y r es) same.0 (subst (λ (y : RollData). IsGiven (Some x.files) names u y es) same.1 given))
               ]
             ]

@@ -47,7 +47,8 @@ abbrev pub IsNoneOf : List Status → Status → Type 0
 IsNoneOf list s = AllByRecursion (λ x. s ≢ x) list
 
 -- The endings with which a command has put nothing: of words of no command and of each command but vota and carga all; of vota those that
--- refuse a document or the flashes; of carga those that refuse them, and those for want of memory or by a fault of the cabinet.
+-- refuse a document or the flashes; of carga those that refuse a document, the section or the flashes, and those for want of memory or by
+-- a fault of the cabinet.
 abbrev pub IsIdleEnding : Option Command → Status → Type 0
 IsIdleEnding (Some (ToVote names)) s =
     IsNoneOf (status.Done ∷ status.Memory ∷ status.Cabinet ∷ status.InternalFlash ∷ status.ExternalFlash ∷ status.Display ∷ []) s

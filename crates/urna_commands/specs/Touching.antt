@@ -1,7 +1,6 @@
 -- What each command may touch: the flashes, the files, and how many calls of the cabinet it makes
-use Rattle.std.specs.Prelude.{◌≡◌, ◌≢◌, ◌⊎◌, ◌≤◌, ◌+◌, ◌++◌, ℕ, List, [], Option, Some, None, length}
-use Rattle.std.specs.List.{AllByRecursion}
-use Rattle.urna_outside.specs.Cabinet.{CabinetTold, Files, file_at}
+use Rattle.std.specs.Prelude.{◌≡◌, ◌⊎◌, ◌≤◌, ◌+◌, ◌++◌, ℕ, List, [], Option, Some, None, length}
+use Rattle.urna_outside.specs.Cabinet.{CabinetTold, Files}
 use Rattle.urna_outside.specs.Flash.{Op}
 use Rattle.urna_outside.specs.Shows.{AreShows}
 use Rattle.urna_outside.specs.Told.{Runs, Told}
@@ -10,7 +9,7 @@ use Rattle.state_store.specs.Calls.{IsFrontOfSyncs}
 use Rattle.urna_commands.specs.Command.{Command, ToCheck, ToEmit, ToLoad, ToRehearse, ToTotal, ToVote, Totaliza, command_of}
 use Rattle.urna_commands.specs.Ending.{Ends}
 use Rattle.urna_commands.specs.Ensaio.{rehearsal_names}
-use Rattle.urna_commands.specs.Putting.{result_names}
+use Rattle.urna_commands.specs.Putting.{OthersStay, result_names}
 use Rattle.urna_commands.specs.Taking.{calls_made}
 use Rattle.urna_commands.specs.Totaliza.{IsListed}
 use Rattle.urna_commands.specs.declared.status.Status.{Status}
@@ -31,8 +30,7 @@ AreAny ops = Unit {0}
 -- cabinet tells them; and at most so many calls of the cabinet were made.
 pub record Touches (does : List Op → Type 0) (own : List (List ℕ)) (most : ℕ) (c d : CabinetTold) (m n : Told) : Type 0 where
   pub ops : Runs does m n
-  pub files : (before : Files) → c.files ≡ Some before
-      → (now : Files) × (d.files ≡ Some now) × ((name : List ℕ) → AllByRecursion (λ file. name ≢ file) own → file_at name now ≡ file_at name before)
+  pub files : (before : Files) → c.files ≡ Some before → (now : Files) × (d.files ≡ Some now) × OthersStay own before now
   pub made : ℕ
   pub few : made ≤ most
   pub calls : d.calls ≡ calls_made made c.calls

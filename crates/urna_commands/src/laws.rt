@@ -6,7 +6,7 @@ ghost use Rattle.urna_commands.specs.Accepting.{EmittedIsAccepted, VotedIsAccept
 ghost use Rattle.urna_commands.specs.Again.{CallsKeepVotes, LoadMakesReady, LoadMayFollow, NextIsSafe, OpenedStays};
 ghost use Rattle.urna_commands.specs.AtRest.{AllAreCounted, DoneIsWhole, LateFaultIsSealed, RestsWhereNoFlashFailed, SameAtRest, SameInAnyOrder};
 ghost use Rattle.urna_commands.specs.Completion.{CompletesWhereItCan, TellsOfRisenCounts};
-ghost use Rattle.urna_commands.specs.Ensaio.{OnlySixChange, SixAreThere};
+ghost use Rattle.urna_commands.specs.Ensaio.{SixAreThere};
 ghost use Rattle.urna_commands.specs.Headline.{AloneFromTheFirstShow, KeysHaveRun, VotesAreKept};
 ghost use Rattle.urna_commands.specs.Idle.{IdleEndings, IdleLeavesNoMore, LoadIsKeptOut, OpenedIsInUse, OthersAreKeptOut};
 ghost use Rattle.urna_commands.specs.Laws.{FoundOnce, OneTotalStatus, RefusedEndSo, RefusedOnce, RefusedOrGiven, TotalEndsSo, VerdictEndsSo};
@@ -48,7 +48,7 @@ pub fn completion()
     key_script::laws::names_or_bad_line();
 }
 
-/// The headline. Wherever the power stops a call of `vota` behind its two opening syncs, both flashes, and from the first shown byte on
+/// The headline. Wherever the power stops a call of `vota` behind its two opening syncs, both flashes, and from the first show on
 /// each alone, hold the state after a prefix of the presses: the poll that was found with the ballots whose FIM was shown, and with at most
 /// one more. Where a call ends with Done they hold all ballots of its run. Each list of keys has a run.
 pub fn votes_are_kept()
@@ -100,8 +100,9 @@ pub fn never_busy()
     ensures opened { OpenedIsInUse }
 {}
 
-/// The endings with which a command has put nothing on a flash. Over flashes that hold a poll `vota` puts nothing where it is given tables or
-/// a roll of another SHA-256. Where the power stops such a call, what it leaves it might have left before.
+/// The endings with which a command has put nothing on a flash. Over flashes that hold a poll `vota` does no more than its two opening syncs
+/// where it is given tables or a roll of another SHA-256, and shows nothing but its fault line. Where the power stops such a call, what it
+/// leaves it might have left before.
 pub fn puts_nothing()
     ensures endings { IdleEndings }
     ensures others { OthersAreKeptOut }
@@ -119,10 +120,9 @@ pub fn both_files()
     ensures { BothAreThere }
 {}
 
-/// However `ensaio` ends, no name but its six is changed, and where its files were put all six are in the cabinet.
+/// Where the six files of `ensaio` were put into a cabinet that tells its files, all six are there.
 pub fn six_files()
-    ensures others { OnlySixChange }
-    ensures there { SixAreThere }
+    ensures { SixAreThere }
 {}
 
 /// Two polls of one load with the same moments, voters and votes leave the same flashes and the same files of results, in whatever order

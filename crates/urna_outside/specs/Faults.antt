@@ -14,7 +14,7 @@ pub record IsFaultless (old new : Told) : Type 0 where
   pub faults : new.faults ≡ old.faults
   pub calls : WithoutFault old new
 
--- A call failed at this port, whose count of faults rose; none failed before it, and none was made after it.
+-- A call failed at this port, whose count of faults rose. As far as calls are told, none failed before it, and none was made after it.
 pub record EndsAt (port : Port) (old new : Told) : Type 0 where
   pub faults : FaultsAt port old.faults new.faults
   pub calls : StopsAtFault old new

@@ -21,7 +21,7 @@ pub record HasShown (lines : List (List ℕ)) (old new : Told) : Type 0 where
   pub calls : WithoutFault old new
 
 -- The display failed at one of these lines. Those before it were shown, and of it a front; nothing else was done, and no call
--- was made after the one that failed.
+-- was made after the one that failed, as far as calls are told.
 pub record IsCutOff (lines : List (List ℕ)) (old new : Told) : Type 0 where
   pub ops : List Op
   pub does : Does ops old new

@@ -1,15 +1,17 @@
 -- Look-ups in the tables, as the lines of the ballot see them
-use Rattle.std.proofs.Common.{◌≡◌, ℕ, ◌+◌, ◌<◌, ◌≤◌, ◌||◌, zero, suc, Bool, true, false, cond, List, [], ◌∷◌, map, length, replicate, slice_get, Option, Some, None, option_map, unwrap_or, nat_eq, find, is_some, Bor, option_copied, refl, sym, ap, subst, ◌∙◌, inl, inr, arith}
-use Rattle.std.specs.List.{flat_map, list_any, All}
-use Rattle.std.proofs.lemmas.Option.{slice_get-get_or, slice_get-map, slice_get_cases, unwrap_or-slice_get}
+use Rattle.std.proofs.Common.{◌≡◌, ℕ, ◌+◌, ◌<◌, ◌≤◌, ◌||◌, zero, suc, Bool, true, false, cond, List, [], ◌∷◌, map, length, get_or, slice_get, Option, Some, None, option_map, unwrap_or, nat_eq, find, is_some, Bor, option_copied, refl, sym, ap, subst, ◌∙◌, arith}
+use Rattle.std.specs.List.{list_any}
+use Rattle.std.proofs.lemmas.List.{length-map}
+use Rattle.std.proofs.lemmas.Option.{slice_get-get_or, slice_get-map, unwrap_or-slice_get}
 use Rattle.election_tables.proofs.Kept.{code_digits-range}
+use Rattle.election_tables.proofs.LinePanels.{line_within}
 use Rattle.std.specs.Option.{option_map_or}
 use Rattle.std.proofs.lemmas.Bool.Decides.{nat_tests}
 use Rattle.election_tables.specs.declared.office.Office.{Office}
 use Rattle.election_tables.specs.declared.tables.panels.Panel.{Panel}
 use Rattle.election_tables.specs.declared.tables.candidates.Candidate.{Candidate}
 use Rattle.election_tables.specs.declared.tables.candidates.NamedCandidate.{NamedCandidate}
-use Rattle.election_tables.specs.TablesData.{TablesData, IsTables, IsPanel, candidates_at, candidate_name, without_name, party_name, places_in, places_of}
+use Rattle.election_tables.specs.TablesData.{TablesData, IsTables, IsPanel, candidates_at, candidate_name, without_name, line_panels, party_name, places_in, places_of}
 use Rattle.vote_kinds.specs.Ballot.{BallotLine, no_panel, panel_at, line_for, line_of, lines_from, lines_by_panel, ballot_lines}
 
 office_in : (o : Option Panel) (r : Office) → option_map (λ p. p.office) o ≡ Some r → r ≡ (unwrap_or o no_panel).office
@@ -91,21 +93,29 @@ pub by_panel_length : (t : TablesData) → length (lines_by_panel t) ≡ length 
 unfolding lines_by_panel
 by_panel_length t = from_length t 0 t.panels
 
--- Where a voter has one vote in each panel, the ballot has one line for each panel.
+-- a line of the ballot is that of its panel
+pub line_get : (t : TablesData) (n : ℕ) → slice_get (ballot_lines t) n ≡ option_map (line_of t) (slice_get (line_panels t) n)
+unfolding ballot_lines
+line_get t n = slice_get-map (line_of t) (line_panels t) n
 
-one_each : (t : TablesData) (first : ℕ) (panels : List Panel) → flat_map (λ line. replicate line.places line) (lines_from t first panels) ≡ lines_from t first panels
-one_each t first [] = refl
-one_each t first (p ∷ panels) = ap (λ (lines : List BallotLine). line_for t first p ∷ lines) (one_each t (first + 1) panels)
+pub lines_length : (t : TablesData) → length (ballot_lines t) ≡ length (line_panels t)
+unfolding ballot_lines
+lines_length t = length-map (line_panels t) (line_of t)
 
-pub one_line : (t : TablesData) → ballot_lines t ≡ lines_by_panel t
-unfolding ballot_lines lines_by_panel
-one_line t = one_each t 0 t.panels
+-- a line of the ballot has its panel among those of the tables
+pub record HasPanel (t : TablesData) (n : ℕ) (l : BallotLine) : Type 0 where
+  pub at : slice_get (line_panels t) n ≡ Some l.panel
+  pub within : l.panel < length t.panels
+  pub same : line_of t l.panel ≡ l
 
-pub line_get : (t : TablesData) (n : ℕ) → slice_get (ballot_lines t) n ≡ option_map (line_for t n) (slice_get t.panels n)
-line_get t n = ap (λ (lines : List BallotLine). slice_get lines n) (one_line t) ∙ by_panel_get t n
+panel_in : (t : TablesData) (n : ℕ) (o : Option ℕ) (l : BallotLine) → slice_get (line_panels t) n ≡ o → option_map (line_of t) o ≡ Some l → HasPanel t n l
+panel_in t n None l at e = absurd (cc)
+panel_in t n (Some panel) l at e =
+    let same : line_of t panel ≡ l = cc in
+    subst (HasPanel t n) same (record { at = at; within = line_within t n panel at; same = refl })
 
-pub lines_length : (t : TablesData) → length (ballot_lines t) ≡ length t.panels
-lines_length t = ap length (one_line t) ∙ by_panel_length t
+pub line_has_panel : (t : TablesData) (n : ℕ) (l : BallotLine) → slice_get (ballot_lines t) n ≡ Some l → HasPanel t n l
+line_has_panel t n l e = panel_in t n (slice_get (line_panels t) n) l refl (sym (line_get t n) ∙ e)
 
 -- how many votes a voter has in each panel, by the lines
 from_places : (t : TablesData) (first : ℕ) (panels : List Panel) → map (λ line. line.places) (lines_from t first panels) ≡ map places_in panels
@@ -116,21 +126,18 @@ pub panel_places : (t : TablesData) → map (λ line. line.places) (lines_by_pan
 unfolding lines_by_panel
 panel_places t = from_places t 0 t.panels
 
-line_in_digits : (t : TablesData) (n : ℕ) (panels : List Panel) (l : BallotLine) → All (IsPanel t.parties) panels → (k : ℕ) → option_map (line_for t n) (slice_get panels k) ≡ Some l
-    → (2 ≤ l.digits) × (l.digits ≤ 5)
-line_in_digits t n panels l all k e = elim ((slice_get_cases panels k).1) [
-  | inl found ↦
-      let p = found.0 in
-      let same : line_for t n p ≡ l = let whole : Some (line_for t n p) ≡ Some l = sym (ap (option_map (line_for t n)) found.2) ∙ e in cc in
-      let is : IsPanel t.parties p = subst (IsPanel t.parties) found.3 (all k p found.1) in
-      let range = code_digits-range p.office.code p.office.digits is.office.digits in
-      subst (λ (m : BallotLine). (2 ≤ m.digits) × (m.digits ≤ 5)) same range
-  | inr past ↦ let none : None ≡ Some l = sym (ap (option_map (line_for t n)) past.1) ∙ e in absurd (cc)
-]
+-- the lines of panels have two to five digits, and so has each line of the ballot
+pub panel_digits : (t : TablesData) → IsTables t → (panel : ℕ) → panel < length t.panels → (2 ≤ (line_of t panel).digits) × ((line_of t panel).digits ≤ 5)
+panel_digits t is panel lt =
+    let p = get_or t.panels panel no_panel in
+    let has : IsPanel t.parties p = is.panels panel no_panel lt in
+    let range = code_digits-range p.office.code p.office.digits has.office.digits in
+    subst (λ (q : Panel). (2 ≤ q.office.digits) × (q.office.digits ≤ 5)) (sym (unwrap_or-slice_get t.panels panel no_panel)) range
 
--- each line of the ballot has two to five digits
 pub line_digits : (t : TablesData) → IsTables t → (n : ℕ) (l : BallotLine) → slice_get (ballot_lines t) n ≡ Some l → (2 ≤ l.digits) × (l.digits ≤ 5)
-line_digits t is n l e = line_in_digits t n t.panels l is.panels n (sym (line_get t n) ∙ e)
+line_digits t is n l e =
+    let has = line_has_panel t n l e in
+    subst (λ (m : BallotLine). (2 ≤ m.digits) × (m.digits ≤ 5)) has.same (panel_digits t is l.panel has.within)
 
 -- the line of a panel of the tables
 pub line_found : (t : TablesData) (panel : ℕ) → panel < length t.panels → slice_get (lines_by_panel t) panel ≡ Some (line_of t panel)

@@ -1,8 +1,8 @@
 -- The lines of a ballot, and the choice that a field stands for
-use Rattle.std.specs.Prelude.{ℕ, ◌+◌, ◌^◌, ◌<◌, ◌≤◌, Bool, true, false, not, ◌&&◌, List, [], ◌∷◌, ◌++◌, map, replicate, Option, Some, None, unwrap_or, slice_get, nat_eq, nat_le, ◌==◌, if◌then◌else◌}
-use Rattle.std.specs.List.{flat_map, list_any}
+use Rattle.std.specs.Prelude.{ℕ, ◌+◌, ◌^◌, ◌<◌, ◌≤◌, Bool, true, false, not, ◌&&◌, List, [], ◌∷◌, ◌++◌, map, Option, Some, None, unwrap_or, slice_get, nat_eq, nat_le, ◌==◌, if◌then◌else◌}
+use Rattle.std.specs.List.{list_any}
 use Rattle.election_tables.specs.Fields.{first_two}
-use Rattle.election_tables.specs.TablesData.{TablesData, places_in}
+use Rattle.election_tables.specs.TablesData.{TablesData, line_panels, places_in}
 use Rattle.election_tables.specs.declared.tables.panels.Panel.{Panel}
 use Rattle.election_tables.specs.declared.office.Kind.{Kind}
 use Rattle.election_tables.specs.declared.office.Kind.TheVariants as kind
@@ -62,7 +62,7 @@ lines_by_panel t = lines_from t 0 t.panels
 
 -- the lines of the ballot: for each panel one line for each vote that a voter has in it, panels in order
 unfoldable pub ballot_lines : TablesData → List BallotLine
-ballot_lines t = flat_map (λ line. replicate line.places line) (lines_by_panel t)
+ballot_lines t = map (line_of t) (line_panels t)
 
 -- A field of a line with so many digits.
 abbrev pub IsField : ℕ → Field → Type 0

@@ -1,7 +1,7 @@
-ghost use Rattle.std.specs.Prelude.{◌≡◌, ◌≢◌, ◌^◌, ◌<◌, ◌≤◌, None, length, map, true, nat_eq};
+ghost use Rattle.std.specs.Prelude.{◌≡◌, ◌≢◌, ◌^◌, ◌<◌, ◌≤◌, length, map, true, nat_eq};
 ghost use Rattle.std.specs.List.{list_any};
 ghost use Rattle.election_tables.specs.Fields.{first_two};
-ghost use Rattle.vote_kinds.specs.Ballot.{IsField, choice_of, is_choice, is_confirmable, is_proportional, line_of, names_candidate, panel_at};
+ghost use Rattle.vote_kinds.specs.Ballot.{IsField, choice_of, is_choice, is_confirmable, is_nominal_of, is_proportional, line_of, names_candidate, panel_at};
 
 use crate::choice::{Choice, Field};
 use election_tables::{Kind, Office, Tables};
@@ -29,16 +29,16 @@ pub fn confirmable(tables: &Tables, panel: u32, field: &Field) -> bool
 }
 
 /// The choice that a field of a panel stands for (Lei 9.504/1997 art. 59 paragraph 2; docs/RULES.md, "The choice"), which is one
-/// that a voter may make there.
+/// that a voter may make there, where the same voter chose `before` on the line before, if that is of the same panel.
 ///
 /// The caller owes that the panel is one of the tables, that the field has no more digits than its office, and that CONFIRMA is
 /// taken at it.
 #[tactic(auto, using(crate::proofs::Choices::chosen_is))]
-pub fn choice_of(tables: &Tables, panel: u32, field: &Field) -> Choice
+pub fn choice_of(tables: &Tables, panel: u32, before: Option<Choice>, field: &Field) -> Choice
     requires panel { panel < length tables.now.panels }
     requires field { IsField (line_of tables.now panel).digits field.now }
     requires confirmable { is_confirmable (line_of tables.now panel) field.now ≡ true }
-    ensures choice { result ≡ choice_of (line_of tables.now panel) None field.now }
+    ensures choice { result ≡ choice_of (line_of tables.now panel) before field.now }
     ensures allowed { is_choice (line_of tables.now panel) result ≡ true }
 {
     match *field {
@@ -46,7 +46,7 @@ pub fn choice_of(tables: &Tables, panel: u32, field: &Field) -> Choice
         Field::Blank => Choice::Blank,
         Field::Digits { count, value } => {
             let office = office_of(tables, panel);
-            choice_of_digits(tables, panel, office, count, value)
+            choice_of_digits(tables, panel, before, office, count, value)
         }
     }
 }
@@ -81,15 +81,25 @@ pub fn office_digits(tables: &Tables, panel: u32) -> u8
     office_of(tables, panel).digits
 }
 
-fn choice_of_digits(tables: &Tables, panel: u32, office: Office, count: u8, value: u32) -> Choice
+fn choice_of_digits(
+    tables: &Tables,
+    panel: u32,
+    before: Option<Choice>,
+    office: Office,
+    count: u8,
+    value: u32,
+) -> Choice
     requires panel { panel < length tables.now.panels }
     requires office { office ≡ (panel_at tables.now panel).office }
     requires some { 2 ≤ count }
     requires few { count ≤ 5 }
     requires value { value < 10 ^ count }
-    ensures { result ≡ choice_of (line_of tables.now panel) None (Field.Digits count value) }
+    ensures { result ≡ choice_of (line_of tables.now panel) before (Field.Digits count value) }
 {
     if count == office.digits && has_candidate(tables, panel, value) {
+        if is_nominal_of(value, before) {
+            return Choice::Null;
+        }
         return Choice::Nominal(value);
     }
     let party = leading_pair(count, value);
@@ -115,6 +125,16 @@ pub(crate) fn is_proportional(kind: Kind) -> bool
         Kind::Proportional => true,
         Kind::Absolute => false,
         Kind::Simple => false,
+    }
+}
+
+/// Whether a choice, if there is one, is that of the candidate with this number.
+fn is_nominal_of(number: u32, choice: Option<Choice>) -> bool
+    ensures { result ≡ is_nominal_of number choice }
+{
+    match choice {
+        Some(Choice::Nominal(other)) => number == other,
+        Some(Choice::Party(_) | Choice::Blank | Choice::Null) | None => false,
     }
 }
 

@@ -1,4 +1,4 @@
-ghost use Rattle.std.specs.Prelude.{◌≡◌, ◌<◌, ◌≤◌, List, [], ◌∷◌, ◌++◌, None, length};
+ghost use Rattle.std.specs.Prelude.{◌≡◌, ◌<◌, ◌≤◌, List, [], ◌∷◌, ◌++◌, length};
 ghost use Rattle.key_script.specs.Event.{IsKey};
 ghost use Rattle.key_script.specs.declared.keys.Key.{Key};
 ghost use Rattle.vote_kinds.specs.declared.choice.Field.{Field};
@@ -55,38 +55,38 @@ impl<const CAP: u8> Panel<CAP> {
         self.field
     }
 
-    /// Takes one key, and tells what it does. After any word of keys that led to the field the panel stands for that word and the key;
-    /// it ends exactly with a panel word.
+    /// Takes one key, and tells what it does, where the same voter chose `before` on the line before, if that is of the same panel. After
+    /// any word of keys that led to the field the panel stands for that word and the key; it ends exactly with a panel word.
     ///
     /// The caller owes that the panel is one of the tables, that its office has CAP digits, and that the key's digit is one.
-    pub fn key(&mut self, tables: &Tables, panel: u32, key: Key) -> Shown
+    pub fn key(&mut self, tables: &Tables, panel: u32, before: Option<Choice>, key: Key) -> Shown
         requires panel { panel < length tables.now.panels }
         requires digits { (line_of tables.now panel).digits ≡ CAP }
         requires key { IsKey key }
         ensures field { (w : List Key) → self.old ≡ field_after CAP w → self.new ≡ field_after CAP (w ++ key ∷ []) }
-        ensures shown { (w : List Key) → self.old ≡ field_after CAP w → result ≡ shown_by (line_of tables.now panel) None w key }
+        ensures shown { (w : List Key) → self.old ≡ field_after CAP w → result ≡ shown_by (line_of tables.now panel) before w key }
         // up to now no panel word stood at the front
         ensures word { (w : List Key) → self.old ≡ field_after CAP w → IsUnconfirmed (line_of tables.now panel) w
-            → Reads (line_of tables.now panel) None (w ++ key ∷ []) result }
+            → Reads (line_of tables.now panel) before (w ++ key ∷ []) result }
         // the same by the keypad's table
         ensures next { self.new ≡ next_field CAP self.old key }
-        ensures tells { result ≡ next_shown (line_of tables.now panel) None self.old key }
+        ensures tells { result ≡ next_shown (line_of tables.now panel) before self.old key }
     {
-        self.take(tables, panel, key)
+        self.take(tables, panel, before, key)
     }
 
     /// One key by the keypad's table.
-    fn take(&mut self, tables: &Tables, panel: u32, key: Key) -> Shown
+    fn take(&mut self, tables: &Tables, panel: u32, before: Option<Choice>, key: Key) -> Shown
         requires panel { panel < length tables.now.panels }
         requires digits { (line_of tables.now panel).digits ≡ CAP }
         requires key { IsKey key }
         ensures next { self.new ≡ next_field CAP self.old key }
-        ensures tells { result ≡ next_shown (line_of tables.now panel) None self.old key }
+        ensures tells { result ≡ next_shown (line_of tables.now panel) before self.old key }
         ensures some { 2 ≤ CAP }
     {
         let digits = office_digits(tables, panel);
         if key == Key::Confirm {
-            return confirm(tables, panel, self.field);
+            return confirm(tables, panel, before, self.field);
         }
         let next = next_field(digits, self.field, key);
         if next == self.field {
@@ -97,15 +97,15 @@ impl<const CAP: u8> Panel<CAP> {
     }
 }
 
-fn confirm(tables: &Tables, panel: u32, field: Field) -> Shown
+fn confirm(tables: &Tables, panel: u32, before: Option<Choice>, field: Field) -> Shown
     requires panel { panel < length tables.now.panels }
     requires field { IsField (line_of tables.now panel).digits field }
-    ensures { result ≡ next_shown (line_of tables.now panel) None field Key.Confirm }
+    ensures { result ≡ next_shown (line_of tables.now panel) before field Key.Confirm }
 {
     if !confirmable(tables, panel, &field) {
         return Shown::Nothing;
     }
-    Shown::Voted(choice_of(tables, panel, &field))
+    Shown::Voted(choice_of(tables, panel, before, &field))
 }
 
 /// The field after one more key, where so many digits may stand.

@@ -1,4 +1,4 @@
-ghost use Rattle.std.specs.Prelude.{◌≡◌, ◌+◌, ◌<◌, ◌≤◌, ◌++◌, List, Option, None, length, take, drop};
+ghost use Rattle.std.specs.Prelude.{◌≡◌, ◌+◌, ◌<◌, ◌≤◌, ◌++◌, List, Option, length, take, drop};
 ghost use Rattle.election_tables.specs.Limits.{longest_name};
 ghost use Rattle.vote_kinds.specs.Ballot.{IsField, line_of};
 ghost use Rattle.voter_term.specs.Screen.{choice_text, field_text, screen_text, shown_choice};
@@ -8,31 +8,38 @@ use urna_base::LineBuffer;
 use vote_kinds::{Choice, Field, choice_of, confirmable, office_digits};
 
 /// Puts the screen line of a panel's field at the front of `into`, and tells its length (docs/FORMATS.md, "Shown texts"). The line
-/// shows the choice that the field stands for, where CONFIRMA is taken at it.
+/// shows the choice that the field stands for, where CONFIRMA is taken at it and the same voter chose `before` on the line before, if
+/// that is of the same panel.
 ///
 /// The caller owes that the panel is one of the tables, and that the field has no more digits than the panel's office.
-pub fn screen(tables: &Tables, panel: u32, field: &Field, into: &mut [u8; 128]) -> u32
+pub fn screen(
+    tables: &Tables,
+    panel: u32,
+    before: Option<Choice>,
+    field: &Field,
+    into: &mut [u8; 128],
+) -> u32
     requires panel { panel < length tables.now.panels }
     requires field { IsField (line_of tables.now panel).digits field.now }
-    ensures length { result ≡ length (screen_text tables.now panel None field.now) }
-    ensures line { take result into.new ≡ screen_text tables.now panel None field.now }
+    ensures length { result ≡ length (screen_text tables.now panel before field.now) }
+    ensures line { take result into.new ≡ screen_text tables.now panel before field.now }
     ensures rest { drop result into.new ≡ drop result into.old }
     ensures fits { result ≤ 128 }
 {
-    let line = screen_line(tables, panel, *field);
+    let line = screen_line(tables, panel, before, *field);
     let text = line.as_bytes();
     into[..text.len()].copy_from_slice(text);
     text.len() as u32
 }
 
-fn screen_line(tables: &Tables, panel: u32, field: Field) -> LineBuffer
+fn screen_line(tables: &Tables, panel: u32, before: Option<Choice>, field: Field) -> LineBuffer
     requires panel { panel < length tables.now.panels }
     requires field { IsField (line_of tables.now panel).digits field }
-    ensures { result ≡ screen_text tables.now panel None field }
+    ensures { result ≡ screen_text tables.now panel before field }
 {
     // an office has at most five digits
     let _digits = office_digits(tables, panel);
-    let choice = shown_choice(tables, panel, field);
+    let choice = shown_choice(tables, panel, before, field);
     let mut line = LineBuffer::new();
     line.push_text(b"TELA ");
     push_field(&mut line, field);
@@ -42,15 +49,15 @@ fn screen_line(tables: &Tables, panel: u32, field: Field) -> LineBuffer
 }
 
 /// The choice that a field stands for, where it may be confirmed.
-fn shown_choice(tables: &Tables, panel: u32, field: Field) -> Option<Choice>
+fn shown_choice(tables: &Tables, panel: u32, before: Option<Choice>, field: Field) -> Option<Choice>
     requires panel { panel < length tables.now.panels }
     requires field { IsField (line_of tables.now panel).digits field }
-    ensures { result ≡ shown_choice (line_of tables.now panel) None field }
+    ensures { result ≡ shown_choice (line_of tables.now panel) before field }
 {
     if !confirmable(tables, panel, &field) {
         return None;
     }
-    Some(choice_of(tables, panel, &field))
+    Some(choice_of(tables, panel, before, &field))
 }
 
 #[tactic(auto, using(urna_base::proofs::DecimalLaws::line_lengths))]

@@ -1,6 +1,5 @@
-use Rattle.vote_kinds.specs.Ballot.{ballot_lines}
 use Rattle.image_codec.proofs.AddChoices.{AreAdded}
 use Rattle.image_codec.proofs.state.add_choices.Given as goal
 
-abbrev pub invariant-loop-panel : goal.invariant-loop-panel
-invariant-loop-panel l = AreAdded (ballot_lines l.tables) l.choices l.initial.votes l.votes l.panel
+abbrev pub invariant-loop-line : goal.invariant-loop-line
+invariant-loop-line l = AreAdded l.tables l.choices l.initial.votes l.votes l.line

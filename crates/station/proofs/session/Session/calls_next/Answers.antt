@@ -13,5 +13,5 @@ ballot-requires-clause-ballot c =
     let choices = c.args.self.now.standing.choices in
     let held : c.self.inside.choices.items ≡ choices = ap (λ (x : SessionData). x.standing.choices) c.self.view_is in
     let at : slice_get lines (length choices) ≡ None =
-    ap (slice_get lines) (sym (c.len.ensures.value ∙ ap length held)) ∙ (sym c.panel_of_line.ensures.line ∙ ap (option_map (line_of t)) c.in-None.is) in
+    ap (λ (cs : List Choice). slice_get lines (length cs)) (sym held) ∙ (sym c.line_behind.ensures.line ∙ ap (option_map (λ x. line_of t x.panel)) c.in-None.is) in
     subst (λ (cs : List Choice). IsBallot lines cs) (sym (c.deref.ensures.0 ∙ held)) (first_all lines choices c.requires.choices at)

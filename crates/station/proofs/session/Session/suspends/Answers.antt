@@ -17,8 +17,8 @@ ballot-requires-clause-ballot c =
     let choices = c.args.self.now.standing.choices in
     let held : c.self.inside.choices.items ≡ choices = ap (λ (x : SessionData). x.standing.choices) c.self.view_is in
     let filled : c.fill_up.new.choices.items ≡ filled_up lines choices =
-    c.fill_up.ensures ∙ (ap (λ (cs : List Choice). cs ++ replicate (c.panels.result - length cs) Null) held
-    ∙ ap (λ (n : ℕ). choices ++ replicate (n - length choices) Null) (c.panels.ensures.count ∙ sym (lines_length c.args.tables.now))) in
+    c.fill_up.ensures ∙ (ap (λ (cs : List Choice). cs ++ replicate (c.ballot_lines.result - length cs) Null) held
+    ∙ ap (λ (n : ℕ). choices ++ replicate (n - length choices) Null) (c.ballot_lines.ensures.count ∙ sym (lines_length c.args.tables.now))) in
     subst (λ (cs : List Choice). IsBallot lines cs) (sym (c.deref.ensures.0 ∙ filled)) (first_filled lines choices c.requires.choices)
 
 pub returns-clause-standing : goal.returns-clause-standing
@@ -30,8 +30,8 @@ returns-clause-standing c =
     let place = c.args.place in
     let held : c.self.inside.choices.items ≡ x.choices = ap (λ (y : SessionData). y.standing.choices) c.self.view_is in
     let filled : c.fill_up.new.choices.items ≡ filled_up lines x.choices =
-    c.fill_up.ensures ∙ (ap (λ (cs : List Choice). cs ++ replicate (c.panels.result - length cs) Null) held
-    ∙ ap (λ (n : ℕ). x.choices ++ replicate (n - length x.choices) Null) (c.panels.ensures.count ∙ sym (lines_length t))) in
+    c.fill_up.ensures ∙ (ap (λ (cs : List Choice). cs ++ replicate (c.ballot_lines.result - length cs) Null) held
+    ∙ ap (λ (n : ℕ). x.choices ++ replicate (n - length x.choices) Null) (c.ballot_lines.ensures.count ∙ sym (lines_length t))) in
     let some : nat_eq (length x.choices) 0 ≡ false = ap (λ (cs : List Choice). nat_eq (length cs) 0) (sym held) ∙ sym c.if-is_empty.ensures in
     c.clear-2.ensures.standing ∙ ap idle_at (c.ballot.ensures
     ∙ (ap (with_ballot lines c.self.inside.state place) (c.deref.ensures.0 ∙ filled)
