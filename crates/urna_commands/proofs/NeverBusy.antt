@@ -185,5 +185,4 @@ carga_not_busy names c d m b _ start e told free (not_told between given asked t
 carga_not_busy names c d m b _ start e told free (loaded between given asked taken h shown) is = absurd (cc)
 
 pub load_is_not_busy : LoadIsNotBusy
-load_is_not_busy words c d m n answer ends names command start told free e =
-    carga_not_busy names c d m ends.between answer start e told free (ends_as words (ToLoad names) c d m ends.between answer command ends.command)
+load_is_not_busy names c d m n answer ends start told free e = carga_not_busy names c d m n answer start e told free ends

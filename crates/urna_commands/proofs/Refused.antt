@@ -1,22 +1,26 @@
 -- How a command ends whose files are refused, or give a verdict
-use Rattle.std.proofs.Common.{◌≡◌, ◌⊎◌, inl, inr, ℕ, List, Option, Some, refl, ap, subst}
+use Rattle.std.proofs.Common.{◌≡◌, ◌⊎◌, inl, inr, ℕ, List, Option, Some, None, refl, ap, subst}
 use Rattle.urna_outside.specs.Cabinet.{CabinetTold, Files}
 use Rattle.urna_outside.specs.Told.{Told}
 use Rattle.election_tables.specs.Roll.{RollData}
 use Rattle.election_tables.specs.TablesData.{TablesData}
 use Rattle.section_intake.specs.declared.verdict.Verdict.{Verdict}
 use Rattle.urna_commands.specs.Carga.{CargaEnds, load_no_cabinet, load_no_memory, load_refused, loaded, no_section, not_loaded, not_told}
-use Rattle.urna_commands.specs.Command.{Carga, Confere, Emite, Vota}
+use Rattle.urna_commands.specs.Command.{Carga, Command, Confere, Emite, ToCheck, ToEmit, ToLoad, ToRehearse, ToTotal, ToVote, Vota, command_of}
 use Rattle.urna_commands.specs.Confere.{ConfereEnds, HasVerdict, check_no_cabinet, check_no_memory, check_not_told, check_refused, checked}
 use Rattle.urna_commands.specs.Documents.{HasDocuments, IsFirstFault}
 use Rattle.urna_commands.specs.Emite.{EmiteEnds, emit_no_cabinet, emit_no_memory, emit_refused, emitted, files_stopped, no_files, not_emitted, not_found, not_sealed}
-use Rattle.urna_commands.specs.Laws.{EndsRefused, RefusedEndSo, VerdictEndsSo}
+use Rattle.urna_commands.specs.Ending.{CommandEnds}
+use Rattle.urna_commands.specs.Laws.{AreRefused, RefusedEndSo, VerdictEndsSo}
 use Rattle.urna_commands.specs.Verdicts.{verdict_status}
 use Rattle.urna_commands.specs.Vota.{IsGiven, IsRefused, VotaEnds, cut, no_cabinet, no_memory, not_started, refused, session_held}
 use Rattle.urna_commands.specs.declared.status.Doc.TheVariants as doc
 use Rattle.urna_commands.specs.declared.status.Status.{Status}
 use Rattle.urna_commands.specs.declared.status.Status.TheVariants as status
 use Rattle.urna_commands.proofs.Once.{first_once, one_verdict_on, refused_once, refused_or_checked, refused_or_documents, refused_or_given}
+
+abbrev EndsRefused : Status → Status → Type 0
+EndsRefused e s = (s ≡ e) ⊎ (s ≡ status.Memory) ⊎ (s ≡ status.Cabinet)
 
 module _ (c d : CabinetTold) (m n : Told) (files : Files) (told : c.files ≡ Some files) where
   vota_refused : (names : Vota) (e s : Status) → IsRefused (Some files) names e → VotaEnds names c d m n s → EndsRefused e s
@@ -73,13 +77,17 @@ module _ (c d : CabinetTold) (m n : Told) (files : Files) (told : c.files ≡ So
   verdict_so names v _ has (checked {v = w} also taken shown) =
       inl (ap verdict_status (one_verdict_on files names w v (subst (λ (o : Option Files). HasVerdict o names w) told also) has))
 
+  refused_so : (command : Option Command) (e s : Status) → AreRefused command files e → CommandEnds command c d m n s → EndsRefused e s
+  refused_so (Some (ToVote names)) e s why ends = vota_refused names e s why ends
+  refused_so (Some (ToLoad names)) e s why ends = carga_refused names e s why ends
+  refused_so (Some (ToEmit names)) e s why ends = emite_refused names e s why ends
+  refused_so (Some (ToCheck names)) e s why ends = confere_refused names e s why ends
+  refused_so (Some (ToTotal names)) e s why ends = absurd why
+  refused_so (Some (ToRehearse voters)) e s why ends = absurd why
+  refused_so None e s why ends = absurd why
+
 pub refused_end_so : RefusedEndSo
-refused_end_so = (
-  λ names c d m n e s files told why ends. vota_refused c d m n files told names e s why ends,
-  λ names c d m n e s files told why ends. carga_refused c d m n files told names e s why ends,
-  λ names c d m n e s files told why ends. emite_refused c d m n files told names e s why ends,
-  λ names c d m n e s files told why ends. confere_refused c d m n files told names e s why ends,
-)
+refused_end_so words c d m n e s files told why ends = refused_so c d m ends.between files told (command_of words) e s why ends.command
 
 pub verdict_ends_so : VerdictEndsSo
 verdict_ends_so names c d m n v s files told has ends = verdict_so c d m n files told names v s has ends
