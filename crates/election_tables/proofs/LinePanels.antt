@@ -1,12 +1,11 @@
 -- The lines of the ballot, panel by panel
-use Rattle.std.proofs.Common.{◌≡◌, ℕ, zero, suc, ◌+◌, ◌*◌, ◌-◌, ◌<◌, ◌≤◌, true, false, cond, List, [], ◌∷◌, ◌++◌, length, replicate, slice_get, Some, nat_eq, inl, inr, refl, sym, ap, subst, ◌∙◌, arith}
+use Rattle.std.proofs.Common.{◌≡◌, ℕ, zero, suc, ◌+◌, ◌*◌, ◌-◌, ◌<◌, ◌≤◌, true, false, cond, List, [], ◌++◌, length, replicate, slice_get, Some, nat_eq, inl, inr, refl, sym, ap, subst, ◌∙◌, arith}
 use Rattle.std.specs.List.{count_by, flat_map, range_with_len}
 use Rattle.std.proofs.lemmas.Bool.{cases_lt}
 use Rattle.std.proofs.lemmas.Bool.Decides.{nat_tests}
 use Rattle.std.proofs.lemmas.List.{length-append, length-replicate}
 use Rattle.std.proofs.lemmas.List.Folds.{sum_by-replicate}
 use Rattle.std.proofs.lemmas.List.Sums.{sum_by-append}
-use Rattle.std.proofs.lemmas.Option.{slice_get_within}
 use Rattle.election_tables.specs.TablesData.{TablesData, line_panels, places_at}
 
 -- the lines of n panels, of which the first has this number, and each panel so many
@@ -56,6 +55,29 @@ within_lines f first (suc n) k panel at = elim (cases_lt k (f first)) [
   | inr le ↦
       let more = within_lines f (first + 1) n (k - f first) panel (sym (get_behind (f first) first (lines_over f (first + 1) n) k le) ∙ at) in
       (omega (arith, more.0), omega (arith, more.1))
+]
+
+-- the lines of a panel stand behind those of the panels before it, one after the other
+pub line_from : (f : ℕ → ℕ) (first n k panel : ℕ) → slice_get (lines_over f first n) k ≡ Some panel
+    → (length (lines_over f first (panel - first)) ≤ k) × (k < length (lines_over f first (panel - first)) + f panel)
+line_from f first zero k panel at = absurd (cc)
+line_from f first (suc n) k panel at = elim (cases_lt k (f first)) [
+  | inl lt ↦
+      let whole : Some first ≡ Some panel = sym (get_same (f first) first (lines_over f (first + 1) n) k lt) ∙ at in
+      let same : first ≡ panel = cc in
+      let zeroth : panel - first ≡ 0 = omega (arith, same) in
+      let none : length (lines_over f first (panel - first)) ≡ 0 = ap (λ (m : ℕ). length (lines_over f first m)) zeroth in
+      let value : f first ≡ f panel = ap f same in
+      (omega (arith, none), omega (arith, none, value, lt))
+  | inr le ↦
+      let behind = sym (get_behind (f first) first (lines_over f (first + 1) n) k le) ∙ at in
+      let rest = line_from f (first + 1) n (k - f first) panel behind in
+      let from = (within_lines f (first + 1) n (k - f first) panel behind).0 in
+      let next : panel - first ≡ suc (panel - (first + 1)) = omega (arith, from) in
+      let more = ap (λ (m : ℕ). length (lines_over f first m)) next in
+      let parts = length-append (replicate (f first) first) (lines_over f (first + 1) (panel - (first + 1))) in
+      let own = length-replicate (f first) first in
+      (omega (arith, more, parts, own, rest.0, le), omega (arith, more, parts, own, rest.1, le))
 ]
 
 -- each line is of a panel of the tables

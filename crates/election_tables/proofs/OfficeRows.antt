@@ -2,7 +2,7 @@
 use Rattle.std.proofs.Common.{◌≡◌, ℕ, Bool, true, false, List, [], ◌∷◌, map, Some, None, refl}
 use Rattle.election_tables.specs.declared.office.Kind.{Kind}
 use Rattle.election_tables.specs.declared.office.Kind.TheVariants as kind
-use Rattle.election_tables.specs.Offices.{row_of, code_digits, code_proportional, allows, most_seats}
+use Rattle.election_tables.specs.Offices.{row_of, code_digits, code_proportional, allows, may_have_places, most_seats}
 
 abbrev codes : List ℕ
 codes = 0 ∷ 1 ∷ 2 ∷ 3 ∷ 4 ∷ 5 ∷ 6 ∷ 7 ∷ 8 ∷ 9 ∷ 10 ∷ 11 ∷ 12 ∷ 13 ∷ 14 ∷ []
@@ -34,9 +34,14 @@ pub allow_simple : map (λ code. allows code kind.Simple) codes
 unfolding row_of
 allow_simple = refl
 
-pub seats : map most_seats codes ≡ 0 ∷ 1 ∷ 0 ∷ 1 ∷ 0 ∷ 1 ∷ 200 ∷ 200 ∷ 200 ∷ 0 ∷ 0 ∷ 1 ∷ 0 ∷ 200 ∷ 0 ∷ []
+pub seats : map most_seats codes ≡ 0 ∷ 1 ∷ 0 ∷ 1 ∷ 0 ∷ 2 ∷ 200 ∷ 200 ∷ 200 ∷ 0 ∷ 0 ∷ 1 ∷ 0 ∷ 200 ∷ 0 ∷ []
 unfolding row_of
 seats = refl
+
+pub two_places : map (λ code. may_have_places code 2) codes
+    ≡ false ∷ false ∷ false ∷ false ∷ false ∷ true ∷ false ∷ false ∷ false ∷ false ∷ false ∷ false ∷ false ∷ false ∷ false ∷ []
+unfolding row_of
+two_places = refl
 
 -- a code that no office has: no digits, no kind, no seat
 pub no_office : (code : ℕ) (k : Kind) → row_of code ≡ None

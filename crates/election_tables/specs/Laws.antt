@@ -1,9 +1,11 @@
 -- Laws of the definitions.
-use Rattle.std.specs.Prelude.{◌≡◌, ◌↔◌, ℕ, ◌-◌, ◌<◌, ◌≤◌, List, Some, None, true, false, slice_get}
+use Rattle.std.specs.Prelude.{◌≡◌, ◌↔◌, ℕ, ◌-◌, ◌<◌, ◌≤◌, ◌==◌, ◌&&◌, if◌then◌else◌, List, Some, None, true, false, slice_get}
 use Rattle.toml.specs.Data.{Members}
+use Rattle.election_tables.specs.Offices.{places_by}
 use Rattle.election_tables.specs.Rules.{rules, broken_rule}
 use Rattle.election_tables.specs.Tables.{IsReadAs}
-use Rattle.election_tables.specs.TablesData.{TablesData}
+use Rattle.election_tables.specs.TablesData.{IsOffice, TablesData}
+use Rattle.election_tables.specs.declared.office.Office.{Office}
 use Rattle.election_tables.specs.Roll.{IsRollOf, RollData}
 
 -- rule k holds of the document
@@ -23,6 +25,10 @@ BrokenIsFirst = (ms : Members) (k : ℕ) → (broken_rule ms ≡ Some k) ↔ IsF
 -- no rule is broken where all fourteen hold
 abbrev pub KeptIsAll : Type 0
 KeptIsAll = (ms : Members) → (broken_rule ms ≡ None) ↔ ((k : ℕ) → 1 ≤ k → k ≤ 14 → RuleHolds k ms)
+
+-- a voter has two votes for the office of code 5 where it has two seats, and one for every other
+abbrev pub TwoForSenatorAlone : Type 0
+TwoForSenatorAlone = (o : Office) → IsOffice o → places_by o.code o.seats ≡ (if o.code == 5 && o.seats == 2 then 2 else 1)
 
 -- bytes are read as one set of tables at most
 abbrev pub TablesAreDetermined : Type 0

@@ -112,7 +112,7 @@ rule_13 d = are_distinct same_pair (map (λ s. (s.zone, s.number)) d.sections)
 abbrev pub seats_in_range : OfficeEntry → Bool
 seats_in_range o = option_map_or (λ code. is_within 1 (most_seats code) o.seats) (natural o.code) false
 
--- 14. 1 seat for a majority office, 1 to `proportional_seats` for a proportional one
+-- 14. 1 seat for a majority office, 1 or 2 for that of senator, 1 to `proportional_seats` for a proportional one
 abbrev pub rule_14 : DocumentData → Bool
 rule_14 d = list_all seats_in_range d.offices
 

@@ -13,7 +13,7 @@ use Rattle.election_tables.specs.declared.tables.parties.Party.{Party}
 use Rattle.election_tables.specs.declared.tables.sections.Section.{Section}
 use Rattle.election_tables.specs.declared.tables.panels.Panel.{Panel}
 use Rattle.election_tables.specs.Limits.{most_offices, most_parties, most_candidates, most_sections, most_voters, greatest_section, greatest_process}
-use Rattle.election_tables.specs.Offices.{code_digits, allows, most_seats}
+use Rattle.election_tables.specs.Offices.{code_digits, allows, most_seats, places_by}
 use Rattle.election_tables.specs.Fields.{is_name, has_digits, first_two}
 
 -- the tables of an election: the panels in the order of the ballot, the other lists rising
@@ -34,7 +34,7 @@ candidates_at panel t = option_map_or (λ p. p.candidates) (slice_get t.panels p
 
 -- how many votes each voter has in a panel
 abbrev pub places_in : Panel → ℕ
-places_in p = 1
+places_in p = places_by p.office.code p.office.seats
 
 -- the same of each panel of the tables
 abbrev pub places_of : TablesData → List ℕ

@@ -1,5 +1,5 @@
 //! What the definitions settle. Each function here does nothing: its contract is the law.
-ghost use Rattle.election_tables.specs.Laws.{BrokenIsFirst, KeptIsAll, RollIsDetermined, TablesAreDetermined};
+ghost use Rattle.election_tables.specs.Laws.{BrokenIsFirst, KeptIsAll, RollIsDetermined, TablesAreDetermined, TwoForSenatorAlone};
 
 /// The rule that an answer names is the first of the fourteen that doesn't hold, and a document keeps the rules where all
 /// fourteen hold.
@@ -12,4 +12,9 @@ pub fn broken_rule_is_first()
 pub fn reading_is_determined()
     ensures tables { TablesAreDetermined }
     ensures roll { RollIsDetermined }
+{}
+
+/// How many votes a voter has for an office of the tables: two for two senators, and one for every other.
+pub fn two_for_senator_alone()
+    ensures { TwoForSenatorAlone }
 {}

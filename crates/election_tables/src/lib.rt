@@ -16,6 +16,6 @@ mod shape;
 mod tables;
 
 pub use limits::{GREATEST_SECTION, MOST_OFFICES, MOST_VOTERS};
-pub use office::{Kind, Office, code_digits, code_proportional};
+pub use office::{Kind, Office, code_digits, code_proportional, may_have_places};
 pub use roll::{Roll, RollError};
 pub use tables::{Candidate, Section, Tables, TablesError};

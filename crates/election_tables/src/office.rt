@@ -1,6 +1,6 @@
 //! The offices: their codes, how many digits their candidates' numbers have, and how each is decided.
 ghost use Rattle.std.specs.Prelude.{◌≡◌, ◌≤◌, IfSome};
-ghost use Rattle.election_tables.specs.Offices.{allows, code_digits, code_proportional, kinds_allow, most_seats, row_of};
+ghost use Rattle.election_tables.specs.Offices.{allows, code_digits, code_proportional, kinds_allow, may_have_places, most_seats, places_by, row_of};
 
 use crate::limits::PROPORTIONAL_SEATS;
 
@@ -48,7 +48,7 @@ fn row_of(code: u64) -> Option<OfficeRow>
     let (digits, kinds, most_seats) = match code {
         1 => (2, Kinds::EitherMajority, 1),
         3 => (2, Kinds::EitherMajority, 1),
-        5 => (3, Kinds::SimpleMajority, 1),
+        5 => (3, Kinds::SimpleMajority, 2),
         6 => (4, Kinds::Proportional, PROPORTIONAL_SEATS),
         7 => (5, Kinds::Proportional, PROPORTIONAL_SEATS),
         8 => (5, Kinds::Proportional, PROPORTIONAL_SEATS),
@@ -89,6 +89,21 @@ pub fn code_proportional(code: u8) -> bool
     ensures { result ≡ code_proportional code }
 {
     allows(u64::from(code), Kind::Proportional)
+}
+
+/// Whether tables may give a voter so many votes for an office: one, or two for that of code 5 (docs/FORMATS.md, "Offices").
+pub fn may_have_places(code: u8, places: u32) -> bool
+    ensures { result ≡ may_have_places code places }
+{
+    let most = places_by(code, most_seats(u64::from(code)));
+    1 <= places && u64::from(places) <= most
+}
+
+/// The votes that each voter has for an office of so many seats.
+pub(crate) fn places_by(code: u8, seats: u64) -> u64
+    ensures { result ≡ places_by code seats }
+{
+    if code_proportional(code) { 1 } else { seats }
 }
 
 /// `code_digits` of a number that a document has.

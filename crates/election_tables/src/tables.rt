@@ -15,7 +15,7 @@ mod parties;
 mod sections;
 
 use crate::document::Document;
-use crate::office::Office;
+use crate::office::{Office, places_by};
 use crate::shape::broken_shape;
 pub use candidates::Candidate;
 use panels::{Panel, panels_of};
@@ -186,7 +186,8 @@ impl Tables {
         ensures places { result ≡ places_at self.now panel }
         ensures few { (1 ≤ result) × (result ≤ 2) }
     {
-        1
+        let office = self.office(panel);
+        places_by(office.code, u64::from(office.seats)) as u32
     }
 
     /// How many lines the ballot has: in each panel one for each vote that a voter has there.

@@ -9,7 +9,7 @@ IsTornOf (Put d at bytes) ops = IsTornPut d at (length bytes) ops
 IsTornOf (Sync d) ops = ops ≡ []
 IsTornOf (Show bytes) ops = IsTornShow bytes ops
 
--- some first ones of the operations were done as they are, and the next one failed
+-- the first operations were done as they are, and of the next one, which failed, a part or nothing
 pub record IsFrontOf (whole ops : List Op) : Type 0 where
   pub before : List Op
   pub next : Op

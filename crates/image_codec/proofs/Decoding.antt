@@ -94,7 +94,7 @@ first_takes t voters bytes p bags is few read one e =
     let long = read.long in
     let most : n ≤ most_voters = omega (arith, few_marked voters (turnout_of bytes)) in
     let room = room_for_bags (length (lines_by_panel t)) n (omega (arith, by_panel_length t, is.panel_count.1)) most in
-    let body = bags_take (lines_by_panel t) n rest bags (bytes_drop 98 bytes read.are) (panels_few t) (omega (arith, length-drop 98 bytes)) e in
+    let body = bags_take (lines_by_panel t) n rest bags (bytes_drop 98 bytes read.are) (panels_few t is) (omega (arith, length-drop 98 bytes)) e in
     let many : length bags ≡ length t.panels = body.are.as_many ∙ by_panel_length t in
     let zeros : length rest - length (flat_map bag_bytes bags) ≡ 65536 - length (written1 s) = omega (arith, length-drop 98 bytes, length-written1 s) in
     let behind : rest ≡ behind1 s = body.text ∙ ap (λ (k : ℕ). flat_map bag_bytes bags ++ replicate k 0) zeros in
@@ -224,7 +224,7 @@ module _ (t : TablesData) (voters : ℕ) (s : State) (is : IsTables t) (few : vo
   first_bags =
       let head = head_back 1 voters s (behind1 s) of.roll few of.valid.moments of.valid.started in
       ap (bags_in lines n) head.behind
-      ∙ bags_back lines n s.bags (65536 - length (written1 s)) (panels_small t is) (panels_few t) (bags_are t voters s of) came_few
+      ∙ bags_back lines n s.bags (65536 - length (written1 s)) (panels_small t is) (panels_few t is) (bags_are t voters s of) came_few
 
   first_back : decoded t voters (encode1 s) ≡ Some s
   first_back =
@@ -246,7 +246,7 @@ module _ (t : TablesData) (voters : ℕ) (s : State) (is : IsTables t) (few : vo
   pub counters_read : bags_counted lines n (drop 512 (encode t s)) ≡ Some s.bags
   counters_read =
       ap (λ (b : List ℕ). bags_counted lines n (drop 512 b)) (encode_parts t s) ∙ ap (bags_counted lines n) second_counted
-      ∙ all_counted_back lines n s.bags (65536 - length (written t s)) (lines_rise t is) (panels_few t) (bags_are t voters s of) came_few
+      ∙ all_counted_back lines n s.bags (65536 - length (written t s)) (lines_rise t is) (panels_few t is) (bags_are t voters s of) came_few
 
   second_bags : bags_of lines n (head_bytes 2 s ++ behind2 t s) ≡ Some s.bags
   unfolding bags_of bags_second

@@ -2,12 +2,14 @@
 use Rattle.std.proofs.Common.{◌≡◌, ℕ, zero, suc, ◌+◌, ◌-◌, ◌*◌, ◌<◌, ◌≤◌, Bool, true, false, cond, List, [], ◌∷◌, ◌++◌, length, map, take, drop, replicate, slice_get, Some, refl, sym, ap, subst, ◌∙◌, append_assoc, arith, length-append}
 use Rattle.std.specs.Int.{w32, to_be_bytes}
 use Rattle.std.specs.List.{flat_map, sum_by, zip}
+use Rattle.std.proofs.Math.Nat.{mul-le-mul_right}
 use Rattle.std.proofs.lemmas.List.{drop_all, append-nil, length-take, length-drop, length-map, length-replicate}
 use Rattle.std.proofs.lemmas.List.Sums.{sum_by-cons}
 use Rattle.std.proofs.lemmas.Option.{slice_get-get_or, unwrap_or-slice_get}
 use Rattle.election_tables.specs.Limits.{most_offices, most_parties, most_voters}
 use Rattle.election_tables.specs.TablesData.{TablesData, IsTables, places_in}
 use Rattle.election_tables.specs.declared.tables.panels.Panel.{Panel}
+use Rattle.election_tables.proofs.PlacesOfPanels.{places_few}
 use Rattle.vote_kinds.specs.declared.choice.Choice.{Choice}
 use Rattle.vote_kinds.specs.declared.choice.Choice.TheVariants as choice
 use Rattle.vote_kinds.specs.Ballot.{BallotLine, choices_of, line_for, line_of, lines_by_panel, lines_from}
@@ -34,30 +36,30 @@ length-votes (c ∷ bag) = let more = length-votes bag in omega (arith, length-a
 pub length-bag_bytes : (bag : List Choice) → length (bag_bytes bag) ≡ 4 + 5 * length bag
 length-bag_bytes bag = omega (arith, length-append (to_be_bytes w32 (length bag)) (flat_map vote_bytes bag), length-votes bag)
 
-length-bags : (n : ℕ) (panels : List Panel) (bags : List (List Choice)) → AllHaveVoted n (map places_in panels) bags → length (flat_map bag_bytes bags) ≡ length panels * (4 + 5 * n)
+length-bags : (n : ℕ) (panels : List Panel) (bags : List (List Choice)) → AllHaveVoted n (map places_in panels) bags → length (flat_map bag_bytes bags) ≡ 4 * length panels + 5 * (n * sum_by places_in panels)
 length-bags n [] [] full = omega arith
 length-bags n [] (bag ∷ bags) full = absurd (cc)
 length-bags n (p ∷ panels) [] full = absurd (cc)
 length-bags n (p ∷ panels) (bag ∷ bags) full =
     let more = length-bags n panels bags (full_tail n (places_in p) (map places_in panels) bag bags full) in
-    omega (arith, length-append (bag_bytes bag) (flat_map bag_bytes bags), length-bag_bytes bag, full_head n (places_in p) (map places_in panels) bag bags full)
+    let votes : n * sum_by places_in (p ∷ panels) ≡ n * places_in p + n * sum_by places_in panels = ap (λ (k : ℕ). n * k) (sum_by-cons places_in p panels) ∙ grind arith in
+    omega (arith, more, votes, length-append (bag_bytes bag) (flat_map bag_bytes bags), length-bag_bytes bag, full_head n (places_in p) (map places_in panels) bag bags full)
 
 pub length-written1 : (s : State) → length (written1 s) ≡ 98 + length (flat_map bag_bytes s.bags)
 unfolding written1
 length-written1 s = omega (arith, length-append (head_bytes 1 s) (flat_map bag_bytes s.bags), length-head_bytes 1 s)
 
--- eight panels of 600 votes have room
-few_votes : (panels n : ℕ) → panels ≤ most_offices → n ≤ most_voters → 98 + panels * (4 + 5 * n) ≤ 24130
-few_votes panels n few most =
-    let size : 4 + 5 * n ≤ 3004 = omega arith in
-    let all : panels * (4 + 5 * n) ≤ panels * 3004 = grind arith in
+-- eight panels of 600 votes have room, and 600 votes more in one of them
+few_votes : (panels votes n : ℕ) → panels ≤ most_offices → votes ≤ panels + 1 → n ≤ most_voters → 98 + (4 * panels + 5 * (n * votes)) ≤ 27130
+few_votes panels votes n few one_more most =
+    let all : n * votes ≤ most_voters * votes = mul-le-mul_right votes most in
     omega arith
 
-pub room_of_first : (t : TablesData) (voters : ℕ) (s : State) → IsTables t → voters ≤ most_voters → IsStateOf t voters s → length (written1 s) ≤ 24130
+pub room_of_first : (t : TablesData) (voters : ℕ) (s : State) → IsTables t → voters ≤ most_voters → IsStateOf t voters s → length (written1 s) ≤ 27130
 room_of_first t voters s is few of =
     let full = subst (λ (p : List ℕ). AllHaveVoted (number_came s.came) p s.bags) of.places of.valid.full in
     let came : number_came s.came ≤ most_voters = omega (arith, number_came-le-length s.came, of.roll) in
-    omega (arith, length-written1 s, length-bags (number_came s.came) t.panels s.bags full, few_votes (length t.panels) (number_came s.came) is.panel_count.1 came)
+    omega (arith, length-written1 s, length-bags (number_came s.came) t.panels s.bags full, few_votes (length t.panels) (sum_by places_in t.panels) (number_came s.came) is.panel_count.1 (places_few t is) came)
 
 pub length-encode1 : (s : State) → length (written1 s) ≤ 65536 → length (encode1 s) ≡ 65536
 unfolding encode1

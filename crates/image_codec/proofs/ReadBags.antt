@@ -2,15 +2,17 @@
 use Rattle.std.proofs.Common.{◌≡◌, ℕ, zero, suc, ◌+◌, ◌-◌, ◌*◌, ◌^◌, ◌<◌, ◌≤◌, Bool, true, cond, ◌==◌, List, [], ◌∷◌, ◌++◌, length, map, take, drop, replicate, Option, Some, None, option_map, refl, sym, ap, subst, ◌∙◌, append_assoc, arith}
 use Rattle.std.specs.Option.{option_and_then}
 use Rattle.std.specs.Int.{w32, to_be_bytes}
-use Rattle.std.specs.List.{flat_map, AllByRecursion}
+use Rattle.std.specs.List.{All, flat_map, AllByRecursion}
 use Rattle.std.proofs.lemmas.Bool.{eqb-true, eq-eqb, le-leb, and_parts}
+use Rattle.std.proofs.lemmas.List.Elements.{All-head, All-tail}
 use Rattle.std.proofs.lemmas.List.{drop-drop, drop_at, take-append-drop, length-drop, length-append}
 use Rattle.std.proofs.lemmas.Nat.{from_be_bytes-to_be_bytes_4}
 use Rattle.std.proofs.lemmas.Option.{cond_some}
 use Rattle.urna_base.proofs.Cases.{and_then_some, guard_some, map_some}
 use Rattle.election_tables.specs.Limits.{most_voters}
-use Rattle.election_tables.specs.TablesData.{TablesData}
+use Rattle.election_tables.specs.TablesData.{IsPanel, IsTables, TablesData}
 use Rattle.election_tables.specs.declared.tables.panels.Panel.{Panel}
+use Rattle.election_tables.proofs.PlacesOfPanels.{office_few}
 use Rattle.vote_kinds.specs.declared.choice.Choice.{Choice}
 use Rattle.vote_kinds.specs.declared.choice.Choice.TheVariants as choice
 use Rattle.vote_kinds.specs.Choice.{choice_le}
@@ -190,13 +192,14 @@ bags_back (line ∷ lines) n (bag ∷ bags) k small two all few =
 
 -- The lines of the panels
 
-few_from : (t : TablesData) (first : ℕ) (panels : List Panel) → AreFew (lines_from t first panels)
-few_from t first [] = tt
-few_from t first (p ∷ panels) = (omega arith, few_from t (first + 1) panels)
+few_from : (t : TablesData) (first : ℕ) (panels : List Panel) → All (IsPanel t.parties) panels → AreFew (lines_from t first panels)
+few_from t first [] all = tt
+few_from t first (p ∷ panels) all =
+    ((office_few p.office (All-head (IsPanel t.parties) p panels all).office).1, few_from t (first + 1) panels (All-tail (IsPanel t.parties) p panels all))
 
-pub panels_few : (t : TablesData) → AreFew (lines_by_panel t)
+pub panels_few : (t : TablesData) → IsTables t → AreFew (lines_by_panel t)
 unfolding lines_by_panel
-panels_few t = few_from t 0 t.panels
+panels_few t is = few_from t 0 t.panels is.panels
 
 votes_shift : (t : TablesData) (a b : ℕ) (panels : List Panel) (bags : List (List Choice)) → AreVotes (lines_from t a panels) bags → AreVotes (lines_from t b panels) bags
 votes_shift t a b [] [] votes = tt

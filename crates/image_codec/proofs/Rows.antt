@@ -4,6 +4,7 @@ use Rattle.std.specs.List.{flat_map}
 use Rattle.vote_kinds.specs.declared.choice.Choice.{Choice}
 use Rattle.vote_kinds.specs.declared.choice.Choice.TheVariants as choice
 use Rattle.urna_base.specs.Moment.{is_date, is_moment}
+use Rattle.election_tables.specs.Offices.{row_of}
 use Rattle.election_tables.specs.TablesData.{TablesData}
 use Rattle.election_tables.specs.declared.office.Kind.TheVariants as kind
 use Rattle.vote_kinds.specs.Ballot.{BallotLine, lines_by_panel, choices_of}
@@ -174,7 +175,7 @@ both_read : map (decoded tables_b 1) (
     ∷ one_body 1 (one_vote ++ replicate 65429 0)
     ∷ []
     ) ≡ Some one_came ∷ Some one_came ∷ []
-unfolding tables_b one_came one_counted one_vote one_body lines_by_panel decoded phase_in has_counts marks_in has_no_more phase_with is_moment is_date bags_of bags_second bags_counted bag_counted bags_in bag_in votes_in vote_in counters_in
+unfolding row_of tables_b one_came one_counted one_vote one_body lines_by_panel decoded phase_in has_counts marks_in has_no_more phase_with is_moment is_date bags_of bags_second bags_counted bag_counted bags_in bag_in votes_in vote_in counters_in
 both_read = refl
 
 -- It isn't of another version, nor with the counters in the first or the vote in the second, nor with two votes of the one voter, nor with
@@ -188,7 +189,7 @@ none_read : map (decoded tables_b 1) (
     ∷ one_body 2 (replicate 414 0 ++ one_counted ++ 1 ∷ replicate 65007 0)
     ∷ []
     ) ≡ replicate 6 None
-unfolding tables_b one_counted one_vote one_body lines_by_panel decoded phase_in has_counts marks_in has_no_more phase_with is_moment is_date bags_of bags_second bags_counted bag_counted bags_in bag_in votes_in vote_in counters_in
+unfolding row_of tables_b one_counted one_vote one_body lines_by_panel decoded phase_in has_counts marks_in has_no_more phase_with is_moment is_date bags_of bags_second bags_counted bag_counted bags_in bag_in votes_in vote_in counters_in
 none_read = refl
 
 -- a proportional office has counters of its candidates, of the parties, of blank and of null

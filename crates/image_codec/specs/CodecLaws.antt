@@ -28,7 +28,7 @@ IsOneState = (t : TablesData) (voters : ℕ) (s u : State) (bytes : List ℕ) �
 -- what is written of a state has room in a body, and so has what the first version wrote
 abbrev pub HasRoomInBody : Type 0
 HasRoomInBody = (t : TablesData) (voters : ℕ) (s : State) → IsTables t → voters ≤ most_voters → IsStateOf t voters s
-    → (length (written t s) ≤ 18240) × (length (written1 s) ≤ 24130)
+    → (length (written t s) ≤ 18240) × (length (written1 s) ≤ 27130)
 
 abbrev pub IsBodyLong : Type 0
 IsBodyLong = (t : TablesData) (voters : ℕ) (s : State) → IsTables t → voters ≤ most_voters → IsStateOf t voters s

@@ -34,7 +34,7 @@ pub fn polls()
 {}
 
 /// Bytes are decoded as a state exactly where they are an encoding of it, of either version, so no two states have a common
-/// encoding. What is written of a state has at most 18,240 bytes, what the first version wrote at most 24,130, and a body
+/// encoding. What is written of a state has at most 18,240 bytes, what the first version wrote at most 27,130, and a body
 /// 65,536. The counter of a choice stands where the tables alone tell. Bytes of the second version are an encoding exactly
 /// where the counters of each panel count all votes of those who came, and what stands before and behind the counters is as
 /// it is written.

@@ -40,7 +40,8 @@ fn key_of(byte: u8) -> Key
     }
 }
 
-/// What keys show on a panel of CAP digits, and each choice with which one ends it, where the line before has this choice of it.
+/// What keys show on a panel of CAP digits, and each choice with which one ends a line of it, where `before` is the choice of the line
+/// before, of the same panel.
 fn shown_by<const CAP: u8>(
     rt: &(impl Abort + AllocGlobal),
     tables: &Tables,

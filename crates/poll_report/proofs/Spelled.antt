@@ -2,12 +2,13 @@
 use Rattle.std.proofs.Common.{◌≡◌, ◌≢◌, ℕ, zero, suc, ◌+◌, ◌*◌, ◌<◌, ◌≤◌, Bool, true, false, List, [], ◌∷◌, ◌++◌, map, length, slice_get, Option, Some, option_map, unwrap_or, inl, inr, refl, sym, ap, ◌∙◌, subst, arith}
 use Rattle.std.specs.Prelude.{◌==◌, nat_eq, nat_lt, ◌&&◌, IsSomeAnd, IsTrue}
 use Rattle.std.specs.List.{All, AllByRecursion, AllPairs, list_any}
+use Rattle.std.proofs.Math.Nat.{mul-le-mul_left}
 use Rattle.std.proofs.lemmas.Bool.{cases_Bool}
 use Rattle.std.proofs.lemmas.Bool.Decides.{nat_tests}
 use Rattle.std.proofs.lemmas.List.Elements.{recursion_from_All, All-contains, All-head, All-tail}
 use Rattle.std.proofs.lemmas.List.Kept.{AllPairs-from_increasing}
 use Rattle.std.proofs.lemmas.List.Sums.{count_by-le-length}
-use Rattle.election_tables.specs.Limits.{most_offices}
+use Rattle.election_tables.specs.Limits.{most_offices, most_voters}
 use Rattle.election_tables.specs.Offices.{code_digits, code_proportional, allows}
 use Rattle.election_tables.specs.TablesData.{TablesData, IsTables, IsPanel, IsCandidate, IsParty, IsSection, places_in, places_of}
 use Rattle.election_tables.specs.declared.office.Kind.{Kind}
@@ -16,6 +17,7 @@ use Rattle.election_tables.specs.declared.tables.candidates.NamedCandidate.{Name
 use Rattle.election_tables.specs.declared.tables.panels.Panel.{Panel}
 use Rattle.election_tables.specs.declared.tables.parties.Party.{Party}
 use Rattle.election_tables.specs.declared.tables.sections.Section.{Section}
+use Rattle.election_tables.proofs.PlacesOfPanels.{may_have-few, office_may_have}
 use Rattle.vote_kinds.specs.declared.choice.Choice.{Choice}
 use Rattle.vote_kinds.specs.declared.choice.Choice.TheVariants as choice
 use Rattle.turnout.specs.Turnout.{number_came}
@@ -108,14 +110,15 @@ no_parties kind.Simple code t bag allowed not_proportional = refl
 abbrev pub Fits : TablesData → List (List Choice) → ℕ → ℕ → Panel → Type 0
 Fits t bags came number p = IsPanel t.parties p × (length (bag_at bags number) ≡ came * places_in p) × AllByRecursion (λ c. is_choice (line_for t number p) c ≡ true) (bag_at bags number)
 
-office_spelled : (t : TablesData) (bags : List (List Choice)) (came number : ℕ) (p : Panel) → All IsParty t.parties → Rises (map (λ q. q.number) t.parties) → came ≤ greatest_count
+office_spelled : (t : TablesData) (bags : List (List Choice)) (came number : ℕ) (p : Panel) → All IsParty t.parties → Rises (map (λ q. q.number) t.parties) → came ≤ most_voters
     → Fits t bags came number p → IsOfficeCount came (office_count t p (bag_at bags number))
 office_spelled t bags came number p parties rise few fits =
     let bag = bag_at bags number in
     let digits = p.office.digits in
     let panel = fits.0 in
-    let members : length bag ≡ came = let total = fits.1 in omega arith in
-    let few_members : length bag ≤ greatest_count = omega arith in
+    let places = office_may_have p.office panel.office in
+    let two : came * places_in p ≤ came * 2 = mul-le-mul_left came (may_have-few p.office.code (places_in p) places).1 in
+    let few_members : length bag ≤ greatest_count = omega (arith, fits.1, two, few) in
     let candidates = map (λ x. x.number) p.candidates in
     let ps = party_numbers p.office.kind t.parties in
     let candidates_rise : Rises candidates = rises candidates (AllPairs-from_increasing candidates panel.rise) in
@@ -133,7 +136,7 @@ office_spelled t bags came number p parties rise few fits =
           (each_weaker (λ b c. IsLegend c × (is_above (numbers_of b) c.number ≡ true)) MayLegend (λ b c h. (h.0.0, h.0.1, h.1)) [] (listed (λ n. choice.Party n) ps bag)
           (each_listed IsLegend (λ n. choice.Party n) bag [] ps parties_rise (nothing_below ps) (kind_parties_vote p.office.kind bag t.parties few_members parties)));
       majority = no_parties p.office.kind p.office.code t bag panel.office.kind;
-      places = refl;
+      places = places;
       total = let total_of_parties = ap votes_of same_parties in omega (arith, fits.1);
       few = let total_of_parties = ap votes_of same_parties in omega (arith, few_members);
     }
@@ -197,7 +200,7 @@ length_snoc [] o = refl
 length_snoc (b ∷ before) o = ap suc (length_snoc before o)
 
 offices_spelled : (t : TablesData) (bags : List (List Choice)) (came first : ℕ) (before : List OfficeCount) (panels : List Panel)
-    → All IsParty t.parties → Rises (map (λ q. q.number) t.parties) → came ≤ greatest_count
+    → All IsParty t.parties → Rises (map (λ q. q.number) t.parties) → came ≤ most_voters
     → ((k : ℕ) (p : Panel) → slice_get panels k ≡ Some p → Fits t bags came (first + k) p)
     → length before + length panels ≤ most_offices → Without before panels → Differ panels
     → EachAfter (MayCount came) before (counts_of_panels t bags first panels)
@@ -232,7 +235,7 @@ each_vote : (t : TablesData) (k : ℕ) (p : Panel) (bag : List Choice) → slice
 each_vote t k p [] line h = tt
 each_vote t k p (c ∷ bag) line h = (subst (λ (o : Option BallotLine). IsSomeAnd o (λ l. is_choice l c ≡ true)) line h.0, each_vote t k p bag line h.1)
 
-counts_spelled : (t : TablesData) (r : RdvData) (came : ℕ) → IsTables t → HasOnlyVotes t r → map length r.bags ≡ map (λ places. came * places) (places_of t) → came ≤ greatest_count
+counts_spelled : (t : TablesData) (r : RdvData) (came : ℕ) → IsTables t → HasOnlyVotes t r → map length r.bags ≡ map (λ places. came * places) (places_of t) → came ≤ most_voters
     → EachAfter (MayCount came) [] (office_counts t r.bags)
 unfolding office_counts
 counts_spelled t r came tables votes full few =

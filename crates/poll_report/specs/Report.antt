@@ -4,7 +4,7 @@ use Rattle.std.specs.List.{sum_by, list_all, list_any}
 use Rattle.urna_base.specs.Moment.{is_between, is_date, is_moment}
 use Rattle.election_tables.specs.Fields.{has_digits}
 use Rattle.election_tables.specs.Limits.{greatest_process, greatest_section, most_offices}
-use Rattle.election_tables.specs.Offices.{code_digits, code_proportional}
+use Rattle.election_tables.specs.Offices.{code_digits, code_proportional, may_have_places}
 use Rattle.poll_report.specs.declared.report.Count.{Count}
 use Rattle.poll_report.specs.declared.report.OfficeCount.{OfficeCount}
 use Rattle.poll_report.specs.declared.report.Report.{Report}
@@ -59,12 +59,12 @@ abbrev pub total_of : OfficeCount → ℕ
 total_of o = votes_of o.nominal + votes_of o.parties + o.blank + o.null_votes
 
 -- Each number that is listed has a vote, and only an office that is decided in proportion has party votes. There are as many votes as
--- those who came have, each of them one, and no more than a report can tell.
+-- those who came have, each of them one for each place, and no more than a report can tell.
 pub record IsOfficeCount (came : ℕ) (o : OfficeCount) : Type 0 where
   pub nominal : EachAfter (MayVote (digits_in o.code)) [] o.nominal
   pub parties : EachAfter MayLegend [] o.parties
   pub majority : code_proportional o.code ≡ false → o.parties ≡ []
-  pub places : o.places ≡ 1
+  pub places : may_have_places o.code o.places ≡ true
   pub total : total_of o ≡ came * o.places
   pub few : total_of o ≤ greatest_count
 

@@ -8,7 +8,8 @@ use Rattle.urna_base.specs.Moment.{is_between}
 use Rattle.urna_base.proofs.DigitLaws.{both_from_and}
 use Rattle.election_tables.specs.Fields.{is_within}
 use Rattle.election_tables.specs.Limits.{most_offices}
-use Rattle.election_tables.specs.Offices.{code_digits, code_proportional, greatest_code, kinds_allow, office_rows, row_of}
+use Rattle.election_tables.proofs.PlacesOfPanels.{may_have-few, one_may_have}
+use Rattle.election_tables.specs.Offices.{code_digits, code_proportional, may_have_places, greatest_code, kinds_allow, office_rows, row_of}
 use Rattle.election_tables.specs.declared.office.Kind.TheVariants as kind
 use Rattle.election_tables.proofs.Kept.{code_digits-range, code_in_range}
 use Rattle.poll_report.specs.Report.{digits_in, may_have_code}
@@ -25,6 +26,21 @@ code_fits before code h =
     (is_some (code_digits code) && not (list_any (λ (c : ℕ). c == code) before)) h).1 in
     two_digits code (code_in_range code
     (both_from_and (is_some (code_digits code)) (not (list_any (λ (c : ℕ). c == code) before)) behind).0)
+
+-- an office that may stand has one place at least
+pub one_place : (before : List ℕ) (code : ℕ) → may_have_code before code ≡ true → may_have_places code 1 ≡ true
+one_place before code h =
+    let behind = (both_from_and (nat_lt (length before) most_offices)
+    (is_some (code_digits code) && not (list_any (λ (c : ℕ). c == code) before)) h).1 in
+    one_may_have code (both_from_and (is_some (code_digits code)) (not (list_any (λ (c : ℕ). c == code) before)) behind).0
+
+-- one place isn't said
+pub not_one : (places : ℕ) → fits TABLE.places.form places ≡ true → (places == 1) ≡ false
+not_one places h = grind (arith, nat_tests)
+
+-- and two, if any, is
+pub other_fits : (code places : ℕ) → may_have_places code places ≡ true → (places == 1) ≡ false → fits TABLE.places.form places ≡ true
+other_fits code places may other = let few = may_have-few code places may in grind (arith, nat_tests)
 
 few_of : (code : ℕ) (o : Option ℕ) → code_digits code ≡ o → unwrap_or o 0 ≤ 5
 few_of code None e = lit≤ tt

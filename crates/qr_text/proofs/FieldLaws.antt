@@ -29,5 +29,8 @@ narrow (Between low high) v e h = between_narrow low high v e h
 narrow Date v e h = let small = is_date-below v e in omega arith
 narrow Time v e h = let small = time_small v e in omega arith
 
+pub places_narrow : (p : List ℕ) (n : ℕ) → number_at TABLE.places p ≡ Some n → n < 2 ^ 32
+places_narrow p n h = narrow TABLE.places.form n (number_fits TABLE.places p n h) refl
+
 pub party_narrow : (p : List ℕ) (n : ℕ) → number_at TABLE.party p ≡ Some n → n < 2 ^ 32
 party_narrow p n h = narrow TABLE.party.form n (number_fits TABLE.party p n h) refl

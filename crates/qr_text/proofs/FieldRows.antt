@@ -62,6 +62,9 @@ carg = refl
 tipo : TABLE.kind ≡ row (codes "TIPO") (Between 0 1) Nothing
 tipo = refl
 
+luga : TABLE.places ≡ row (codes "LUGA") (Between 2 2) Nothing
+luga = refl
+
 part : TABLE.party ≡ row (codes "PART") (Between 10 99) Nothing
 part = refl
 
@@ -149,6 +152,10 @@ hrfc_ends = refl
 carg_ends : says TABLE.office (codes "CARG:0" ∷ codes "CARG:1" ∷ codes "CARG:99" ∷ codes "CARG:100" ∷ []) ≡ None ∷ Some 1 ∷ Some 99 ∷ None ∷ []
 unfolding number_at value_at decimal_value
 carg_ends = refl
+
+luga_ends : says TABLE.places (codes "LUGA:1" ∷ codes "LUGA:2" ∷ codes "LUGA:3" ∷ []) ≡ None ∷ Some 2 ∷ None ∷ []
+unfolding number_at value_at decimal_value
+luga_ends = refl
 
 tipo_ends : says TABLE.kind (codes "TIPO:0" ∷ codes "TIPO:1" ∷ codes "TIPO:2" ∷ []) ≡ Some 0 ∷ Some 1 ∷ None ∷ []
 unfolding number_at value_at decimal_value

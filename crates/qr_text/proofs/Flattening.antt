@@ -103,33 +103,9 @@ kept_legends digits o (k ∷ ks) h =
 
 -- ---- offices and reports
 
-rebuilt : (o : OfficeCount) (nominal parties : List Count) → nominal ≡ o.nominal → parties ≡ o.parties → o.places ≡ 1
-    → record { code = o.code; places = 1; nominal = nominal; parties = parties; blank = o.blank; null_votes = o.null_votes } ≡ o
-rebuilt o nominal parties a b p =
-    ap (λ (l : List Count). record {
-      code = o.code;
-      places = 1;
-      nominal = l;
-      parties = parties;
-      blank = o.blank;
-      null_votes = o.null_votes;
-    }) a
-    ∙ (ap (λ (l : List Count). record {
-      code = o.code;
-      places = 1;
-      nominal = o.nominal;
-      parties = l;
-      blank = o.blank;
-      null_votes = o.null_votes;
-    }) b
-    ∙ ap (λ (n : ℕ). record {
-      code = o.code;
-      places = n;
-      nominal = o.nominal;
-      parties = o.parties;
-      blank = o.blank;
-      null_votes = o.null_votes;
-    }) (sym p))
+rebuilt : (o : OfficeCount) (nominal parties : List Count) → nominal ≡ o.nominal → parties ≡ o.parties
+    → record { code = o.code; places = o.places; nominal = nominal; parties = parties; blank = o.blank; null_votes = o.null_votes } ≡ o
+rebuilt o nominal parties a b = ap (λ (l : List Count). record o { nominal = l; parties = parties }) a ∙ ap (λ (l : List Count). record o { parties = l }) b
 
 -- an office comes back from what it says
 office_back : (r : Report) (o : OfficeCount) (b : Bool) → IsOfficeCount r.came o → code_proportional o.code ≡ b
@@ -144,8 +120,7 @@ office_back r o true h e =
     (kept_legends digits o (range_with_len 10 90) h.parties
     ∙ regroup (λ (c : Count). c.number) 90 10 o.parties (within_parties [] o.parties h.parties)
     (ascends_parties [] o.parties h.parties))
-    h.places
-office_back r o false h e = rebuilt o (o.nominal ++ []) [] (append-nil o.nominal) (sym (h.majority e)) h.places
+office_back r o false h e = rebuilt o (o.nominal ++ []) [] (append-nil o.nominal) (sym (h.majority e))
 
 offices_back : (r : Report) (before os : List OfficeCount) → EachAfter (MayCount r.came) before os
     → map told_office (map (said_office r) os) ≡ os

@@ -1,24 +1,25 @@
 -- The steps follow every well-formed text.
 use Rattle.std.proofs.Common.{◌≡◌, ℕ, ◌<◌, Bool, true, false, List, [], ◌∷◌, ◌++◌, length, map, Some, None, refl, sym, ap, ◌∙◌, subst, ◌⊎◌, inl, inr, arith, lit<, append_assoc}
-use Rattle.std.specs.Prelude.{codes, if◌then◌else◌}
+use Rattle.std.specs.Prelude.{codes, ◌==◌, if◌then◌else◌}
 use Rattle.std.specs.List.{zip, flat_map}
-use Rattle.std.proofs.lemmas.Bool.{eq-eqb}
+use Rattle.std.proofs.lemmas.Bool.{cases_Bool, eq-eqb, eqb-true}
 use Rattle.std.proofs.lemmas.List.{append-nil}
 use Rattle.urna_base.specs.Digits.{decimal_value}
-use Rattle.election_tables.specs.Offices.{code_proportional}
+use Rattle.election_tables.specs.Offices.{code_proportional, may_have_places}
+use Rattle.election_tables.proofs.PlacesOfPanels.{may_have-one}
 use Rattle.poll_report.specs.Report.{EachAfter, MayVote, may_have_code, digits_in}
 use Rattle.poll_report.specs.declared.report.Count.{Count}
-use Rattle.qr_text.specs.Reading.{State, Mode, Code, Kind, Vote, Party, OfParty, PartyTotal, Nominal, Legend, Blank, Null, Total, Done, step, start, number_at, no_party, new_office}
+use Rattle.qr_text.specs.Reading.{State, Mode, Code, Kind, Places, Vote, Party, OfParty, PartyTotal, Nominal, Legend, Blank, Null, Total, Done, step, start, number_at, no_party, new_office}
 use Rattle.qr_text.specs.Said.{ReportField, IsSaidOffice, MayVoteIn, MayParty, MayOffice, kind_number, fields, head_values, head_field, vote_field, party_field, party_fields, office_field, votes_fields, last_fields, sum_fields, office_fields, codes_in}
 use Rattle.qr_text.specs.Table.{fits, head_rows, row_text}
 use Rattle.qr_text.specs.declared.said.Said.{Said}
 use Rattle.qr_text.specs.declared.said.SaidOffice.{SaidOffice}
 use Rattle.qr_text.specs.declared.said.SaidParty.{SaidParty}
 use Rattle.qr_text.specs.declared.table.TheConstants.{TABLE}
-use Rattle.qr_text.proofs.Codes.{code_fits}
+use Rattle.qr_text.proofs.Codes.{code_fits, other_fits}
 use Rattle.qr_text.proofs.Exact.{Traces, Complete}
 use Rattle.qr_text.proofs.HeadRows.{at_head, head_traced}
-use Rattle.qr_text.proofs.RowLaws.{number_again, vote_again, vote_none, number_small}
+use Rattle.qr_text.proofs.RowLaws.{number_again, vote_again, vote_not_places, vote_none, number_small}
 
 -- fields, and others behind them
 traces_append : (st : State) (fs gs : List ReportField) (m e : State) → Traces st fs m → Traces m gs e → Traces st (fs ++ gs) e
@@ -127,7 +128,7 @@ party_traced s done o before p h =
 
 -- the office with its votes alone
 abbrev voted : SaidOffice → SaidOffice
-voted o = record (new_office o.code) { candidates = o.candidates; parties = o.parties }
+voted o = record (new_office o.code) { places = o.places; candidates = o.candidates; parties = o.parties }
 
 able_goes : (s : Said) (done : List SaidOffice) (o : SaidOffice) → fits TABLE.office_able.form o.able ≡ true
     → step (at_office Vote s done (voted o) no_party) (row_text TABLE.office_able o.able)
@@ -215,7 +216,7 @@ kind_fits false = refl
 
 kind_goes : (s : Said) (done : List SaidOffice) (code : ℕ)
     → step (at_office Kind s done (new_office code) no_party) (row_text TABLE.kind (kind_number (code_proportional code)))
-    ≡ Some (at_office (if code_proportional code then Party else Vote) s done (new_office code) no_party, [])
+    ≡ Some (at_office (if code_proportional code then Party else Places) s done (new_office code) no_party, [])
 unfolding step
 kind_goes s done code = rw (
   number_again TABLE.kind (kind_number (code_proportional code)) (lit< tt) (kind_fits (code_proportional code)),
@@ -226,22 +227,30 @@ kind_goes s done code = rw (
 abbrev behind_kind : Said → SaidOffice → Bool → List ReportField
 behind_kind s o proportional = votes_fields proportional o ++ sum_fields s proportional o
 
-majority_traced : (s : Said) (done : List SaidOffice) (o : SaidOffice) → IsSaidOffice o → code_proportional o.code ≡ false
-    → Traces (at_office Vote s done (new_office o.code) no_party) (behind_kind s o false) (at_office Done s (done ++ o ∷ []) o no_party)
-majority_traced s done o h e =
+-- its places were read, or there is one
+abbrev placed : SaidOffice → SaidOffice
+placed o = record (new_office o.code) { places = o.places }
+
+-- what stands behind the places of a majority office
+abbrev behind_places : Said → SaidOffice → List ReportField
+behind_places s o = map vote_field o.candidates ++ sum_fields s false o
+
+places_traced : (s : Said) (done : List SaidOffice) (o : SaidOffice) → IsSaidOffice o → code_proportional o.code ≡ false
+    → Traces (at_office Vote s done (placed o) no_party) (behind_places s o) (at_office Done s (done ++ o ∷ []) o no_party)
+places_traced s done o h e =
     let none = h.majority e in
-    let voted_so : record (new_office o.code) { candidates = o.candidates } ≡ voted o =
-    ap (λ (ps : List SaidParty). record (new_office o.code) { candidates = o.candidates; parties = ps }) (sym none.0) in
+    let voted_so : record (placed o) { candidates = o.candidates } ≡ voted o =
+    ap (λ (ps : List SaidParty). record (placed o) { candidates = o.candidates; parties = ps }) (sym none.0) in
     let votes = each_mapped (MayVote (digits_in o.code)) vote_field
-    (λ cs. at_office Vote s done (record (new_office o.code) { candidates = cs }) no_party)
-    (vote_goes s done (new_office o.code)) [] o.candidates h.candidates in
+    (λ cs. at_office Vote s done (record (placed o) { candidates = cs }) no_party)
+    (vote_goes s done (placed o)) [] o.candidates h.candidates in
     let next : at_office (if code_proportional o.code then Legend else Blank) s done (with_nominal o) no_party
     ≡ at_office Blank s done (record (with_nominal o) { legend = o.legend }) no_party =
     ap (λ (b : Bool). at_office (if b then Legend else Blank) s done (with_nominal o) no_party) e
     ∙ ap (λ (n : ℕ). at_office Blank s done (record (with_nominal o) { legend = n }) no_party) (sym none.1) in
-    traces_append (at_office Vote s done (new_office o.code) no_party) (map vote_field o.candidates) (sum_fields s false o)
+    traces_append (at_office Vote s done (placed o) no_party) (map vote_field o.candidates) (sum_fields s false o)
     (at_office Vote s done (voted o) no_party) (at_office Done s (done ++ o ∷ []) o no_party)
-    (traces_to (at_office Vote s done (new_office o.code) no_party) (map vote_field o.candidates) _ _
+    (traces_to (at_office Vote s done (placed o) no_party) (map vote_field o.candidates) _ _
     (ap (λ (x : SaidOffice). at_office Vote s done x no_party) voted_so) votes) (
       at_office Nominal s done (record (voted o) { able = o.able }) no_party,
       able_goes s done o h.able,
@@ -252,12 +261,51 @@ majority_traced s done o h e =
       ),
     )
 
+-- a field that isn't of places is read as if they had been
+no_places_goes : (s : Said) (done : List SaidOffice) (o : SaidOffice) (p : List ℕ) → number_at TABLE.places p ≡ None
+    → step (at_office Places s done o no_party) p ≡ step (at_office Vote s done o no_party) p
+unfolding step
+no_places_goes s done o p h = rw h refl
+
+no_places : (v : ℕ) → number_at TABLE.places (row_text TABLE.office_able v) ≡ None
+unfolding number_at
+no_places v = refl
+
+one_place_traced : (s : Said) (done : List SaidOffice) (o n : SaidOffice) (e : State) → IsSaidOffice o
+    → Traces (at_office Vote s done n no_party) (behind_places s o) e → Traces (at_office Places s done n no_party) (behind_places s o) e
+one_place_traced s done o n e h t = go o.candidates h.candidates t
+  where
+    go : (cs : List Count) → EachAfter (MayVote (digits_in o.code)) [] cs → Traces (at_office Vote s done n no_party) (map vote_field cs ++ sum_fields s false o) e
+        → Traces (at_office Places s done n no_party) (map vote_field cs ++ sum_fields s false o) e
+    go [] may t = (t.0, no_places_goes s done n (row_text TABLE.office_able o.able) (no_places o.able) ∙ t.1, t.2)
+    go (c ∷ cs) may t = (t.0, no_places_goes s done n (vote_field c).text (vote_not_places o.code c may.0.0) ∙ t.1, t.2)
+
+two_places_go : (s : Said) (done : List SaidOffice) (o : SaidOffice) → may_have_places o.code o.places ≡ true → fits TABLE.places.form o.places ≡ true
+    → step (at_office Places s done (new_office o.code) no_party) (row_text TABLE.places o.places) ≡ Some (at_office Vote s done (placed o) no_party, [])
+unfolding step
+two_places_go s done o may fit = rw (number_again TABLE.places o.places (lit< tt) fit, may) refl
+
+majority_traced : (s : Said) (done : List SaidOffice) (o : SaidOffice) → IsSaidOffice o → code_proportional o.code ≡ false
+    → Traces (at_office Places s done (new_office o.code) no_party) (behind_kind s o false) (at_office Done s (done ++ o ∷ []) o no_party)
+majority_traced s done o h e =
+    let behind = places_traced s done o h e in
+    let end : State = at_office Done s (done ++ o ∷ []) o no_party in
+    elim (cases_Bool (o.places == 1)) [
+      | inl one ↦
+          let same : placed o ≡ new_office o.code = ap (λ (n : ℕ). record (new_office o.code) { places = n }) (eqb-true o.places 1 one) in
+          let from : Traces (at_office Vote s done (new_office o.code) no_party) (behind_places s o) end =
+          subst (λ (n : SaidOffice). Traces (at_office Vote s done n no_party) (behind_places s o) end) same behind in
+          rw one (one_place_traced s done o (new_office o.code) end h from)
+      | inr other ↦ rw other (at_office Vote s done (placed o) no_party, two_places_go s done o h.places (other_fits o.code o.places h.places other), behind)
+    ]
+
 proportional_traced : (s : Said) (done : List SaidOffice) (o : SaidOffice) → IsSaidOffice o → code_proportional o.code ≡ true
     → Traces (at_office Party s done (new_office o.code) no_party) (behind_kind s o true) (at_office Done s (done ++ o ∷ []) o no_party)
 proportional_traced s done o h e =
     let none = h.proportional e in
     let voted_so : record (new_office o.code) { parties = o.parties } ≡ voted o =
-    ap (λ (cs : List Count). record (new_office o.code) { candidates = cs; parties = o.parties }) (sym none) in
+    ap (λ (cs : List Count). record (new_office o.code) { candidates = cs; parties = o.parties }) (sym none)
+    ∙ ap (λ (n : ℕ). record (new_office o.code) { places = n; candidates = o.candidates; parties = o.parties }) (sym (may_have-one o.code o.places e h.places)) in
     let votes = each_traced (MayParty (digits_in o.code)) party_fields (in_parties s done (new_office o.code))
     (party_traced s done (new_office o.code)) [] o.parties h.parties in
     let next : at_office (if code_proportional o.code then Legend else Blank) s done (with_nominal o) no_party
@@ -281,7 +329,7 @@ proportional_traced s done o h e =
     )
 
 behind_kind_traced : (s : Said) (done : List SaidOffice) (o : SaidOffice) (b : Bool) → IsSaidOffice o → code_proportional o.code ≡ b
-    → Traces (at_office (if b then Party else Vote) s done (new_office o.code) no_party) (behind_kind s o b)
+    → Traces (at_office (if b then Party else Places) s done (new_office o.code) no_party) (behind_kind s o b)
     (at_office Done s (done ++ o ∷ []) o no_party)
 behind_kind_traced s done o true h e = proportional_traced s done o h e
 behind_kind_traced s done o false h e = majority_traced s done o h e
@@ -293,7 +341,7 @@ office_traced m s done x q o first h = (
   at_office Kind s done (new_office o.code) no_party,
   code_goes m s done x q o first h.0 (code_fits (codes_in done) o.code h.0),
   (
-    at_office (if code_proportional o.code then Party else Vote) s done (new_office o.code) no_party,
+    at_office (if code_proportional o.code then Party else Places) s done (new_office o.code) no_party,
     kind_goes s done o.code,
     behind_kind_traced s done o (code_proportional o.code) h.1 refl,
   ),

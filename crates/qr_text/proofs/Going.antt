@@ -4,7 +4,7 @@ use Rattle.std.specs.List.{AllByRecursion, zip}
 use Rattle.std.proofs.lemmas.List.{append-nil}
 use Rattle.election_tables.specs.Offices.{code_proportional, row_of}
 use Rattle.poll_report.specs.Report.{EachAfter, may_have_code, digits_in}
-use Rattle.qr_text.specs.Reading.{State, Mode, Head, Code, Kind, Vote, Party, OfParty, PartyTotal, Nominal, Legend, Blank, Null, Total, Done, step, start, may_end, new_office}
+use Rattle.qr_text.specs.Reading.{State, Mode, Head, Code, Kind, Places, Vote, Party, OfParty, PartyTotal, Nominal, Legend, Blank, Null, Total, Done, step, start, may_end, new_office}
 use Rattle.qr_text.specs.Said.{ReportField, Test, MayParty, MayOffice, kind_number, fields, head_values, vote_field, party_field, party_fields, office_field, votes_fields, last_fields, sum_fields, office_fields, codes_in}
 use Rattle.qr_text.specs.Table.{fits, head_rows}
 use Rattle.qr_text.specs.declared.said.Said.{Said}
@@ -12,10 +12,11 @@ use Rattle.qr_text.specs.declared.said.SaidOffice.{SaidOffice}
 use Rattle.qr_text.specs.declared.said.SaidParty.{SaidParty}
 use Rattle.qr_text.specs.declared.table.TheConstants.{TABLE}
 use Rattle.qr_text.proofs.Exact.{Traces, Completes}
+use Rattle.qr_text.proofs.Codes.{one_place}
 use Rattle.qr_text.proofs.HeadRows.{Fits}
 use Rattle.qr_text.proofs.Reached.{in_office, votes_read, legend_read, part, Votes, before_part, InOffices, GoodIn, Good}
 use Rattle.qr_text.proofs.HeadGoing.{Snoc, head_keeps, minimal_office, Completed, head_completes}
-use Rattle.qr_text.proofs.OfficeGoing.{each_snoc, at, code_keeps, kind_keeps, vote_keeps, party_keeps, party_so_far, of_party_keeps, party_more, party_total_keeps}
+use Rattle.qr_text.proofs.OfficeGoing.{each_snoc, at, code_keeps, fresh_read, kind_keeps, places_keeps, vote_keeps, party_keeps, party_so_far, of_party_keeps, party_more, party_total_keeps}
 use Rattle.qr_text.proofs.SumGoing.{nominal_keeps, legend_keeps, blank_keeps, null_keeps, whole_office, some_more, with_office, total_keeps}
 
 -- ---- one field more, in every mode
@@ -27,6 +28,7 @@ unfolding step
 keeps_in (Head n) s o q fs p x g e = head_keeps n s o q fs p x g e
 keeps_in Code s o q fs p x g e = code_keeps Code s o q fs p x refl g e
 keeps_in Kind s o q fs p x g e = kind_keeps s o q fs p x g e
+keeps_in Places s o q fs p x g e = places_keeps s o q fs p x g e
 keeps_in Vote s o q fs p x g e = vote_keeps s o q fs p x g e
 keeps_in Party s o q fs p x g e = party_keeps s o q fs p x g e
 keeps_in OfParty s o q fs p x g e = of_party_keeps s o q fs p x g e
@@ -78,6 +80,7 @@ office_with : (s : Said) (o : SaidOffice) (able nominal legend blank null_votes 
 office_with s o able nominal legend blank null_votes v none a n l b z = (
   v.may,
   record {
+    places = v.places;
     candidates = v.candidates;
     parties = v.parties;
     proportional = v.proportional;
@@ -102,6 +105,7 @@ fresh_completes s x q fs code head offices may read =
     refl head offices (
       may,
       record {
+        places = one_place (codes_in s.offices) code may;
         candidates = tt;
         parties = tt;
         proportional = λ e. refl;
@@ -141,6 +145,7 @@ party_completes m s o q fs r pt rest goes_on head offices v kind may before read
     let sums : List ReportField = sum_fields s (code_proportional o.code) n in
     let v1 : Votes s o1 = record {
       may = v.may;
+      places = v.places;
       candidates = v.candidates;
       proportional = v.proportional;
       parties = each_snoc (MayParty (digits_in o.code)) [] o.parties r v.parties may;
@@ -164,6 +169,11 @@ completes_in Code s o q fs g =
 completes_in Kind s o q fs g =
     let P : SaidOffice → Type 0 = λ n. fs ≡ before_part s ++ (office_field s n TABLE.office o.code ∷ []) in
     fresh_completes s o q fs o.code g.head g.offices g.fine.1 g.read
+completes_in Places s o q fs g =
+    let fresh = fresh_read s o q fs g in
+    let n : SaidOffice = with_sums o 0 0 0 0 0 in
+    complete_with Places s o q fs (part Vote s o q) (sum_fields s (code_proportional o.code) n) n refl g.head g.offices
+    (office_with s o 0 0 0 0 0 fresh.fine.0 (λ e. refl) refl refl refl refl refl) fresh.read refl
 completes_in Vote s o q fs g =
     let n : SaidOffice = with_sums o 0 0 0 0 0 in
     complete_with Vote s o q fs (part Vote s o q) (sum_fields s (code_proportional o.code) n) n refl g.head g.offices

@@ -73,7 +73,9 @@ head_keeps n s o q fs p x g e =
 
 -- the smallest office: nobody came
 pub minimal_office : IsSaidOffice (new_office 1)
+unfolding row_of
 minimal_office = record {
+  places = refl;
   candidates = tt;
   parties = tt;
   proportional = λ e. refl;

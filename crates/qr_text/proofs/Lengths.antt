@@ -11,13 +11,14 @@ use Rattle.urna_base.proofs.DigitLaws.{both_from_and, length-padded}
 use Rattle.election_tables.specs.Fields.{has_digits}
 use Rattle.election_tables.specs.Offices.{code_proportional}
 use Rattle.election_tables.proofs.Kept.{has_digits-below}
+use Rattle.election_tables.proofs.PlacesOfPanels.{may_have-few}
 use Rattle.poll_report.specs.Report.{EachAfter, IsOfficeCount, IsReport, MayCount, MayVote, digits_in, is_some_votes, is_vote, may_have_code, total_of, votes_of}
 use Rattle.poll_report.specs.declared.report.Count.{Count}
 use Rattle.poll_report.specs.declared.report.OfficeCount.{OfficeCount}
 use Rattle.poll_report.specs.declared.report.Report.{Report}
 use Rattle.poll_report.proofs.Totals.{votes_cons}
 use Rattle.qr_text.specs.Laws.{ShortByVotes, TextIsShort}
-use Rattle.qr_text.specs.Said.{ReportField, IsSaidOffice, IsSaidParty, MayParty, MayVoteIn, fields, head_field, head_values, kind_number, last_fields, office_field, office_fields, party_field, party_fields, sum_fields, texts, vote_field, votes_fields}
+use Rattle.qr_text.specs.Said.{ReportField, IsSaidOffice, IsSaidParty, MayParty, MayVoteIn, fields, head_field, head_values, kind_number, last_fields, office_field, office_fields, party_field, party_fields, places_fields, sum_fields, texts, vote_field, votes_fields}
 use Rattle.qr_text.specs.Spelling.{report_fields, report_text, said, said_office, said_parties, said_party}
 use Rattle.qr_text.specs.Table.{row_text, fits, head_rows, value_text}
 use Rattle.qr_text.specs.Writing.{spaced}
@@ -28,7 +29,7 @@ use Rattle.qr_text.specs.declared.table.Form.TheVariants.{Vota, Between, Date, T
 use Rattle.qr_text.specs.declared.table.Form.{Form}
 use Rattle.qr_text.specs.declared.table.Row.{Row}
 use Rattle.qr_text.specs.declared.table.TheConstants.{TABLE}
-use Rattle.qr_text.proofs.Codes.{code_fits, digits_few}
+use Rattle.qr_text.proofs.Codes.{code_fits, digits_few, other_fits}
 use Rattle.qr_text.proofs.Flattening.{some_of}
 use Rattle.qr_text.proofs.Following.{kind_fits}
 use Rattle.qr_text.proofs.Regrouping.{Right}
@@ -180,8 +181,17 @@ parties_votes came o h e =
 
 -- ---- an office
 
+places_size : {came : ℕ} (o : OfficeCount) → IsOfficeCount came o → size (places_fields o.places) ≤ 7
+places_size o h = elim (cases_Bool (o.places == 1)) [
+  | inl one ↦ rw one (lit≤ tt)
+  | inr other ↦
+      let f : ReportField = record { text = row_text TABLE.places o.places; tests = [] } in
+      let short = short_field 1 TABLE.places o.places refl (other_fits o.code o.places h.places other) in
+      rw other (omega (arith, short, size_cons f []))
+]
+
 votes_fields_size : (r : Report) (o : OfficeCount) (b : Bool) → r.able ≤ 9999 → r.came ≤ r.able → IsOfficeCount r.came o
-    → code_proportional o.code ≡ b → size (votes_fields b (office_of b r o)) ≤ 39 * total_of o
+    → code_proportional o.code ≡ b → size (votes_fields b (office_of b r o)) ≤ 7 + 39 * total_of o
 votes_fields_size r o true able came h e =
     let is = is_office r o true able came h e in
     let size_is = parties_size o.code [] (said_parties o) is.parties (right_parties (digits_in o.code) o (range_with_len 10 90)) in
@@ -189,7 +199,8 @@ votes_fields_size r o true able came h e =
     omega (arith, size_is, votes)
 votes_fields_size r o false able came h e =
     let size_is = votes_size o.code o.nominal (are_votes (digits_in o.code) [] o.nominal h.nominal) in
-    omega (arith, size_is)
+    let both = size_append (places_fields o.places) (map vote_field o.nominal) in
+    omega (arith, size_is, both, places_size o h)
 
 last_size : (s : Said) (o : SaidOffice) → IsSaidOffice o → size (last_fields s o) ≤ 30
 last_size s o h =
@@ -224,7 +235,7 @@ sums_size s o b h =
     omega (arith, able, nominal, legend, last, a, c, d)
 
 office_size : (r : Report) (before : List ℕ) (o : OfficeCount) → r.able ≤ 9999 → r.came ≤ r.able → may_have_code before o.code ≡ true
-    → IsOfficeCount r.came o → size (office_fields (said r) (said_office r o)) ≤ 75 + 39 * total_of o
+    → IsOfficeCount r.came o → size (office_fields (said r) (said_office r o)) ≤ 82 + 39 * total_of o
 office_size r before o able came may h =
     let s : Said = said r in
     let q : SaidOffice = said_office r o in
@@ -240,7 +251,7 @@ office_size r before o able came may h =
     omega (arith, code, kind, votes, sums, a, c, d)
 
 offices_size : (r : Report) (before os : List OfficeCount) → r.able ≤ 9999 → r.came ≤ r.able → EachAfter (MayCount r.came) before os
-    → size (flat_map (office_fields (said r)) (map (said_office r) os)) ≤ 75 * length os + 39 * sum_by total_of os
+    → size (flat_map (office_fields (said r)) (map (said_office r) os)) ≤ 82 * length os + 39 * sum_by total_of os
 offices_size r before [] able came h = lit≤ tt
 offices_size r before (o ∷ os) able came h =
     let here = office_size r (map (λ c. c.code) before) o able came h.0.0 h.0.1 in
@@ -292,19 +303,20 @@ short_by_votes r h =
     let all = fields_size r h in
     omega (arith, joined, all)
 
--- each who came has a vote for each office
-votes_came : (came : ℕ) (before os : List OfficeCount) → EachAfter (MayCount came) before os → sum_by total_of os ≡ length os * came
+-- each who came has at most two votes for each office
+votes_came : (came : ℕ) (before os : List OfficeCount) → EachAfter (MayCount came) before os → sum_by total_of os ≤ length os * (2 * came)
 votes_came came before [] h = omega arith
 votes_came came before (o ∷ os) h =
     let rest = votes_came came (before ++ o ∷ []) os h.1 in
-    let here = h.0.1.total ∙ ap (λ (n : ℕ). came * n) h.0.1.places in
+    let two = mul-le-mul_left came (may_have-few o.code o.places h.0.1.places).1 in
+    let here = h.0.1.total in
     let all = sum_by-cons (λ (x : OfficeCount). total_of x) o os in
-    omega (arith, rest, here, all)
+    omega (arith, rest, here, two, all)
 
 pub text_is_short : TextIsShort
 text_is_short r h =
     let bound = short_by_votes r h in
     let votes = votes_came r.came [] r.offices h.offices in
     let few = few_offices r.came [] r.offices (lit≤ tt) h.offices in
-    let most = mul-le-mul_left r.came few in
+    let most = mul-le-mul_left (2 * r.came) few in
     omega (arith, bound, votes, most)

@@ -8,16 +8,17 @@ use Rattle.std.proofs.lemmas.List.{append-nil, map-append}
 use Rattle.urna_base.proofs.DigitLaws.{both_from_and}
 use Rattle.urna_base.proofs.Cases.{and_then_some, map_some}
 use Rattle.election_tables.specs.Fields.{first_two}
-use Rattle.election_tables.specs.Offices.{code_proportional}
+use Rattle.election_tables.specs.Offices.{code_proportional, may_have_places}
 use Rattle.poll_report.specs.Report.{EachAfter, MayVote, may_have_code, digits_in, numbers_of, is_above}
 use Rattle.poll_report.specs.declared.report.Count.{Count}
-use Rattle.qr_text.specs.Reading.{State, Mode, Kind, Vote, Party, OfParty, PartyTotal, Nominal, step, number_at, vote_at, no_party, new_office}
-use Rattle.qr_text.specs.Said.{ReportField, Test, MayVoteIn, MayParty, MayOffice, kind_number, vote_field, party_field, party_fields, office_field, votes_fields, codes_in}
+use Rattle.qr_text.specs.Reading.{State, Mode, Kind, Places, Vote, Party, OfParty, PartyTotal, Nominal, step, number_at, vote_at, no_party, new_office}
+use Rattle.qr_text.specs.Said.{ReportField, Test, MayVoteIn, MayParty, MayOffice, kind_number, places_fields, vote_field, party_field, party_fields, office_field, votes_fields, codes_in}
 use Rattle.qr_text.specs.Table.{row_text, vote_row}
 use Rattle.qr_text.specs.declared.said.Said.{Said}
 use Rattle.qr_text.specs.declared.said.SaidOffice.{SaidOffice}
 use Rattle.qr_text.specs.declared.said.SaidParty.{SaidParty}
 use Rattle.qr_text.specs.declared.table.TheConstants.{TABLE}
+use Rattle.qr_text.proofs.Codes.{not_one, one_place}
 use Rattle.qr_text.proofs.HeadRows.{Fits}
 use Rattle.qr_text.proofs.RowLaws.{number_back, vote_back}
 use Rattle.qr_text.proofs.Reached.{in_office, votes_read, part, Votes, before_part, InOffices}
@@ -75,11 +76,22 @@ code_keeps m s o q fs p x none g e =
       fine = (refl, both.0);
     })
 
+-- nothing is read but the code, and so all that was read is fine
+fresh_votes : (s : Said) (code : ℕ) → may_have_code (codes_in s.offices) code ≡ true → Votes s (new_office code)
+fresh_votes s code may = record {
+  may = may;
+  places = one_place (codes_in s.offices) code may;
+  candidates = tt;
+  parties = tt;
+  proportional = λ h. refl;
+  majority = λ h. (refl, refl);
+}
+
 -- an office that has nothing but its code yet
 kind_known : (s : Said) (code v : ℕ) (fs : List ReportField) → Fits 13 s → EachAfter MayOffice [] s.offices
     → fs ≡ before_part s ++ (office_field s (new_office code) TABLE.office code ∷ [])
     → may_have_code (codes_in s.offices) code ≡ true → v ≡ kind_number (code_proportional code) → (b : Bool) → code_proportional code ≡ b
-    → Snoc fs (row_text TABLE.kind v) (at (if b then Party else Vote) s (new_office code) no_party, [])
+    → Snoc fs (row_text TABLE.kind v) (at (if b then Party else Places) s (new_office code) no_party, [])
 kind_known s code v fs head offices read may same true e =
     let f : ReportField = record { text = row_text TABLE.kind v; tests = [] } in
     let texts : office_field s (new_office code) TABLE.kind (kind_number (code_proportional code)) ≡ f =
@@ -91,38 +103,36 @@ kind_known s code v fs head offices read may same true e =
       read = extend s fs (office_field s (new_office code) TABLE.office code ∷ []) (part Party s (new_office code) no_party) f read
           (ap (λ (l : List ReportField). in_office s (new_office code) l) none
           ∙ ap (λ (g : ReportField). office_field s (new_office code) TABLE.office code ∷ g ∷ []) texts);
-      fine = (record { may = may; candidates = tt; parties = tt; proportional = λ h. refl; majority = λ h. (refl, refl) }, e);
+      fine = (fresh_votes s code may, e);
     }
 kind_known s code v fs head offices read may same false e =
     let f : ReportField = record { text = row_text TABLE.kind v; tests = [] } in
     let texts : office_field s (new_office code) TABLE.kind (kind_number (code_proportional code)) ≡ f =
     ap (λ (n : ℕ). office_field s (new_office code) TABLE.kind n) (sym same) in
-    let none : votes_read s (new_office code) ≡ [] = ap (λ (b : Bool). votes_fields b (new_office code)) e in
     record {
       head = head;
       offices = offices;
-      read = extend s fs (office_field s (new_office code) TABLE.office code ∷ []) (part Vote s (new_office code) no_party) f read
-          (ap (λ (l : List ReportField). in_office s (new_office code) l) none
-          ∙ ap (λ (g : ReportField). office_field s (new_office code) TABLE.office code ∷ g ∷ []) texts);
-      fine = (record { may = may; candidates = tt; parties = tt; proportional = λ h. refl; majority = λ h. (refl, refl) }, e);
+      read = extend s fs (office_field s (new_office code) TABLE.office code ∷ []) (part Places s (new_office code) no_party) f read
+          (ap (λ (g : ReportField). office_field s (new_office code) TABLE.office code ∷ g ∷ []) texts);
+      fine = (refl, may, e);
     }
 
 -- TIPO is read
 pub kind_keeps : (s : Said) (o : SaidOffice) (q : SaidParty) (fs : List ReportField) (p : List ℕ) (x : State × List Test) → InOffices Kind s o q fs
     → option_and_then (λ v. if v == kind_number (code_proportional o.code) then Some
-    (at (if code_proportional o.code then Party else Vote) s o no_party, []) else None) (number_at TABLE.kind p) ≡ Some x
+    (at (if code_proportional o.code then Party else Places) s o no_party, []) else None) (number_at TABLE.kind p) ≡ Some x
     → Snoc fs p x
 kind_keeps s o q fs p x g e =
     let found = and_then_some (number_at TABLE.kind p)
     (λ v. if v == kind_number (code_proportional o.code) then Some
-    (at (if code_proportional o.code then Party else Vote) s o no_party, []) else None) x e in
+    (at (if code_proportional o.code then Party else Places) s o no_party, []) else None) x e in
     let back = number_back TABLE.kind p found.0 found.1 in
-    let y : State × List Test = (at (if code_proportional o.code then Party else Vote) s o no_party, []) in
+    let y : State × List Test = (at (if code_proportional o.code then Party else Places) s o no_party, []) in
     let both = guard_some (found.0 == kind_number (code_proportional o.code)) y x found.2 in
     let same : found.0 ≡ kind_number (code_proportional o.code) = eqb-true found.0 (kind_number (code_proportional o.code)) both.0 in
     let fresh = kind_known s o.code found.0 fs g.head g.offices g.read g.fine.1 same (code_proportional o.code) refl in
-    let z : State × List Test = (at (if code_proportional o.code then Party else Vote) s (new_office o.code) no_party, []) in
-    let new : z ≡ y = ap (λ (n : SaidOffice). (at (if code_proportional o.code then Party else Vote) s n no_party, [])) (sym g.fine.0) in
+    let z : State × List Test = (at (if code_proportional o.code then Party else Places) s (new_office o.code) no_party, []) in
+    let new : z ≡ y = ap (λ (n : SaidOffice). (at (if code_proportional o.code then Party else Places) s n no_party, [])) (sym g.fine.0) in
     snoc_to fs p (row_text TABLE.kind found.0) x z (sym back.0) (new ∙ both.1) fresh
 
 -- ---- votes
@@ -146,6 +156,7 @@ able_keeps m s o q fs p x head offices read votes e =
       fine = (
         record {
           may = votes.may;
+          places = votes.places;
           candidates = votes.candidates;
           parties = votes.parties;
           proportional = votes.proportional;
@@ -158,7 +169,9 @@ able_keeps m s o q fs p x head offices read votes e =
 vote_more : (b : Bool) (o : SaidOffice) (c : Count) → b ≡ false
     → votes_fields b (record o { candidates = o.candidates ++ c ∷ [] }) ≡ votes_fields b o ++ vote_field c ∷ []
 vote_more true o c e = absurd (cc)
-vote_more false o c e = map-append vote_field o.candidates (c ∷ [])
+vote_more false o c e =
+    ap (λ (l : List ReportField). places_fields o.places ++ l) (map-append vote_field o.candidates (c ∷ []))
+    ∙ sym (append_assoc (places_fields o.places) (map vote_field o.candidates) (vote_field c ∷ []))
 
 -- a candidate of a majority office, or the sums
 pub vote_keeps : (s : Said) (o : SaidOffice) (q : SaidParty) (fs : List ReportField) (p : List ℕ) (x : State × List Test) → InOffices Vote s o q fs
@@ -184,6 +197,7 @@ vote_keeps s o q fs p x g e =
             fine = (
               record {
                 may = votes.may;
+                places = votes.places;
                 parties = votes.parties;
                 majority = votes.majority;
                 candidates = each_snoc (MayVote (digits_in o.code)) [] o.candidates c votes.candidates (back.1, both.0);
@@ -193,6 +207,57 @@ vote_keeps s o q fs p x g e =
             );
           })
       | inr able ↦ able_keeps Vote s o q fs p x g.head g.offices g.read g.fine.0 able
+    ]
+
+-- what was read of a majority office that has nothing but its code yet, with its votes, of which there are none
+pub fresh_read : (s : Said) (o : SaidOffice) (q : SaidParty) (fs : List ReportField) → InOffices Places s o q fs → InOffices Vote s o q fs
+fresh_read s o q fs g =
+    let none : votes_read s o ≡ [] =
+    ap (λ (b : Bool). votes_fields b o) g.fine.2 ∙ ap (λ (n : SaidOffice). votes_fields false n) g.fine.0 in
+    record {
+      head = g.head;
+      offices = g.offices;
+      read = g.read ∙ ap (λ (l : List ReportField). before_part s ++ in_office s o l) (sym none);
+      fine = (subst (λ (n : SaidOffice). Votes s n) (sym g.fine.0) (fresh_votes s o.code g.fine.1), g.fine.2);
+    }
+
+-- the places of a majority office, or its votes
+pub places_keeps : (s : Said) (o : SaidOffice) (q : SaidParty) (fs : List ReportField) (p : List ℕ) (x : State × List Test) → InOffices Places s o q fs
+    → step (at Places s o q) p ≡ Some x → Snoc fs p x
+unfolding step
+places_keeps s o q fs p x g e =
+    let fresh = fresh_read s o q fs g in
+    let with_places : ℕ → State × List Test = λ v. (at Vote s (record o { places = v }) no_party, []) in
+    let other = step (at Vote s o q) p in
+    elim (or_some (option_and_then (λ v. if may_have_places o.code v then Some (with_places v) else None) (number_at TABLE.places p)) other x e) [
+      | inl one ↦
+          let found = and_then_some (number_at TABLE.places p) (λ v. if may_have_places o.code v then Some (with_places v) else None) x one in
+          let back = number_back TABLE.places p found.0 found.1 in
+          let both = guard_some (may_have_places o.code found.0) (with_places found.0) x found.2 in
+          let o1 : SaidOffice = record o { places = found.0 } in
+          let f : ReportField = record { text = row_text TABLE.places found.0; tests = [] } in
+          let said : places_fields found.0 ≡ f ∷ [] = rw (not_one found.0 back.1) refl in
+          let all : votes_read s o1 ≡ f ∷ [] =
+          ap (λ (b : Bool). votes_fields b o1) g.fine.2
+          ∙ (ap (λ (n : SaidOffice). votes_fields false (record n { places = found.0 })) g.fine.0 ∙ ap (λ (l : List ReportField). l ++ []) said) in
+          let votes = fresh.fine.0 in
+          snoc_to fs p (row_text TABLE.places found.0) x (with_places found.0) (sym back.0) both.1 (record {
+            head = g.head;
+            offices = g.offices;
+            read = extend s fs (part Places s o q) (part Vote s o1 no_party) f g.read (ap (λ (l : List ReportField). in_office s o l) all);
+            fine = (
+              record {
+                may = votes.may;
+                places = both.0;
+                candidates = votes.candidates;
+                parties = votes.parties;
+                proportional = votes.proportional;
+                majority = votes.majority;
+              },
+              g.fine.2,
+            );
+          })
+      | inr vote ↦ vote_keeps s o q fs p x fresh vote
     ]
 
 -- a party of a proportional office, or the sums
@@ -317,6 +382,7 @@ party_total_keeps s o q fs p x g e =
       fine = (
         record {
           may = votes.may;
+          places = votes.places;
           candidates = votes.candidates;
           proportional = votes.proportional;
           parties = each_snoc (MayParty (digits_in o.code)) [] o.parties r votes.parties

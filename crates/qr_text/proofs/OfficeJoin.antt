@@ -1,5 +1,5 @@
 -- Reading the code, the kind and the sums of an office by sections is reading them field by field.
-use Rattle.std.proofs.Common.{◌≡◌, ℕ, ◌+◌, Bool, true, false, List, [], ◌∷◌, refl, ◌∙◌}
+use Rattle.std.proofs.Common.{◌≡◌, ℕ, ◌+◌, ◌*◌, Bool, true, false, List, [], ◌∷◌, refl, ◌∙◌}
 use Rattle.std.specs.Prelude.{◌==◌, if◌then◌else◌, Result, Ok, Err}
 use Rattle.election_tables.specs.Offices.{code_proportional}
 use Rattle.poll_report.specs.Report.{may_have_code}
@@ -50,44 +50,44 @@ start_join st s e h =
 
 -- ---- the sums
 
-legend_join : (b : Bool) (q : Said) (code : ℕ) (cs : List Count) (ps : List SaidParty) (a n : ℕ) (s : FieldsLeft)
-    → goes (in_office (if b then Legend else Blank) q (with_sums code cs ps (sums a n 0 0 0 0))) s
-    ≡ (legend_reading b (all_legend (without_sums code cs ps)) s >>= λ x. goes (in_office Blank q (with_sums code cs ps (sums a n x.0 0 0 0))) x.1)
+legend_join : (b : Bool) (q : Said) (code places : ℕ) (cs : List Count) (ps : List SaidParty) (a n : ℕ) (s : FieldsLeft)
+    → goes (in_office (if b then Legend else Blank) q (with_sums code places cs ps (sums a n 0 0 0 0))) s
+    ≡ (legend_reading b (all_legend (without_sums code places cs ps)) s >>= λ x. goes (in_office Blank q (with_sums code places cs ps (sums a n x.0 0 0 0))) x.1)
 unfolding legend_reading step
-legend_join true q code cs ps a n s =
-    sum_join TABLE.legend (in_office Legend q (with_sums code cs ps (sums a n 0 0 0 0))) (λ v. in_office Blank q (with_sums code cs ps (sums a n v 0 0 0)))
-    (all_legend (without_sums code cs ps)) s refl (λ p more e. refl)
-legend_join false q code cs ps a n s = refl
+legend_join true q code places cs ps a n s =
+    sum_join TABLE.legend (in_office Legend q (with_sums code places cs ps (sums a n 0 0 0 0))) (λ v. in_office Blank q (with_sums code places cs ps (sums a n v 0 0 0)))
+    (all_legend (without_sums code places cs ps)) s refl (λ p more e. refl)
+legend_join false q code places cs ps a n s = refl
 
-total_join : (q : Said) (code : ℕ) (cs : List Count) (ps : List SaidParty) (a n l b u : ℕ) (s : FieldsLeft)
-    → goes (in_office Total q (with_sums code cs ps (sums a n l b u 0))) s
-    ≡ (sum_reading TABLE.total (n + l + b + u) s >>= λ x. (agreed s.next q.came x.0 x.1 >>= λ y. goes (after_office q (with_sums code cs ps (sums a n l b u x.0))) y))
+total_join : (q : Said) (code places : ℕ) (cs : List Count) (ps : List SaidParty) (a n l b u : ℕ) (s : FieldsLeft)
+    → goes (in_office Total q (with_sums code places cs ps (sums a n l b u 0))) s
+    ≡ (sum_reading TABLE.total (n + l + b + u) s >>= λ x. (agreed s.next (q.came * places) x.0 x.1 >>= λ y. goes (after_office q (with_sums code places cs ps (sums a n l b u x.0))) y))
 unfolding step sum_reading
-total_join q code cs ps a n l b u s =
-    row_join TABLE.total (in_office Total q (with_sums code cs ps (sums a n l b u 0)))
-    (λ v. (after_office q (with_sums code cs ps (sums a n l b u v)), Equals (n + l + b + u) v ∷ Equals q.came v ∷ [])) s refl (λ p more e. refl)
+total_join q code places cs ps a n l b u s =
+    row_join TABLE.total (in_office Total q (with_sums code places cs ps (sums a n l b u 0)))
+    (λ v. (after_office q (with_sums code places cs ps (sums a n l b u v)), Equals (n + l + b + u) v ∷ Equals (q.came * places) v ∷ [])) s refl (λ p more e. refl)
     ∙ bind_both (row_reading TABLE.total s) (λ x. agreed s.next (n + l + b + u) x.0 x) _ _ (λ x.
-    two_join s.next (n + l + b + u) q.came x.0 x x.1 (λ y. goes (after_office q (with_sums code cs ps (sums a n l b u x.0))) y)
+    two_join s.next (n + l + b + u) (q.came * places) x.0 x x.1 (λ y. goes (after_office q (with_sums code places cs ps (sums a n l b u x.0))) y)
     ∙ passed s.next (n + l + b + u) x.0 x _ _ refl)
 
 -- where the voters are those of the head, and no vote stands first, what is left of the office is its sums
-pub sums_join : (q : Said) (v : Voters) (code : ℕ) (cs : List Count) (ps : List SaidParty) (mode : Mode) (s : FieldsLeft) → may_end mode ≡ false → v.able ≡ q.able → v.came ≡ q.came
-    → ((p : List ℕ) (more : List (List ℕ)) → s.left ≡ p ∷ more → step (in_office mode q (without_sums code cs ps)) p ≡ able_step (in_office mode q (without_sums code cs ps)) p)
-    → goes (in_office mode q (without_sums code cs ps)) s
-    ≡ (sums_reading (code_proportional code) v (all_nominal (without_sums code cs ps)) (all_legend (without_sums code cs ps)) s >>= λ x. goes (after_office q (with_sums code cs ps x.0)) x.1)
+pub sums_join : (q : Said) (v : Voters) (code places : ℕ) (cs : List Count) (ps : List SaidParty) (mode : Mode) (s : FieldsLeft) → may_end mode ≡ false → v.able ≡ q.able → v.came ≡ q.came
+    → ((p : List ℕ) (more : List (List ℕ)) → s.left ≡ p ∷ more → step (in_office mode q (without_sums code places cs ps)) p ≡ able_step (in_office mode q (without_sums code places cs ps)) p)
+    → goes (in_office mode q (without_sums code places cs ps)) s
+    ≡ (sums_reading (code_proportional code) v places (all_nominal (without_sums code places cs ps)) (all_legend (without_sums code places cs ps)) s >>= λ x. goes (after_office q (with_sums code places cs ps x.0)) x.1)
 unfolding sums_reading step
-sums_join q v code cs ps mode s may able came h = rw (able, came)
-    (sum_join TABLE.office_able (in_office mode q (without_sums code cs ps)) (λ v. in_office Nominal q (with_sums code cs ps (sums v 0 0 0 0 0))) q.able s may h
+sums_join q v code places cs ps mode s may able came h = rw (able, came)
+    (sum_join TABLE.office_able (in_office mode q (without_sums code places cs ps)) (λ v. in_office Nominal q (with_sums code places cs ps (sums v 0 0 0 0 0))) q.able s may h
     ∙ bind_both (sum_reading TABLE.office_able q.able s) _ _ _ (λ a.
-    sum_join TABLE.nominal (in_office Nominal q (with_sums code cs ps (sums a.0 0 0 0 0 0)))
-    (λ v. in_office (if code_proportional code then Legend else Blank) q (with_sums code cs ps (sums a.0 v 0 0 0 0))) _ a.1 refl (λ p more e. refl)
+    sum_join TABLE.nominal (in_office Nominal q (with_sums code places cs ps (sums a.0 0 0 0 0 0)))
+    (λ v. in_office (if code_proportional code then Legend else Blank) q (with_sums code places cs ps (sums a.0 v 0 0 0 0))) _ a.1 refl (λ p more e. refl)
     ∙ bind_both (sum_reading TABLE.nominal _ a.1) _ _ _ (λ n.
-    legend_join (code_proportional code) q code cs ps a.0 n.0 n.1
+    legend_join (code_proportional code) q code places cs ps a.0 n.0 n.1
     ∙ bind_both (legend_reading (code_proportional code) _ n.1) _ _ _ (λ l.
-    row_join TABLE.blank (in_office Blank q (with_sums code cs ps (sums a.0 n.0 l.0 0 0 0))) (λ v. (in_office Null q (with_sums code cs ps (sums a.0 n.0 l.0 v 0 0)), [])) l.1 refl (λ p more e. refl)
+    row_join TABLE.blank (in_office Blank q (with_sums code places cs ps (sums a.0 n.0 l.0 0 0 0))) (λ v. (in_office Null q (with_sums code places cs ps (sums a.0 n.0 l.0 v 0 0)), [])) l.1 refl (λ p more e. refl)
     ∙ bind_both (row_reading TABLE.blank l.1) _ _ _ (λ b.
-    row_join TABLE.null_votes (in_office Null q (with_sums code cs ps (sums a.0 n.0 l.0 b.0 0 0))) (λ v. (in_office Total q (with_sums code cs ps (sums a.0 n.0 l.0 b.0 v 0)), [])) b.1 refl (λ p more e. refl)
+    row_join TABLE.null_votes (in_office Null q (with_sums code places cs ps (sums a.0 n.0 l.0 b.0 0 0))) (λ v. (in_office Total q (with_sums code places cs ps (sums a.0 n.0 l.0 b.0 v 0)), [])) b.1 refl (λ p more e. refl)
     ∙ bind_both (row_reading TABLE.null_votes b.1) _ _ _ (λ u.
-    total_join q code cs ps a.0 n.0 l.0 b.0 u.0 u.1
+    total_join q code places cs ps a.0 n.0 l.0 b.0 u.0 u.1
     ∙ bind_both (sum_reading TABLE.total _ u.1) _ _ _ (λ t.
-    bind_both (agreed u.1.next q.came t.0 t.1) _ _ _ (λ y. refl))))))))
+    bind_both (agreed u.1.next (q.came * places) t.0 t.1) _ _ _ (λ y. refl))))))))

@@ -8,7 +8,7 @@ use Rattle.poll_report.specs.declared.report.Count.{Count}
 use Rattle.qr_text.proofs.Joining.{stepped}
 use Rattle.qr_text.proofs.OfficeJoin.{start_join, sums_join}
 use Rattle.qr_text.proofs.VotesJoin.{candidates_taken, votes_join}
-use Rattle.qr_text.specs.Fronts.{NoParty, after_office, at_mode, begun, behind, goes, mode_behind, said_of, voting, with_parties, with_sums}
+use Rattle.qr_text.specs.Fronts.{NoParty, after_office, at_mode, begun, behind, goes, mode_behind, placing, said_of, voting, with_parties, with_sums}
 use Rattle.qr_text.specs.Reading.{Done, Party, Vote, able_step, code_step, may_end, reading, step, no_party}
 use Rattle.qr_text.specs.Sections.{FieldsLeft, ◌>>=◌, start_reading, sums_reading}
 use Rattle.qr_text.specs.Votes.{votes_reading}
@@ -21,31 +21,31 @@ use Rattle.qr_text.specs.declared.said.SaidParty.{SaidParty}
 
 -- ---- one office
 
-pub begun_majority : (q : Said) (code : ℕ) → code_proportional code ≡ false → begun q code ≡ voting q code []
+pub begun_majority : (q : Said) (code : ℕ) → code_proportional code ≡ false → begun q code ≡ placing q code
 begun_majority q code h = rw h refl
 
 pub begun_proportional : (q : Said) (code : ℕ) → code_proportional code ≡ true → begun q code ≡ with_parties q code []
 begun_proportional q code h = rw h refl
 
 -- the votes of a majority office, and its sums
-pub majority_join : (q : Said) (v : Voters) (code : ℕ) (s : FieldsLeft) (cs : List Count) (t : FieldsLeft) → code_proportional code ≡ false → v.able ≡ q.able → v.came ≡ q.came
+pub majority_join : (q : Said) (v : Voters) (code places : ℕ) (s : FieldsLeft) (cs : List Count) (t : FieldsLeft) → code_proportional code ≡ false → v.able ≡ q.able → v.came ≡ q.came
     → votes_reading (digits_in code) None 0 [] s ≡ (cs, t)
-    → goes (voting q code []) s ≡ (sums_reading false v (votes_of cs) 0 t >>= λ x. goes (after_office q (with_sums code cs [] x.0)) x.1)
-majority_join q v code s cs t kind able came h =
-    let j = votes_join (digits_in code) None (voting q code) (λ cs p. able_step (voting q code cs) p) (candidates_taken q code) s cs t h in
-    let after : ℕ → Bool → Result Said FieldFault = λ n b. sums_reading b v n 0 t >>= λ x. goes (after_office q (with_sums code cs [] x.0)) x.1 in
-    j.0 ∙ (sums_join q v code cs [] Vote t refl able came j.1 ∙ (ap (λ n. after n (code_proportional code)) (add-zero (votes_of cs)) ∙ ap (λ b. after (votes_of cs) b) kind))
+    → goes (voting q code places []) s ≡ (sums_reading false v places (votes_of cs) 0 t >>= λ x. goes (after_office q (with_sums code places cs [] x.0)) x.1)
+majority_join q v code places s cs t kind able came h =
+    let j = votes_join (digits_in code) None (voting q code places) (λ cs p. able_step (voting q code places cs) p) (candidates_taken q code places) s cs t h in
+    let after : ℕ → Bool → Result Said FieldFault = λ n b. sums_reading b v places n 0 t >>= λ x. goes (after_office q (with_sums code places cs [] x.0)) x.1 in
+    j.0 ∙ (sums_join q v code places cs [] Vote t refl able came j.1 ∙ (ap (λ n. after n (code_proportional code)) (add-zero (votes_of cs)) ∙ ap (λ b. after (votes_of cs) b) kind))
 
 -- the parties of a proportional office, and its sums
 pub proportional_join : (q : Said) (v : Voters) (code : ℕ) (s : FieldsLeft) (ps : List SaidParty) (t : FieldsLeft) → code_proportional code ≡ true → v.able ≡ q.able → v.came ≡ q.came
     → goes (with_parties q code []) s ≡ goes (with_parties q code ps) t → NoParty q code ps t
     → goes (with_parties q code []) s
-    ≡ (sums_reading true v (sum_by (λ p. votes_of p.candidates) ps) (sum_by (λ p. p.legend) ps) t >>= λ x. goes (after_office q (with_sums code [] ps x.0)) x.1)
+    ≡ (sums_reading true v 1 (sum_by (λ p. votes_of p.candidates) ps) (sum_by (λ p. p.legend) ps) t >>= λ x. goes (after_office q (with_sums code 1 [] ps x.0)) x.1)
 proportional_join q v code s ps t kind able came h none =
     let nominal : ℕ = sum_by (λ p. votes_of p.candidates) ps in
     let legend : ℕ = sum_by (λ p. p.legend) ps in
-    let after : ℕ → Bool → Result Said FieldFault = λ n b. sums_reading b v n legend t >>= λ x. goes (after_office q (with_sums code [] ps x.0)) x.1 in
-    h ∙ (sums_join q v code [] ps Party t refl able came none ∙ (ap (λ n. after n (code_proportional code)) (zero-add nominal) ∙ ap (λ b. after nominal b) kind))
+    let after : ℕ → Bool → Result Said FieldFault = λ n b. sums_reading b v 1 n legend t >>= λ x. goes (after_office q (with_sums code 1 [] ps x.0)) x.1 in
+    h ∙ (sums_join q v code 1 [] ps Party t refl able came none ∙ (ap (λ n. after n (code_proportional code)) (zero-add nominal) ∙ ap (λ b. after nominal b) kind))
 
 -- ---- between offices
 

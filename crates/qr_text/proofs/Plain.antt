@@ -17,7 +17,7 @@ use Rattle.election_tables.proofs.Kept.{has_digits-below}
 use Rattle.poll_report.specs.Report.{EachAfter, digits_in, is_some_votes, is_vote}
 use Rattle.poll_report.specs.declared.report.Count.{Count}
 use Rattle.qr_text.specs.Laws.{FieldsArePlain, IsPlain}
-use Rattle.qr_text.specs.Said.{ReportField, IsSaid, IsSaidOffice, MayOffice, MayParty, codes_in, fields, head_field, head_values, kind_number, last_fields, office_fields, party_fields, sum_fields, texts, vote_field, votes_fields}
+use Rattle.qr_text.specs.Said.{ReportField, IsSaid, IsSaidOffice, MayOffice, MayParty, codes_in, fields, head_field, head_values, kind_number, last_fields, office_fields, party_fields, places_fields, sum_fields, texts, vote_field, votes_fields}
 use Rattle.qr_text.specs.Spelling.{report_fields, said}
 use Rattle.qr_text.specs.Table.{row_text, fits, head_rows, value_text}
 use Rattle.qr_text.specs.declared.said.Said.{Said}
@@ -27,11 +27,11 @@ use Rattle.qr_text.specs.declared.table.Form.TheVariants.{Vota, Between, Date, T
 use Rattle.qr_text.specs.declared.table.Form.{Form}
 use Rattle.qr_text.specs.declared.table.Row.{Row}
 use Rattle.qr_text.specs.declared.table.TheConstants.{TABLE}
-use Rattle.qr_text.proofs.Codes.{code_fits, digits_few}
+use Rattle.qr_text.proofs.Codes.{code_fits, digits_few, other_fits}
 use Rattle.qr_text.proofs.Following.{kind_fits}
 use Rattle.qr_text.proofs.Lengths.{AreVotes, are_party_votes, are_votes, fits_in, is_short, short_field, vote_length}
 use Rattle.qr_text.proofs.Reporting.{is_said}
-use Rattle.qr_text.proofs.RowLaws.{number_small}
+use Rattle.qr_text.proofs.RowLaws.{digits_first, number_small}
 
 -- ---- bytes that are seen
 
@@ -67,9 +67,6 @@ seen_value Time v w h = seen_digits (padded 6 v) (all_digits-padded 6 v)
 
 -- ---- one field
 
-abbrev hash_word : List ℕ
-hash_word = codes "HASH:"
-
 -- what doesn't begin with a word doesn't begin with one that is longer
 no_longer_word : (w more key rest : List ℕ) → length w ≡ length key → after_word w key ≡ None → after_word (w ++ more) (key ++ rest) ≡ None
 no_longer_word [] more [] rest l h = absurd (cc)
@@ -103,13 +100,6 @@ plain_field r v p h =
           (none_of (after_word (codes "HASH") r.key) key.1);
     }
 
-digit_first : (t rest : List ℕ) → 0 < length t → list_all is_digit t ≡ true → after_word hash_word (t ++ rest) ≡ None
-digit_first [] rest some h = absurd (omega arith)
-digit_first (x ∷ t) rest some h =
-    let digit = (both_from_and (is_digit x) (list_all is_digit t) h).0 in
-    let other : (x == 72) ≡ false = grind (arith, nat_tests) in
-    rw other refl
-
 plain_vote : (code : ℕ) (c : Count) → is_vote (digits_in code) c ≡ true → IsPlain (vote_field c).text
 plain_vote code c h =
     let both = both_from_and (has_digits (digits_in code) c.number) (is_some_votes c.votes) h in
@@ -123,7 +113,7 @@ plain_vote code c h =
       some = omega (arith, whole);
       short = omega (arith, length_is);
       seen = seen_append (decimal c.number) value (seen_digits (decimal c.number) digits) (seen_value TABLE.votes c.votes refl both.1);
-      no_hash = digit_first (decimal c.number) value some digits;
+      no_hash = digits_first 72 (codes "ASH:") (decimal c.number) value refl some digits;
     }
 
 -- ---- each field
@@ -159,6 +149,12 @@ plain_last s o h = (
   (plain_field TABLE.null_votes o.null_votes refl h.null_votes, (plain_field TABLE.total o.total refl h.total, tt)),
 )
 
+plain_places : (o : SaidOffice) → IsSaidOffice o → Plains (places_fields o.places)
+plain_places o h = elim (cases_Bool (o.places == 1)) [
+  | inl one ↦ rw one tt
+  | inr other ↦ rw other (plain_field TABLE.places o.places refl (other_fits o.code o.places h.places other), tt)
+]
+
 plain_behind : (s : Said) (o : SaidOffice) (b : Bool) → IsSaidOffice o → Plains (votes_fields b o ++ sum_fields s b o)
 plain_behind s o true h =
     plains_append (flat_map party_fields o.parties) (sum_fields s true o) (plain_parties o.code [] o.parties h.parties) (
@@ -169,8 +165,9 @@ plain_behind s o true h =
       ),
     )
 plain_behind s o false h =
-    plains_append (map vote_field o.candidates) (sum_fields s false o)
-    (plain_votes o.code o.candidates (are_votes (digits_in o.code) [] o.candidates h.candidates)) (
+    plains_append (votes_fields false o) (sum_fields s false o)
+    (plains_append (places_fields o.places) (map vote_field o.candidates) (plain_places o h)
+    (plain_votes o.code o.candidates (are_votes (digits_in o.code) [] o.candidates h.candidates))) (
       plain_field TABLE.office_able o.able refl h.able,
       (plain_field TABLE.nominal o.nominal refl h.nominal, plain_last s o h),
     )

@@ -2,9 +2,9 @@
 use Rattle.std.proofs.Common.{◌≡◌, ℕ, ◌<◌, ◌≤◌, true, false, List, [], ◌∷◌, ◌++◌, length, map, take}
 use Rattle.std.specs.Prelude.{if◌then◌else◌}
 use Rattle.std.specs.List.{flat_map}
-use Rattle.election_tables.specs.Offices.{code_proportional}
+use Rattle.election_tables.specs.Offices.{code_proportional, may_have_places}
 use Rattle.poll_report.specs.Report.{EachAfter, MayVote, may_have_code, digits_in, is_above}
-use Rattle.qr_text.specs.Reading.{State, Mode, Head, Code, Kind, Vote, Party, OfParty, PartyTotal, Nominal, Legend, Blank, Null, Total, Done, new_office}
+use Rattle.qr_text.specs.Reading.{State, Mode, Head, Code, Kind, Places, Vote, Party, OfParty, PartyTotal, Nominal, Legend, Blank, Null, Total, Done, new_office}
 use Rattle.qr_text.specs.Said.{ReportField, MayVoteIn, MayParty, MayOffice, kind_number, vote_field, party_field, office_field, votes_fields, office_fields, codes_in}
 use Rattle.qr_text.specs.Table.{fits}
 use Rattle.qr_text.specs.declared.said.Said.{Said}
@@ -30,6 +30,7 @@ abbrev pub part : Mode → Said → SaidOffice → SaidParty → List ReportFiel
 part (Head n) s o p = []
 part Code s o p = []
 part Kind s o p = office_field s o TABLE.office o.code ∷ []
+part Places s o p = in_office s o []
 part Vote s o p = in_office s o (votes_read s o)
 part Party s o p = in_office s o (votes_read s o)
 part OfParty s o p = in_office s o (votes_read s o ++ (party_field p TABLE.party p.number ∷ map vote_field p.candidates))
@@ -54,6 +55,7 @@ part Done s o p = []
 -- the office so far may stand behind the others
 pub record Votes (s : Said) (o : SaidOffice) : Type 0 where
   pub may : may_have_code (codes_in s.offices) o.code ≡ true
+  pub places : may_have_places o.code o.places ≡ true
   pub candidates : EachAfter (MayVote (digits_in o.code)) [] o.candidates
   pub parties : EachAfter (MayParty (digits_in o.code)) [] o.parties
   pub proportional : code_proportional o.code ≡ true → o.candidates ≡ []
@@ -71,6 +73,7 @@ abbrev pub Fine : Mode → Said → SaidOffice → SaidParty → Type 0
 Fine (Head n) s o p = ⊥
 Fine Code s o p = s.offices ≡ []
 Fine Kind s o p = (o ≡ new_office o.code) × (may_have_code (codes_in s.offices) o.code ≡ true)
+Fine Places s o p = (o ≡ new_office o.code) × (may_have_code (codes_in s.offices) o.code ≡ true) × (code_proportional o.code ≡ false)
 Fine Vote s o p = Votes s o × (code_proportional o.code ≡ false)
 Fine Party s o p = Votes s o × (code_proportional o.code ≡ true)
 Fine OfParty s o p = Votes s o × PartyRead o p
@@ -108,6 +111,7 @@ abbrev pub GoodIn : Mode → Said → SaidOffice → SaidParty → List ReportFi
 GoodIn (Head n) s o p fs = InHead n s fs
 GoodIn Code s o p fs = InOffices Code s o p fs
 GoodIn Kind s o p fs = InOffices Kind s o p fs
+GoodIn Places s o p fs = InOffices Places s o p fs
 GoodIn Vote s o p fs = InOffices Vote s o p fs
 GoodIn Party s o p fs = InOffices Party s o p fs
 GoodIn OfParty s o p fs = InOffices OfParty s o p fs

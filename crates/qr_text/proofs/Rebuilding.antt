@@ -1,5 +1,5 @@
 -- What is said rightly is what one report says: the offices and the head.
-use Rattle.std.proofs.Common.{◌≡◌, ℕ, ◌+◌, ◌-◌, ◌/◌, ◌%◌, ◌<◌, ◌≤◌, Bool, true, false, List, [], ◌∷◌, ◌++◌, length, map, None, refl, sym, ap, ◌∙◌, subst, inl, inr, arith, append_assoc}
+use Rattle.std.proofs.Common.{◌≡◌, ℕ, ◌+◌, ◌-◌, ◌*◌, ◌/◌, ◌%◌, ◌<◌, ◌≤◌, Bool, true, false, List, [], ◌∷◌, ◌++◌, length, map, None, refl, sym, ap, ◌∙◌, subst, inl, inr, arith, append_assoc}
 use Rattle.std.specs.Prelude.{nat_lt, nat_le, if◌then◌else◌, ◌==◌, ◌&&◌}
 use Rattle.std.specs.List.{AllByRecursion, flat_map, sum_by, zip}
 use Rattle.std.proofs.lemmas.Bool.Decides.{nat_tests}
@@ -58,11 +58,11 @@ record SumsRight (s : Said) (b : Bool) (o : SaidOffice) : Type 0 where
   nominal : all_nominal o ≡ o.nominal
   legend : b ≡ true → all_legend o ≡ o.legend
   all : o.nominal + o.legend + o.blank + o.null_votes ≡ o.total
-  came : s.came ≡ o.total
+  came : s.came * o.places ≡ o.total
 
 sums_right : (s : Said) (b : Bool) (o : SaidOffice) → Pass (sum_fields s b o) → SumsRight s b o
 sums_right s true o h =
-    let total = both_from (o.nominal + o.legend + o.blank + o.null_votes) s.came o.total h.1.1.1.1.1.0 in
+    let total = both_from (o.nominal + o.legend + o.blank + o.null_votes) (s.came * o.places) o.total h.1.1.1.1.1.0 in
     record {
       able = equal_from s.able o.able h.0;
       nominal = equal_from (all_nominal o) o.nominal h.1.0;
@@ -71,7 +71,7 @@ sums_right s true o h =
       came = total.1;
     }
 sums_right s false o h =
-    let total = both_from (o.nominal + o.legend + o.blank + o.null_votes) s.came o.total h.1.1.1.1.0 in
+    let total = both_from (o.nominal + o.legend + o.blank + o.null_votes) (s.came * o.places) o.total h.1.1.1.1.0 in
     record {
       able = equal_from s.able o.able h.0;
       nominal = equal_from (all_nominal o) o.nominal h.1.0;
@@ -144,6 +144,7 @@ same_office : (o : SaidOffice) (candidates : List Count) (parties : List SaidPar
     → candidates ≡ o.candidates → parties ≡ o.parties → able ≡ o.able → nominal ≡ o.nominal → legend ≡ o.legend → total ≡ o.total
     → record {
       code = o.code;
+      places = o.places;
       candidates = candidates;
       parties = parties;
       able = able;
@@ -168,6 +169,7 @@ again_of b able o =
     let c : OfficeCount = told_office o in
     record {
       code = o.code;
+      places = o.places;
       candidates = if b then [] else c.nominal;
       parties = if b then said_parties c else [];
       able = able;
@@ -342,7 +344,7 @@ count_is s o true h e sums =
           (flat_may digits (grouped o.code e) 0 [] o.parties (λ n l. refl) (from_ten digits o.parties are) are rising);
       parties = legends_may digits [] o.parties are rising (none_before o.parties);
       majority = λ other. let clash : true ≡ false = sym e ∙ other in absurd (cc);
-      places = refl;
+      places = h.places;
       total = omega arith;
       few = let most = at_most_9999 o.total h.total in omega arith;
     }
@@ -361,7 +363,7 @@ count_is s o false h e sums =
       nominal = subst P (sym candidates) h.candidates;
       parties = subst Q (sym parties) tt;
       majority = λ other. parties;
-      places = refl;
+      places = h.places;
       total = omega arith;
       few = let most = at_most_9999 o.total h.total in omega arith;
     }

@@ -1,6 +1,6 @@
 -- The text of a report says what the report says.
 use Rattle.std.proofs.Common.{◌≡◌, ℕ, ◌+◌, ◌-◌, ◌*◌, ◌/◌, ◌%◌, ◌<◌, ◌≤◌, Bool, true, false, List, [], ◌∷◌, ◌++◌, length, map, None, refl, sym, ap, ◌∙◌, subst, inl, inr, arith, lit≤}
-use Rattle.std.specs.Prelude.{nat_le, if◌then◌else◌}
+use Rattle.std.specs.Prelude.{nat_le, ◌==◌, if◌then◌else◌}
 use Rattle.std.specs.List.{AllByRecursion, flat_map, filter, range_with_len, zip}
 use Rattle.std.proofs.lemmas.Bool.{cases_Bool, eq-eqb, le-leb}
 use Rattle.std.proofs.lemmas.List.{map-append}
@@ -10,7 +10,7 @@ use Rattle.poll_report.specs.declared.report.Count.{Count}
 use Rattle.poll_report.specs.declared.report.OfficeCount.{OfficeCount}
 use Rattle.poll_report.specs.declared.report.Report.{Report}
 use Rattle.qr_text.specs.Fault.{failing}
-use Rattle.qr_text.specs.Said.{ReportField, Equals, Holds, IsSaid, IsSaidOffice, MayOffice, codes_in, fields, head_values, head_field, vote_field, party_fields, votes_fields, sum_fields, office_fields, all_nominal, all_legend, moment}
+use Rattle.qr_text.specs.Said.{ReportField, Equals, Holds, IsSaid, IsSaidOffice, MayOffice, codes_in, fields, head_values, head_field, vote_field, party_fields, places_fields, votes_fields, sum_fields, office_fields, all_nominal, all_legend, moment}
 use Rattle.qr_text.specs.Spelling.{said, said_office, said_party, said_parties}
 use Rattle.qr_text.specs.Table.{head_rows}
 use Rattle.qr_text.specs.declared.said.Said.{Said}
@@ -26,6 +26,7 @@ Pass fs = AllByRecursion (λ f. failing f.tests ≡ None) fs
 abbrev pub office_of : Bool → Report → OfficeCount → SaidOffice
 office_of proportional r o = record {
   code = o.code;
+  places = o.places;
   candidates = if proportional then [] else o.nominal;
   parties = if proportional then said_parties o else [];
   able = r.able;
@@ -36,14 +37,12 @@ office_of proportional r o = record {
   total = votes_of o.nominal + votes_of o.parties + o.blank + o.null_votes;
 }
 
-total_is : (came : ℕ) (o : OfficeCount) → IsOfficeCount came o → votes_of o.nominal + votes_of o.parties + o.blank + o.null_votes ≡ came
-total_is came o h = let one = ap (λ (n : ℕ). came * n) h.places in let all = h.total in omega arith
-
 pub is_office : (r : Report) (o : OfficeCount) (b : Bool) → r.able ≤ 9999 → r.came ≤ r.able → IsOfficeCount r.came o
     → code_proportional o.code ≡ b → IsSaidOffice (office_of b r o)
 is_office r o true able came h e =
-    let all = total_is r.came o h in
+    let all = h.few in
     record {
+      places = h.places;
       candidates = tt;
       parties = parties_may (digits_in o.code) o 90 10 [] h.nominal (omega arith) (lit≤ tt) (lit≤ tt) (λ k l. refl);
       proportional = λ yes. refl;
@@ -56,8 +55,9 @@ is_office r o true able came h e =
       total = few (votes_of o.nominal + votes_of o.parties + o.blank + o.null_votes) (omega arith);
     }
 is_office r o false able came h e =
-    let all = total_is r.came o h in
+    let all = h.few in
     record {
+      places = h.places;
       candidates = h.nominal;
       parties = tt;
       proportional = λ yes. let clash : true ≡ false = sym yes ∙ e in absurd (cc);
@@ -109,6 +109,12 @@ pass_votes : (cs : List Count) → Pass (map vote_field cs)
 pass_votes [] = tt
 pass_votes (c ∷ cs) = (refl, pass_votes cs)
 
+pass_places : (places : ℕ) → Pass (places_fields places)
+pass_places places = elim (cases_Bool (places == 1)) [
+  | inl one ↦ rw one tt
+  | inr other ↦ rw other (refl, tt)
+]
+
 pass_party : (digits : ℕ) (o : OfficeCount) (k : ℕ) → Pass (party_fields (said_party digits o k))
 pass_party digits o k =
     let p : SaidParty = said_party digits o k in (
@@ -130,17 +136,17 @@ total_passes a b c e d = rw (eq-eqb a c e, eq-eqb b c d) refl
 
 -- an office whose sums are right
 pass_sums : (s : Said) (b : Bool) (o : SaidOffice) → s.able ≡ o.able → all_nominal o ≡ o.nominal → all_legend o ≡ o.legend
-    → o.nominal + o.legend + o.blank + o.null_votes ≡ o.total → s.came ≡ o.total → Pass (sum_fields s b o)
+    → o.nominal + o.legend + o.blank + o.null_votes ≡ o.total → s.came * o.places ≡ o.total → Pass (sum_fields s b o)
 pass_sums s true o able nominal legend total came = (
   equal_passes s.able o.able able,
   (
     equal_passes (all_nominal o) o.nominal nominal,
-    (equal_passes (all_legend o) o.legend legend, (refl, (refl, (total_passes _ s.came o.total total came, tt)))),
+    (equal_passes (all_legend o) o.legend legend, (refl, (refl, (total_passes _ (s.came * o.places) o.total total came, tt)))),
   ),
 )
 pass_sums s false o able nominal legend total came = (
   equal_passes s.able o.able able,
-  (equal_passes (all_nominal o) o.nominal nominal, (refl, (refl, (total_passes _ s.came o.total total came, tt)))),
+  (equal_passes (all_nominal o) o.nominal nominal, (refl, (refl, (total_passes _ (s.came * o.places) o.total total came, tt)))),
 )
 
 pass_office : (s : Said) (r : Report) (o : OfficeCount) (b : Bool) → s.able ≡ r.able → s.came ≡ r.came → IsOfficeCount r.came o
@@ -153,12 +159,13 @@ pass_office s r o true able came h e =
     let nominal : all_nominal n ≡ votes_of o.nominal = omega arith in
     let legend : all_legend n ≡ votes_of o.parties = kept.1 ∙ legend_groups o.parties h.parties in
     pass_append (flat_map party_fields (said_parties o)) (sum_fields s true n) (pass_parties (digits_in o.code) o (range_with_len 10 90))
-    (pass_sums s true n able nominal legend refl (came ∙ sym (total_is r.came o h)))
+    (pass_sums s true n able nominal legend refl (ap (λ (k : ℕ). k * o.places) came ∙ sym h.total))
 pass_office s r o false able came h e =
     let n : SaidOffice = office_of false r o in
     let legend : all_legend n ≡ votes_of o.parties = sym (ap (λ (l : List Count). votes_of l) (h.majority e)) in
-    pass_append (map vote_field o.nominal) (sum_fields s false n) (pass_votes o.nominal)
-    (pass_sums s false n able (omega arith) legend refl (came ∙ sym (total_is r.came o h)))
+    pass_append (votes_fields false n) (sum_fields s false n)
+    (pass_append (places_fields o.places) (map vote_field o.nominal) (pass_places o.places) (pass_votes o.nominal))
+    (pass_sums s false n able (omega arith) legend refl (ap (λ (k : ℕ). k * o.places) came ∙ sym h.total))
 
 pass_offices : (s : Said) (r : Report) (before os : List OfficeCount) → s.able ≡ r.able → s.came ≡ r.came
     → EachAfter (MayCount r.came) before os → Pass (flat_map (office_fields s) (map (said_office r) os))

@@ -1,11 +1,13 @@
 -- Writing and reading of one field, and of a candidate's.
-use Rattle.std.proofs.Common.{◌≡◌, Bool, true, false, List, [], ◌∷◌, ◌++◌, ℕ, ◌<◌, ◌^◌, Some, None, refl, sym, ap, ◌∙◌, subst, arith, lit<}
+use Rattle.std.proofs.Common.{◌≡◌, Bool, true, false, List, [], ◌∷◌, ◌++◌, length, ℕ, ◌<◌, ◌^◌, Some, None, refl, sym, ap, ◌∙◌, subst, inl, inr, arith, lit<}
 use Rattle.std.specs.Prelude.{codes, not, ◌==◌, All}
 use Rattle.std.specs.Fmt.{decimal}
 use Rattle.std.specs.List.{list_all, slice_split, join_with_byte}
 use Rattle.std.specs.Option.{option_and_then}
 use Rattle.std.specs.Str.{bytes_eq}
+use Rattle.std.proofs.lemmas.Bool.{cases_Bool, eqb-true}
 use Rattle.std.proofs.lemmas.Bool.Decides.{nat_tests}
+use Rattle.std.proofs.lemmas.Fmt.{decimal_nonempty}
 use Rattle.std.proofs.lemmas.List.Elements.{All-nil, All-cons}
 use Rattle.std.proofs.lemmas.List.Splits.{slice_split_at, slice_split_none, join_with_byte-slice_split}
 use Rattle.std.proofs.lemmas.Slice.Eq.{bytes_eq-Decides}
@@ -22,10 +24,12 @@ use Rattle.urna_base.specs.Words.{after_word}
 use Rattle.urna_base.proofs.WordLaws.{after_word-append, after_word-some}
 use Rattle.urna_base.proofs.Cases.{and_then_some, guard_some}
 use Rattle.qr_text.specs.Reading.{only_fitting, written_value, value_at, number_at, vote_with, vote_of, vote_at}
+use Rattle.qr_text.specs.Said.{vote_field}
 use Rattle.qr_text.specs.Table.{fits, is_time, value_text, row_text, vote_row}
 use Rattle.qr_text.specs.declared.table.Form.TheVariants.{Vota, Between, Date, Time}
 use Rattle.qr_text.specs.declared.table.Form.{Form}
 use Rattle.qr_text.specs.declared.table.Row.{Row}
+use Rattle.qr_text.specs.declared.table.TheConstants.{TABLE}
 use Rattle.qr_text.proofs.Codes.{digits_few}
 
 -- the numbers of a form are those that decimals can write
@@ -145,6 +149,27 @@ pub vote_none : (digits : ℕ) (key t : List ℕ) → list_all not_colon key ≡
 unfolding vote_at
 vote_none digits key t h n = rw (slice_split_at is_colon key 58 t (no_colon_in key h) refl)
     (vote_of_none digits key (slice_split is_colon t) n)
+
+-- ---- what is no other field
+
+-- a text that begins with a digit doesn't begin with this word
+pub digits_first : (b : ℕ) (word t rest : List ℕ) → is_digit b ≡ false → 0 < length t → list_all is_digit t ≡ true → after_word (b ∷ word) (t ++ rest) ≡ None
+digits_first b word [] rest other some h = absurd (omega arith)
+digits_first b word (x ∷ t) rest other some h = elim (cases_Bool (x == b)) [
+  | inl e ↦
+      let digit : is_digit b ≡ true = ap is_digit (sym (eqb-true x b e)) ∙ (both_from_and (is_digit x) (list_all is_digit t) h).0 in
+      absurd (cc)
+  | inr e ↦ rw e refl
+]
+
+-- that of a candidate isn't that of the places
+pub vote_not_places : (code : ℕ) (c : Count) → is_vote (digits_in code) c ≡ true → number_at TABLE.places (vote_field c).text ≡ None
+unfolding number_at
+vote_not_places code c h =
+    let both = both_from_and (has_digits (digits_in code) c.number) (is_some_votes c.votes) h in
+    let few = has_digits-below (digits_in code) c.number (digits_few code) both.0 in
+    let word = digits_first 76 (codes "UGA") (decimal c.number) (58 ∷ value_text TABLE.votes c.votes) refl (decimal_nonempty c.number (omega arith)) (all_digits c.number (number_small code c h)) in
+    rw word refl
 
 -- a candidate's field that was read is the one that is written
 pub vote_back : (digits : ℕ) (p : List ℕ) (c : Count) → vote_at digits p ≡ Some c

@@ -59,22 +59,21 @@ few_legends before (c ∷ cs) h =
 abbrev pub IsShort : OfficeCount → Type 0
 IsShort o = (length o.nominal < 2 ^ 32) × (length o.parties < 2 ^ 32)
 
-short_office : (came : ℕ) (o : OfficeCount) → came ≤ 9999 → IsOfficeCount came o → IsShort o
-short_office came o few h =
+short_office : (came : ℕ) (o : OfficeCount) → IsOfficeCount came o → IsShort o
+short_office came o h =
     let nominal = few_candidates (digits_in o.code) [] o.nominal h.nominal in
     let parties = few_legends [] o.parties h.parties in
-    let total : total_of o ≡ came * 1 = h.total ∙ ap (λ n. came * n) h.places in
-    (omega (arith, nominal, total, few), omega (arith, parties, total, few))
+    (omega (arith, nominal, h.few), omega (arith, parties, h.few))
 
-short_at : (came : ℕ) (before : List OfficeCount) (os : List SaidOffice) (i : ℕ) (o : SaidOffice) → came ≤ 9999 → EachAfter (MayCount came) before (map told_office os)
+short_at : (came : ℕ) (before : List OfficeCount) (os : List SaidOffice) (i : ℕ) (o : SaidOffice) → EachAfter (MayCount came) before (map told_office os)
     → i < length os → o ≡ get_or os i o → IsShort (told_office o)
-short_at came before [] i o few h lt e = absurd (omega arith)
-short_at came before (x ∷ os) zero o few h lt e = let P : SaidOffice → Type 0 = λ y. IsShort (told_office y) in subst P (sym e) (short_office came (told_office x) few h.0.1)
-short_at came before (x ∷ os) (suc i) o few h lt e = short_at came (before ++ told_office x ∷ []) os i o few h.1 (omega arith) e
+short_at came before [] i o h lt e = absurd (omega arith)
+short_at came before (x ∷ os) zero o h lt e = let P : SaidOffice → Type 0 = λ y. IsShort (told_office y) in subst P (sym e) (short_office came (told_office x) h.0.1)
+short_at came before (x ∷ os) (suc i) o h lt e = short_at came (before ++ told_office x ∷ []) os i o h.1 (omega arith) e
 
 -- so are those of each office of a report
 pub short_said : (s : Said) (i : ℕ) (o : SaidOffice) → IsReport (told_report s) → i < length s.offices → o ≡ get_or s.offices i o → IsShort (told_office o)
-short_said s i o h lt e = short_at s.came [] s.offices i o (let came = h.came in let able = h.able in omega arith) h.offices lt e
+short_said s i o h lt e = short_at s.came [] s.offices i o h.offices lt e
 
 pub few_offices : (came : ℕ) (before os : List OfficeCount) → length before ≤ most_offices → EachAfter (MayCount came) before os → length before + length os ≤ most_offices
 few_offices came before [] few h = omega arith

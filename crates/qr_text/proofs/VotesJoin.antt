@@ -1,22 +1,24 @@
 -- Reading candidates and parties, as many as stand, is reading them field by field.
 use Rattle.std.proofs.Common.{◌≡◌, ℕ, zero, suc, lit<, ◌+◌, ◌-◌, ◌^◌, ◌<◌, Bool, true, false, List, [], ◌∷◌, ◌++◌, map, Option, Some, None, refl, sym, ap, ◌∙◌, subst, ◌⊎◌, inl, inr, arith}
 use Rattle.std.specs.Option.{option_and_then, option_or}
-use Rattle.std.specs.Prelude.{nat_lt, ◌&&◌, if◌then◌else◌}
+use Rattle.std.specs.Prelude.{nat_lt, ◌&&◌, if◌then◌else◌, MatchOption, unwrap_or}
 use Rattle.std.proofs.Math.Nat.{pow-suc}
 use Rattle.std.proofs.lemmas.Bool.Decides.{nat_tests}
 use Rattle.election_tables.specs.Fields.{has_digits}
+use Rattle.election_tables.specs.Offices.{may_have_places}
 use Rattle.poll_report.specs.Report.{digits_in, is_above, is_some_votes, numbers_of, votes_of}
 use Rattle.poll_report.specs.declared.report.Count.{Count}
 use Rattle.urna_base.proofs.DigitLaws.{both_from_and}
 use Rattle.urna_base.specs.Moment.{is_between}
+use Rattle.qr_text.proofs.Exact.{end_bad}
 use Rattle.qr_text.proofs.Joining.{bind_both, row_join, stepped, sum_join}
 use Rattle.qr_text.proofs.RowLaws.{number_back, vote_back}
 use Rattle.std.proofs.lemmas.List.{map-append}
 use Rattle.qr_text.proofs.VoteLaws.{first_none, first_some, votes_stopped, votes_taken}
-use Rattle.qr_text.specs.Fronts.{goes, in_party, voting, with_parties, without_sums}
+use Rattle.qr_text.specs.Fronts.{goes, in_party, placing, voting, with_parties, without_sums}
 use Rattle.qr_text.specs.Reading.{State, Step, PartyTotal, step, able_step, legend_step, number_at, reading, vote_at}
 use Rattle.qr_text.specs.Sections.{FieldsLeft, ◌>>=◌, party_end_reading, row_reading, sum_reading}
-use Rattle.qr_text.specs.Votes.{belongs, greater, party_after, party_first, vote_after, votes_from, votes_reading}
+use Rattle.qr_text.specs.Votes.{allowed, belongs, greater, party_after, party_first, places_first, places_of, vote_after, votes_from, votes_reading}
 use Rattle.qr_text.specs.declared.said.Said.{Said}
 use Rattle.qr_text.specs.declared.said.SaidParty.{SaidParty}
 use Rattle.qr_text.specs.declared.table.TheConstants.{TABLE}
@@ -135,10 +137,65 @@ module _ (digits : ℕ) (party : Option ℕ) (at : List Count → State) (other 
   unfolding votes_reading
   votes_join s cs t h = let P : List Count × FieldsLeft → Type 0 = λ x. Joined [] s.next s.left x in subst P h (joined_at 0 [] s.next s.left first_last)
 
--- in a majority office
-pub candidates_taken : (q : Said) (code : ℕ) → Takes (digits_in code) None (voting q code) (λ cs p. able_step (voting q code cs) p)
+-- ---- a majority office
+
+-- behind its places
+pub candidates_taken : (q : Said) (code places : ℕ) → Takes (digits_in code) None (voting q code places) (λ cs p. able_step (voting q code places cs) p)
 unfolding step
-candidates_taken q code before p = refl
+candidates_taken q code places before p = refl
+
+abbrev placed : Said → ℕ → ℕ → Step
+placed q code places = if may_have_places code places then Some (voting q code places [], []) else None
+
+-- its places, or its votes
+places_taken : (q : Said) (code : ℕ) (p : List ℕ) → step (placing q code) p ≡ option_or (option_and_then (placed q code) (number_at TABLE.places p)) (step (voting q code 1 []) p)
+unfolding step
+places_taken q code p = refl
+
+allowed_back : (code : ℕ) (o : Option ℕ) (n : ℕ) → option_and_then (allowed code) o ≡ Some n → (o ≡ Some n) × (may_have_places code n ≡ true)
+allowed_back code None n h = absurd (cc)
+allowed_back code (Some m) n h = go (may_have_places code m) refl h
+  where
+    go : (b : Bool) → may_have_places code m ≡ b → (if b then Some m else None) ≡ Some n → (Some m ≡ Some n) × (may_have_places code n ≡ true)
+    go true e h = let same : m ≡ n = cc in (h, ap (λ (x : ℕ). may_have_places code x) (sym same) ∙ e)
+    go false e h = absurd (cc)
+
+-- its places stand there
+pub places_some : (q : Said) (code : ℕ) (s : FieldsLeft) (n : ℕ) (t : FieldsLeft) → places_first code s ≡ Some (n, t) → goes (placing q code) s ≡ goes (voting q code n []) t
+unfolding places_first places_of
+places_some q code s n t h =
+    let f = first_some (λ p. option_and_then (allowed code) (number_at TABLE.places p)) s.next s.left n t h in
+    let back = allowed_back code (number_at TABLE.places f.0) n f.3 in
+    let goes_on : step (placing q code) f.0 ≡ Some (voting q code n [], []) = places_taken q code f.0 ∙ rw (back.0, back.1) refl in
+    ap (λ (x : List (List ℕ)). reading s.next (placing q code) x) f.2
+    ∙ (stepped s.next (placing q code) f.0 f.1 (Some (voting q code n [], [])) goes_on
+    ∙ ap (λ (x : FieldsLeft). goes (voting q code n []) x) (sym f.4))
+
+-- they don't
+pub places_none : (q : Said) (code : ℕ) (s : FieldsLeft) → places_first code s ≡ None → goes (placing q code) s ≡ goes (voting q code 1 []) s
+unfolding places_first places_of
+places_none q code s h = go s.left refl
+  where
+    nothing : (o : Option ℕ) (other : Step) → option_and_then (allowed code) o ≡ None → option_or (option_and_then (placed q code) o) other ≡ other
+    nothing None other h = refl
+    nothing (Some n) other h = test (may_have_places code n) h
+      where
+        test : (b : Bool) → (if b then Some n else None) ≡ None → option_or (if b then Some (voting q code n [], []) else None) other ≡ other
+        test true h = absurd (cc)
+        test false h = refl
+
+    go : (left : List (List ℕ)) → s.left ≡ left → reading s.next (placing q code) s.left ≡ reading s.next (voting q code 1 []) s.left
+    go [] e = rw e (end_bad s.next (placing q code) refl ∙ sym (end_bad s.next (voting q code 1 []) refl))
+    go (p ∷ ps) e =
+        let none = first_none (λ p. option_and_then (allowed code) (number_at TABLE.places p)) s.next s.left h p ps e in
+        let same = places_taken q code p ∙ nothing (number_at TABLE.places p) (step (voting q code 1 []) p) none in
+        rw e (stepped s.next (placing q code) p ps (step (voting q code 1 []) p) same ∙ sym (stepped s.next (voting q code 1 []) p ps (step (voting q code 1 []) p) refl))
+
+pub places_join : (q : Said) (code : ℕ) (s : FieldsLeft) (o : Option ℕ) (t : FieldsLeft)
+    → MatchOption o ((places_first code s ≡ None) × (t ≡ s)) (λ n. places_first code s ≡ Some (n, t))
+    → goes (placing q code) s ≡ goes (voting q code (unwrap_or o 1) []) t
+places_join q code s None t h = places_none q code s h.0 ∙ ap (goes (voting q code 1 [])) (sym h.1)
+places_join q code s (Some n) t h = places_some q code s n t h
 
 -- ---- a party
 
@@ -155,9 +212,9 @@ end_join : (q : Said) (code : ℕ) (ps : List SaidParty) (number : ℕ) (cs : Li
 unfolding party_end_reading step
 end_join q code ps number cs s h =
     row_join TABLE.party_legend (in_party q code ps number cs)
-    (λ v. (record { mode = PartyTotal; said = q; office = without_sums code [] ps; party = record { number = number; candidates = cs; legend = v; total = 0 } }, [])) s refl h
+    (λ v. (record { mode = PartyTotal; said = q; office = without_sums code 1 [] ps; party = record { number = number; candidates = cs; legend = v; total = 0 } }, [])) s refl h
     ∙ bind_both (row_reading TABLE.party_legend s) _ _ _ (λ l.
-    sum_join TABLE.party_total (record { mode = PartyTotal; said = q; office = without_sums code [] ps; party = record { number = number; candidates = cs; legend = l.0; total = 0 } })
+    sum_join TABLE.party_total (record { mode = PartyTotal; said = q; office = without_sums code 1 [] ps; party = record { number = number; candidates = cs; legend = l.0; total = 0 } })
     (λ v. with_parties q code (ps ++ record { number = number; candidates = cs; legend = l.0; total = v } ∷ [])) (votes_of cs + l.0) l.1 refl (λ p more e. refl)
     ∙ bind_both (sum_reading TABLE.party_total (votes_of cs + l.0) l.1) _ _ _ (λ t. refl))
 

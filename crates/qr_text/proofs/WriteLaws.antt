@@ -14,10 +14,10 @@ use Rattle.poll_report.specs.Report.{greatest_count, votes_of, IsOfficeCount, Is
 use Rattle.poll_report.specs.declared.report.Count.{Count}
 use Rattle.poll_report.specs.declared.report.OfficeCount.{OfficeCount}
 use Rattle.poll_report.specs.declared.report.Report.{Report}
-use Rattle.qr_text.specs.Said.{ReportField, fields, vote_field, party_field, office_field, kind_number, party_fields, votes_fields, sum_fields, office_fields, texts}
+use Rattle.qr_text.specs.Said.{ReportField, fields, vote_field, party_field, office_field, kind_number, party_fields, places_fields, votes_fields, sum_fields, office_fields, texts}
 use Rattle.qr_text.specs.Spelling.{candidates_of_party, party_votes, said, said_office, said_party, report_fields, report_text}
 use Rattle.qr_text.specs.Table.{head_rows, row_text}
-use Rattle.qr_text.specs.Writing.{IsCounted, with_fields, with_total, head_texts, spaced_vote, spaced_votes, spaced_party, spaced_parties, spaced_office_votes, with_code, with_sums, with_last, with_office, spaced, spaced_office}
+use Rattle.qr_text.specs.Writing.{IsCounted, with_fields, with_total, head_texts, spaced_vote, spaced_votes, spaced_party, spaced_parties, spaced_places, spaced_office_votes, with_code, with_sums, with_last, with_office, spaced, spaced_office}
 use Rattle.qr_text.specs.declared.said.Said.{Said}
 use Rattle.qr_text.specs.declared.said.SaidOffice.{SaidOffice}
 use Rattle.qr_text.specs.declared.said.SaidParty.{SaidParty}
@@ -93,10 +93,19 @@ parties_are_spaced : (o : OfficeCount) (n : ℕ)
 unfolding spaced_parties
 parties_are_spaced o n = parties_spaced o (range_with_len 10 n)
 
+places_spaced : (places : ℕ) → spaced_places places ≡ spaced (texts (places_fields places))
+places_spaced places = elim (cases_Bool (places == 1)) [
+  | inl one ↦ rw one refl
+  | inr other ↦ rw other (sym (append-nil (32 ∷ row_text TABLE.places places)))
+]
+
 votes_are : (b : Bool) (r : Report) (o : OfficeCount)
-    → (if b then spaced_parties o 90 else spaced_votes o.nominal) ≡ spaced (texts (votes_fields b (office_of b r o)))
+    → (if b then spaced_parties o 90 else spaced_places o.places ++ spaced_votes o.nominal) ≡ spaced (texts (votes_fields b (office_of b r o)))
 votes_are true r o = parties_are_spaced o 90
-votes_are false r o = votes_spaced o.nominal
+votes_are false r o =
+    ap (λ (t : List ℕ). t ++ spaced_votes o.nominal) (places_spaced o.places)
+    ∙ (ap (λ (t : List ℕ). spaced (texts (places_fields o.places)) ++ t) (votes_spaced o.nominal)
+    ∙ sym (spaced_texts (places_fields o.places) (map vote_field o.nominal)))
 
 office_by : (b : Bool) (text : List ℕ) (s : Said) (q : SaidOffice) (v : List ℕ) (p : List ReportField) → v ≡ spaced (texts p)
     → with_last q.blank q.null_votes q.total (with_sums q.able b q.nominal q.legend (with_code q.code b text ++ v))

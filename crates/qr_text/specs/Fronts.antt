@@ -2,7 +2,7 @@
 use Rattle.std.specs.Prelude.{◌≡◌, ℕ, if◌then◌else◌, List, [], ◌∷◌, ◌++◌, Result, Ok, Err}
 use Rattle.election_tables.specs.Offices.{code_proportional}
 use Rattle.poll_report.specs.declared.report.Count.{Count}
-use Rattle.qr_text.specs.Reading.{State, Mode, Code, Vote, Party, OfParty, Done, able_step, reading, step, new_office, no_party}
+use Rattle.qr_text.specs.Reading.{State, Mode, Code, Places, Vote, Party, OfParty, Done, able_step, reading, step, new_office, no_party}
 use Rattle.qr_text.specs.Sections.{FieldsLeft}
 use Rattle.qr_text.specs.declared.fault.FieldError.TheVariants.{Memory, Fault}
 use Rattle.qr_text.specs.declared.fault.FieldError.{FieldError}
@@ -61,10 +61,11 @@ behind h offices = at_mode (mode_behind offices) (said_of h offices)
 abbrev pub sums : ℕ → ℕ → ℕ → ℕ → ℕ → ℕ → Sums
 sums able nominal legend blank null_votes total = record { able = able; nominal = nominal; legend = legend; blank = blank; null_votes = null_votes; total = total }
 
--- an office with these candidates, parties and sums
-abbrev pub with_sums : ℕ → List Count → List SaidParty → Sums → SaidOffice
-with_sums code cs ps x = record {
+-- an office with these places, candidates, parties and sums
+abbrev pub with_sums : ℕ → ℕ → List Count → List SaidParty → Sums → SaidOffice
+with_sums code places cs ps x = record {
   code = code;
+  places = places;
   candidates = cs;
   parties = ps;
   able = x.able;
@@ -76,23 +77,27 @@ with_sums code cs ps x = record {
 }
 
 -- none of its sums was read
-abbrev pub without_sums : ℕ → List Count → List SaidParty → SaidOffice
-without_sums code cs ps = with_sums code cs ps (sums 0 0 0 0 0 0)
+abbrev pub without_sums : ℕ → ℕ → List Count → List SaidParty → SaidOffice
+without_sums code places cs ps = with_sums code places cs ps (sums 0 0 0 0 0 0)
 
 abbrev pub in_office : Mode → Said → SaidOffice → State
 in_office mode q o = record { mode = mode; said = q; office = o; party = no_party }
 
 -- its code and its kind were read
 abbrev pub begun : Said → ℕ → State
-begun q code = in_office (if code_proportional code then Party else Vote) q (without_sums code [] [])
+begun q code = in_office (if code_proportional code then Party else Places) q (without_sums code 1 [] [])
 
--- these candidates were read
-abbrev pub voting : Said → ℕ → List Count → State
-voting q code cs = in_office Vote q (without_sums code cs [])
+-- in a majority office its places may stand
+abbrev pub placing : Said → ℕ → State
+placing q code = in_office Places q (without_sums code 1 [] [])
+
+-- these candidates of an office of so many places were read
+abbrev pub voting : Said → ℕ → ℕ → List Count → State
+voting q code places cs = in_office Vote q (without_sums code places cs [])
 
 -- these parties were read
 abbrev pub with_parties : Said → ℕ → List SaidParty → State
-with_parties q code ps = in_office Party q (without_sums code [] ps)
+with_parties q code ps = in_office Party q (without_sums code 1 [] ps)
 
 -- and no party's number stands behind them
 abbrev pub NoParty : Said → ℕ → List SaidParty → FieldsLeft → Type 0
@@ -100,7 +105,7 @@ NoParty q code ps s = (p : List ℕ) (more : List (List ℕ)) → s.left ≡ p �
 
 -- or the number of a party does, and these of its candidates
 abbrev pub in_party : Said → ℕ → List SaidParty → ℕ → List Count → State
-in_party q code ps number cs = record { mode = OfParty; said = q; office = without_sums code [] ps; party = record no_party { number = number; candidates = cs } }
+in_party q code ps number cs = record { mode = OfParty; said = q; office = without_sums code 1 [] ps; party = record no_party { number = number; candidates = cs } }
 
 -- the whole office was read
 abbrev pub after_office : Said → SaidOffice → State

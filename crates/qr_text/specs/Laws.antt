@@ -82,6 +82,6 @@ FieldsArePlain = (r : Report) → IsReport r → AllByRecursion IsPlain (report_
 abbrev pub ShortByVotes : Type 0
 ShortByVotes = (r : Report) → IsReport r → length (report_text r) ≤ 1000 + 40 * sum_by total_of r.offices
 
--- nor for those who came, who have a vote for each of at most eight offices
+-- nor for those who came, who have at most two votes for each of at most eight offices
 abbrev pub TextIsShort : Type 0
-TextIsShort = (r : Report) → IsReport r → length (report_text r) ≤ 1000 + 320 * r.came
+TextIsShort = (r : Report) → IsReport r → length (report_text r) ≤ 1000 + 640 * r.came

@@ -8,7 +8,7 @@ use Rattle.std.specs.Str.{bytes_eq}
 use Rattle.urna_base.specs.Digits.{digits_value, decimal_value}
 use Rattle.urna_base.specs.Words.{after_word, pieces}
 use Rattle.election_tables.specs.Fields.{first_two}
-use Rattle.election_tables.specs.Offices.{code_proportional}
+use Rattle.election_tables.specs.Offices.{code_proportional, may_have_places}
 use Rattle.poll_report.specs.Report.{is_vote, is_above, numbers_of, digits_in, may_have_code}
 use Rattle.poll_report.specs.declared.report.Count.{Count}
 use Rattle.qr_text.specs.Fault.{failing, fault_at}
@@ -67,6 +67,7 @@ pub data Mode : Type 0 where
   Head : ℕ → Mode
   Code : Mode
   Kind : Mode
+  Places : Mode
   Vote : Mode
   Party : Mode
   OfParty : Mode
@@ -91,6 +92,7 @@ no_party = record { number = 0; candidates = []; legend = 0; total = 0 }
 abbrev pub new_office : ℕ → SaidOffice
 new_office code = record {
   code = code;
+  places = 1;
   candidates = [];
   parties = [];
   able = 0;
@@ -164,7 +166,7 @@ code_step st p =
 abbrev pub kind_step : State → List ℕ → Step
 kind_step st p =
     option_and_then (λ v. if v == kind_number (code_proportional st.office.code)
-    then Some (wanting (if code_proportional st.office.code then Party else Vote) st st.office no_party, [])
+    then Some (wanting (if code_proportional st.office.code then Party else Places) st st.office no_party, [])
     else None) (number_at TABLE.kind p)
 
 -- a field of the office, behind which another is wanted
@@ -181,6 +183,14 @@ vote_step st p =
     then Some (wanting Vote st (record (st.office) { candidates = st.office.candidates ++ c ∷ [] }) no_party, [])
     else None) (vote_at (digits_in st.office.code) p))
     (able_step st p)
+
+-- where an office has more places than one, they stand before its votes
+abbrev pub places_step : State → List ℕ → Step
+places_step st p =
+    option_or (option_and_then (λ v. if may_have_places st.office.code v
+    then Some (wanting Vote st (record (st.office) { places = v }) no_party, [])
+    else None) (number_at TABLE.places p))
+    (vote_step st p)
 
 abbrev pub party_step : State → List ℕ → Step
 party_step st p =
@@ -224,6 +234,7 @@ abbrev pub step_in : Mode → State → List ℕ → Step
 step_in (Head n) st p = head_step n st p
 step_in Code st p = code_step st p
 step_in Kind st p = kind_step st p
+step_in Places st p = places_step st p
 step_in Vote st p = vote_step st p
 step_in Party st p = party_step st p
 step_in OfParty st p = of_party_step st p

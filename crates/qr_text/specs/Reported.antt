@@ -25,7 +25,7 @@ all_candidates o = o.candidates ++ flat_map (λ p. p.candidates) o.parties
 abbrev pub told_office : SaidOffice → OfficeCount
 told_office o = record {
   code = o.code;
-  places = 1;
+  places = o.places;
   nominal = all_candidates o;
   parties = legends o.parties;
   blank = o.blank;

@@ -1,9 +1,9 @@
 -- What a field text says: the numbers of a report, and beside them the sums as the text gives them, right or wrong. The fields that
 -- say it, what is tested at each, and what may be said at all.
-use Rattle.std.specs.Prelude.{◌≡◌, ℕ, ◌+◌, ◌*◌, ◌<◌, Bool, true, false, nat_le, if◌then◌else◌, List, [], ◌∷◌, ◌++◌, length, map}
+use Rattle.std.specs.Prelude.{◌≡◌, ℕ, ◌+◌, ◌*◌, ◌<◌, Bool, true, false, nat_le, ◌==◌, if◌then◌else◌, List, [], ◌∷◌, ◌++◌, length, map}
 use Rattle.std.specs.List.{AllByRecursion, sum_by, flat_map, zip}
 use Rattle.election_tables.specs.Fields.{first_two}
-use Rattle.election_tables.specs.Offices.{code_proportional}
+use Rattle.election_tables.specs.Offices.{code_proportional, may_have_places}
 use Rattle.poll_report.specs.Report.{EachAfter, MayVote, digits_in, is_above, may_have_code, votes_of}
 use Rattle.poll_report.specs.declared.report.Count.{Count}
 use Rattle.qr_text.specs.Table.{row_text, fits, head_rows, vote_row}
@@ -61,7 +61,7 @@ abbrev pub office_tests : Tested → Said → SaidOffice → List Test
 office_tests Able s o = Equals s.able o.able ∷ []
 office_tests Nominal s o = Equals (all_nominal o) o.nominal ∷ []
 office_tests Legend s o = Equals (all_legend o) o.legend ∷ []
-office_tests Total s o = Equals (o.nominal + o.legend + o.blank + o.null_votes) o.total ∷ Equals s.came o.total ∷ []
+office_tests Total s o = Equals (o.nominal + o.legend + o.blank + o.null_votes) o.total ∷ Equals (s.came * o.places) o.total ∷ []
 office_tests Nothing s o = []
 office_tests Order s o = []
 office_tests Voters s o = []
@@ -114,9 +114,13 @@ office_field s o r v = record { text = row_text r v; tests = office_tests r.test
 abbrev pub kind_number : Bool → ℕ
 kind_number proportional = if proportional then 1 else 0
 
--- the votes of an office, by party where it is proportional
+-- how many votes each voter has in an office, where it isn't one
+abbrev pub places_fields : ℕ → List ReportField
+places_fields places = if places == 1 then [] else record { text = row_text TABLE.places places; tests = [] } ∷ []
+
+-- the votes of an office: by party where it is proportional, else by candidate, behind its places
 abbrev pub votes_fields : Bool → SaidOffice → List ReportField
-votes_fields proportional o = if proportional then flat_map party_fields o.parties else map vote_field o.candidates
+votes_fields proportional o = if proportional then flat_map party_fields o.parties else places_fields o.places ++ map vote_field o.candidates
 
 -- the blank, the null and all votes of an office
 abbrev pub last_fields : Said → SaidOffice → List ReportField
@@ -130,7 +134,7 @@ sum_fields s proportional o =
     ∷ office_field s o TABLE.nominal o.nominal
     ∷ ((if proportional then office_field s o TABLE.legend o.legend ∷ [] else []) ++ last_fields s o)
 
--- an office: its code, TIPO, its votes and its sums
+-- an office: its code, TIPO, LUGA where it has two places, its votes and its sums
 abbrev pub office_fields : Said → SaidOffice → List ReportField
 office_fields s o =
     let proportional = code_proportional o.code in
@@ -159,8 +163,9 @@ pub record IsSaidParty (digits : ℕ) (p : SaidParty) : Type 0 where
 abbrev pub MayParty : ℕ → List SaidParty → SaidParty → Type 0
 MayParty digits before p = IsSaidParty digits p × (is_above (map (λ q. q.number) before) p.number ≡ true)
 
--- a proportional office has its candidates in parties, and a majority office has no parties
+-- a voter has so many votes as the office may have, a proportional office has its candidates in parties, and a majority office has no parties
 pub record IsSaidOffice (o : SaidOffice) : Type 0 where
+  pub places : may_have_places o.code o.places ≡ true
   pub candidates : EachAfter (MayVote (digits_in o.code)) [] o.candidates
   pub parties : EachAfter (MayParty (digits_in o.code)) [] o.parties
   pub proportional : code_proportional o.code ≡ true → o.candidates ≡ []

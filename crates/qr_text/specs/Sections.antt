@@ -1,6 +1,6 @@
 -- Reading the fields that are left of a text, section by section. A device of proofs, as `Reading` is: `proofs/Joining` and the files
 -- behind it show that both read the same.
-use Rattle.std.specs.Prelude.{ℕ, ◌+◌, nat_le, nat_lt, ◌==◌, Bool, true, if◌then◌else◌, List, [], ◌∷◌, Option, Some, None, Result, Ok, Err}
+use Rattle.std.specs.Prelude.{ℕ, ◌+◌, ◌*◌, nat_le, nat_lt, ◌==◌, Bool, true, if◌then◌else◌, List, [], ◌∷◌, Option, Some, None, Result, Ok, Err}
 use Rattle.std.specs.Borrow.{Bor}
 use Rattle.urna_base.specs.Words.{pieces}
 use Rattle.election_tables.specs.Offices.{code_proportional}
@@ -135,14 +135,14 @@ party_end_reading number candidates s = do
 unfoldable pub legend_reading : Bool → ℕ → FieldsLeft → Result (ℕ × FieldsLeft) FieldFault
 legend_reading proportional legend s = if proportional then sum_reading TABLE.legend legend s else Ok (0, s)
 
--- the sums of an office, behind its votes
-unfoldable pub sums_reading : Bool → Voters → ℕ → ℕ → FieldsLeft → Result (Sums × FieldsLeft) FieldFault
-sums_reading proportional voters nominal legend s = do
+-- the sums of an office, behind its votes, where each voter has so many
+unfoldable pub sums_reading : Bool → Voters → ℕ → ℕ → ℕ → FieldsLeft → Result (Sums × FieldsLeft) FieldFault
+sums_reading proportional voters places nominal legend s = do
   a ← sum_reading TABLE.office_able voters.able s
   n ← sum_reading TABLE.nominal nominal a.1
   l ← legend_reading proportional legend n.1
   blank ← row_reading TABLE.blank l.1
   null_votes ← row_reading TABLE.null_votes blank.1
   total ← sum_reading TABLE.total (n.0 + l.0 + blank.0 + null_votes.0) null_votes.1
-  end ← agreed null_votes.1.next voters.came total.0 total.1
+  end ← agreed null_votes.1.next (voters.came * places) total.0 total.1
   Ok (record { able = a.0; nominal = n.0; legend = l.0; blank = blank.0; null_votes = null_votes.0; total = total.0 }, end)

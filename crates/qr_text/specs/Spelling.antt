@@ -41,6 +41,7 @@ said_office r o =
     let proportional = code_proportional o.code in
     record {
       code = o.code;
+      places = o.places;
       candidates = if proportional then [] else o.nominal;
       parties = if proportional then said_parties o else [];
       able = r.able;

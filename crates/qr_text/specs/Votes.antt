@@ -2,6 +2,7 @@
 use Rattle.std.specs.Prelude.{ℕ, ◌+◌, nat_lt, ◌==◌, ◌&&◌, Bool, true, if◌then◌else◌, List, [], ◌∷◌, ◌++◌, take, drop, position, Option, Some, None, option_map}
 use Rattle.std.specs.Option.{option_and_then}
 use Rattle.election_tables.specs.Fields.{first_two}
+use Rattle.election_tables.specs.Offices.{may_have_places}
 use Rattle.poll_report.specs.declared.report.Count.{Count}
 use Rattle.urna_base.specs.Digits.{decimal_value}
 use Rattle.qr_text.specs.Reading.{number_at, vote_at, vote_with}
@@ -37,6 +38,14 @@ greater last number = if nat_lt last number then Some number else None
 unfoldable pub party_after : ℕ → List ℕ → Option ℕ
 party_after last p = option_and_then (greater last) (number_at TABLE.party p)
 
+-- the places, if an office with this code may have so many
+abbrev pub allowed : ℕ → ℕ → Option ℕ
+allowed code places = if may_have_places code places then Some places else None
+
+-- the places of a field, in an office with this code
+unfoldable pub places_of : ℕ → List ℕ → Option ℕ
+places_of code p = option_and_then (allowed code) (number_at TABLE.places p)
+
 -- ---- the next field
 
 -- what the next field gives, and what is left behind it
@@ -47,6 +56,10 @@ first_at read next (p ∷ ps) = option_map (λ x. (x, record { left = ps; next =
 -- the candidate of the next field
 unfoldable pub vote_first : ℕ → Option ℕ → ℕ → FieldsLeft → Option (Count × FieldsLeft)
 vote_first digits party last s = first_at (vote_after digits party last) s.next s.left
+
+-- the places of the next field
+unfoldable pub places_first : ℕ → FieldsLeft → Option (ℕ × FieldsLeft)
+places_first code s = first_at (places_of code) s.next s.left
 
 -- the party of the next field
 unfoldable pub party_first : ℕ → FieldsLeft → Option (ℕ × FieldsLeft)

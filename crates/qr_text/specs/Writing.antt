@@ -1,5 +1,5 @@
 -- The text of a report part by part, each field behind a space (32): what the functions that write it say.
-use Rattle.std.specs.Prelude.{ℕ, ◌+◌, ◌-◌, ◌/◌, ◌%◌, ◌<◌, ◌^◌, Bool, nat_lt, if◌then◌else◌, List, [], ◌∷◌, ◌++◌}
+use Rattle.std.specs.Prelude.{ℕ, ◌+◌, ◌-◌, ◌/◌, ◌%◌, ◌<◌, ◌^◌, Bool, nat_lt, ◌==◌, if◌then◌else◌, List, [], ◌∷◌, ◌++◌}
 use Rattle.std.specs.List.{flat_map, range_with_len}
 use Rattle.election_tables.specs.Offices.{code_proportional}
 use Rattle.poll_report.specs.Report.{IsOfficeCount, digits_in, total_of, votes_of}
@@ -72,8 +72,12 @@ spaced_party p =
 unfoldable pub spaced_parties : OfficeCount → ℕ → List ℕ
 spaced_parties o n = flat_map (λ k. spaced_party (said_party (digits_in o.code) o k)) (range_with_len 10 n)
 
+-- how many votes each voter has, where it isn't one
+abbrev pub spaced_places : ℕ → List ℕ
+spaced_places places = if places == 1 then [] else 32 ∷ row_text TABLE.places places
+
 unfoldable pub spaced_office_votes : OfficeCount → List ℕ
-spaced_office_votes o = if code_proportional o.code then spaced_parties o 90 else spaced_votes o.nominal
+spaced_office_votes o = if code_proportional o.code then spaced_parties o 90 else spaced_places o.places ++ spaced_votes o.nominal
 
 -- ---- an office
 

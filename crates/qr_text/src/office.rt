@@ -3,7 +3,7 @@ ghost use Rattle.std.specs.Prelude.{◌≡◌, ◌+◌, ◌<◌, ◌≤◌, ◌=
 ghost use Rattle.std.specs.List.{list_any};
 ghost use Rattle.election_tables.specs.Offices.{code_proportional};
 ghost use Rattle.poll_report.specs.Report.{may_have_code};
-ghost use Rattle.qr_text.specs.Fronts.{MatchRead, after_office, behind, goes, said_of, voting, with_parties, with_sums};
+ghost use Rattle.qr_text.specs.Fronts.{MatchRead, after_office, behind, goes, placing, said_of, voting, with_parties, with_sums};
 ghost use Rattle.qr_text.specs.Said.{codes_in};
 ghost use Rattle.qr_text.specs.Sections.{legend_reading, start_reading, sums_reading};
 ghost use Rattle.qr_text.specs.declared.said.Said.{Said};
@@ -83,18 +83,19 @@ fn read_legend(reader: &mut Reader<'_>, proportional: bool, legend: u64) -> Resu
     }
 }
 
-/// The sums of an office, or the first fault in them.
+/// The sums of an office where each voter has so many votes, or the first fault in them.
 #[tactic(auto, unfolding(crate::specs::Sections::agreed, crate::specs::Sections::sums_reading))]
 fn read_sums(
     reader: &mut Reader<'_>,
     proportional: bool,
     voters: &Voters,
+    places: u32,
     nominal: u64,
     legend: u64,
 ) -> Result<Sums, FieldFault>
     ensures exact { MatchResult result
-        (λ v. sums_reading proportional voters.now nominal legend reader.old ≡ Ok (v, reader.new))
-        (λ e. sums_reading proportional voters.now nominal legend reader.old ≡ Err e) }
+        (λ v. sums_reading proportional voters.now places nominal legend reader.old ≡ Ok (v, reader.new))
+        (λ e. sums_reading proportional voters.now places nominal legend reader.old ≡ Err e) }
     ensures fewer { IfOk result (λ v. length reader.new.left ≤ length reader.old.left) }
 {
     let able = read!(reader, office_able, u64::from(voters.able));
@@ -105,12 +106,10 @@ fn read_sums(
     let field = reader.place();
     let sum = u64::from(nominal) + u64::from(legend) + u64::from(blank) + u64::from(null_votes);
     let total = read!(reader, total, sum);
-    if voters.came != total {
-        return Err(FieldFault::Sum {
-            field,
-            sum: u64::from(voters.came),
-            said: u64::from(total),
-        });
+    let sum = u64::from(voters.came) * u64::from(places);
+    let said = u64::from(total);
+    if sum != said {
+        return Err(FieldFault::Sum { field, sum, said });
     }
     Ok(Sums {
         able,
@@ -122,7 +121,15 @@ fn read_sums(
     })
 }
 
-/// The votes of a majority office and its sums, or the first fault in them.
+/// How many votes each voter has in a majority office: one where nothing is said of it.
+fn read_places(reader: &mut Reader<'_>, code: u8) -> u32
+    ensures exact { (q : Said) → goes (placing q code) reader.old ≡ goes (voting q code result []) reader.new }
+    ensures fewer { length reader.new.left ≤ length reader.old.left }
+{
+    reader.try_places(code).unwrap_or(1)
+}
+
+/// The places and the votes of a majority office and its sums, or the first fault in them.
 fn read_majority(
     alloc: Global,
     reader: &mut Reader<'_>,
@@ -131,13 +138,14 @@ fn read_majority(
 ) -> Result<SaidOffice, FieldError>
     requires { code_proportional code ≡ false }
     ensures exact { MatchRead result
-        (λ o. (q : Said) → voters.now.able ≡ q.able → voters.now.came ≡ q.came → goes (voting q code []) reader.old ≡ goes (after_office q o) reader.new)
-        (λ f. (q : Said) → voters.now.able ≡ q.able → voters.now.came ≡ q.came → goes (voting q code []) reader.old ≡ Err f) }
+        (λ o. (q : Said) → voters.now.able ≡ q.able → voters.now.came ≡ q.came → goes (placing q code) reader.old ≡ goes (after_office q o) reader.new)
+        (λ f. (q : Said) → voters.now.able ≡ q.able → voters.now.came ≡ q.came → goes (placing q code) reader.old ≡ Err f) }
     ensures fewer { IfOk result (λ o. length reader.new.left ≤ length reader.old.left) }
 {
+    let places = read_places(reader, code);
     let tally = read_votes(alloc, reader, code, None)?;
-    let sums = read_sums(reader, false, voters, tally.votes, 0)?;
-    Ok(office_of(code, tally.counts, SaidParties::new(alloc), &sums))
+    let sums = read_sums(reader, false, voters, places, tally.votes, 0)?;
+    Ok(office_of(code, places, tally.counts, SaidParties::new(alloc), &sums))
 }
 
 /// The parties of a proportional office and its sums, or the first fault in them.
@@ -154,16 +162,23 @@ fn read_proportional(
     ensures fewer { IfOk result (λ o. length reader.new.left ≤ length reader.old.left) }
 {
     let parties = read_parties(alloc, reader, code)?;
-    let sums = read_sums(reader, true, voters, parties.nominal, parties.legend)?;
-    Ok(office_of(code, Counts::new(alloc), parties.items, &sums))
+    let sums = read_sums(reader, true, voters, 1, parties.nominal, parties.legend)?;
+    Ok(office_of(code, 1, Counts::new(alloc), parties.items, &sums))
 }
 
-/// An office with these votes and sums.
-fn office_of(code: u8, candidates: Counts, parties: SaidParties, sums: &Sums) -> SaidOffice
-    ensures { result ≡ with_sums code candidates parties sums.now }
+/// An office with these places, votes and sums.
+fn office_of(
+    code: u8,
+    places: u32,
+    candidates: Counts,
+    parties: SaidParties,
+    sums: &Sums,
+) -> SaidOffice
+    ensures { result ≡ with_sums code places candidates parties sums.now }
 {
     SaidOffice {
         code,
+        places,
         candidates,
         parties,
         able: sums.able,

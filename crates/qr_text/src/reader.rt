@@ -3,11 +3,11 @@ ghost use Rattle.std.specs.Prelude.{◌≡◌, ◌==◌, ◌+◌, ◌^◌, ◌<�
 ghost use Rattle.urna_base.specs.Words.{pieces};
 ghost use Rattle.qr_text.specs.Sections.{is_narrow, pieces_left, row_reading, sum_reading};
 ghost use Rattle.qr_text.specs.Table.{fits};
-ghost use Rattle.qr_text.specs.Votes.{party_first, vote_first};
+ghost use Rattle.qr_text.specs.Votes.{party_first, places_first, vote_first};
 
 use crate::fault::FieldFault;
 use crate::table::Row;
-use crate::value::{number_of, party_after, vote_after};
+use crate::value::{number_of, party_after, places_of, vote_after};
 use poll_report::Count;
 use std::marker::Model;
 
@@ -140,6 +140,27 @@ impl<'a> Reader<'a> {
                 self.rest = rest;
                 self.next += 1;
                 Some(count)
+            }
+            None => None,
+        }
+    }
+
+    /// The places of the next field, if that is one that may stand in an office with this code; else nothing is read.
+    pub fn try_places(&mut self, code: u8) -> Option<u32>
+        ensures exact { MatchOption result
+            ((places_first code self.old ≡ None) × (self.new ≡ self.old))
+            (λ n. places_first code self.old ≡ Some (n, self.new)) }
+        ensures one { IfSome result (λ n. length self.old.left ≡ length self.new.left + 1) }
+    {
+        let Some(text) = self.rest else {
+            return None;
+        };
+        let (field, rest) = split_field(text);
+        match places_of(code, field) {
+            Some(places) => {
+                self.rest = rest;
+                self.next += 1;
+                Some(places)
             }
             None => None,
         }

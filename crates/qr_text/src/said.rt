@@ -62,6 +62,8 @@ impl SaidParties {
 #[derive(Debug, Drop)]
 pub struct SaidOffice {
     pub code: u8,
+    /// How many votes each voter has; it is said only where it isn't one.
+    pub places: u32,
     /// None in a proportional office, where the candidates stand with their parties.
     pub candidates: Counts,
     /// None in a majority office.

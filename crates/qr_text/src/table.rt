@@ -33,7 +33,7 @@ pub enum Tested {
     Nominal,
     /// The party votes are those of all parties of the office.
     Legend,
-    /// All votes of the office are its total, and that is the number who came.
+    /// All votes of the office are its total, and those who came have so many.
     Total,
 }
 
@@ -63,6 +63,8 @@ pub struct Table {
     pub close_time: Row,
     pub office: Row,
     pub kind: Row,
+    /// Only where a voter has more than one vote in the office.
+    pub places: Row,
     pub party: Row,
     /// The votes of a candidate, whose field has the candidate's number as its key.
     pub votes: Form,
@@ -103,6 +105,9 @@ const CODE: Form = Form::Between { low: 1, high: 99 };
 /// 0 for a majority office, 1 for a proportional one.
 const KIND: Form = Form::Between { low: 0, high: 1 };
 
+/// How many votes each voter has, where it isn't one.
+const PLACES: Form = Form::Between { low: 2, high: 2 };
+
 /// The number of a party.
 const PARTY: Form = Form::Between { low: 10, high: 99 };
 
@@ -136,6 +141,7 @@ pub const TABLE: Table = Table {
     close_time: row!(b"HRFC", Form::Time, Order),
     office: row!(b"CARG", CODE, Nothing),
     kind: row!(b"TIPO", KIND, Nothing),
+    places: row!(b"LUGA", PLACES, Nothing),
     party: row!(b"PART", PARTY, Nothing),
     votes: SOME_VOTES,
     party_legend: row!(b"LEGP", COUNT, Nothing),

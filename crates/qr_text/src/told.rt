@@ -42,7 +42,7 @@ fn told_office(alloc: Global, office: &SaidOffice) -> Result<OfficeCount, Memory
     let parties = legends_of(alloc, &office.parties)?;
     Ok(OfficeCount {
         code: office.code,
-        places: 1,
+        places: office.places,
         nominal,
         parties,
         blank: office.blank,

@@ -6,10 +6,11 @@ ghost use Rattle.poll_report.specs.Report.{is_vote};
 ghost use Rattle.urna_base.specs.Words.{after_word};
 ghost use Rattle.qr_text.specs.Reading.{number_at, value_at, written_value};
 ghost use Rattle.qr_text.specs.Table.{fits};
-ghost use Rattle.qr_text.specs.Votes.{belongs, party_after, vote_after, vote_by_colon};
+ghost use Rattle.qr_text.specs.Votes.{belongs, party_after, places_of, vote_after, vote_by_colon};
 ghost use Rattle.qr_text.specs.declared.table.TheConstants.{TABLE};
 
 use crate::table::{Form, Row, TABLE};
+use election_tables::may_have_places;
 use poll_report::Count;
 use urna_base::{date_ok, decimal, digits};
 
@@ -151,4 +152,17 @@ pub(crate) fn party_after(last: u32, field: &[u8]) -> Option<u32>
 {
     let number = number_of(&TABLE.party, field)? as u32;
     if last < number { Some(number) } else { None }
+}
+
+/// The places of a field, in an office with this code, if it may have so many.
+#[tactic(auto, using(crate::proofs::FieldLaws::places_narrow), unfolding(crate::specs::Votes::places_of))]
+pub(crate) fn places_of(code: u8, field: &[u8]) -> Option<u32>
+    ensures { result ≡ places_of code field.now }
+{
+    let places = number_of(&TABLE.places, field)? as u32;
+    if may_have_places(code, places) {
+        Some(places)
+    } else {
+        None
+    }
 }

@@ -6,7 +6,7 @@ ghost use Rattle.election_tables.specs.Offices.{code_proportional};
 ghost use Rattle.poll_report.specs.Report.{IsReport, digits_in, greatest_count, votes_of};
 ghost use Rattle.qr_text.specs.Spelling.{report_text};
 ghost use Rattle.qr_text.specs.Table.{row_text};
-ghost use Rattle.qr_text.specs.Writing.{IsCounted, head_texts, spaced_office, spaced_office_votes, spaced_parties, spaced_party, spaced_votes, with_code, with_fields, with_last, with_office, with_sums, with_total};
+ghost use Rattle.qr_text.specs.Writing.{IsCounted, head_texts, spaced_office, spaced_office_votes, spaced_parties, spaced_party, spaced_places, spaced_votes, with_code, with_fields, with_last, with_office, with_sums, with_total};
 ghost use Rattle.qr_text.specs.declared.table.TheConstants.{TABLE};
 
 use crate::field::{party_of, put_field, put_next, put_vote};
@@ -84,7 +84,7 @@ fn put_code(out: &mut Vec<u8>, code: u8, proportional: bool) -> Result<(), Memor
     Ok(())
 }
 
-/// Appends the votes of an office, by party where it is proportional.
+/// Appends the votes of an office, by party where it is proportional, and else behind its places.
 #[tactic(auto, unfolding(crate::specs::Writing::spaced_office_votes))]
 fn put_office_votes(out: &mut Vec<u8>, office: &OfficeCount) -> Result<(), Memory>
     requires { IsCounted office.now }
@@ -93,8 +93,19 @@ fn put_office_votes(out: &mut Vec<u8>, office: &OfficeCount) -> Result<(), Memor
     if code_proportional(office.code) {
         put_parties(out, office)
     } else {
+        put_places(out, office.places)?;
         put_votes(out, office.nominal.as_slice())
     }
+}
+
+/// Appends how many votes each voter has, where it isn't one.
+fn put_places(out: &mut Vec<u8>, places: u32) -> Result<(), Memory>
+    ensures { OnOk result (out.new.items ≡ out.old.items ++ spaced_places places) }
+{
+    if places != 1 {
+        next!(out, places, places);
+    }
+    Ok(())
 }
 
 /// Appends the sums of an office, the party votes only where it is proportional.

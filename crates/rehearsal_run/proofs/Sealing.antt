@@ -16,6 +16,7 @@ use Rattle.clerk_term.specs.Reply.{place_of}
 use Rattle.turnout.specs.Turnout.{has_come}
 use Rattle.turnout.specs.declared.phase.Phase.TheVariants as phase
 use Rattle.vote_kinds.specs.declared.choice.Choice.{Choice}
+use Rattle.election_tables.specs.Offices.{row_of}
 use Rattle.election_tables.specs.TablesData.{line_panels}
 use Rattle.vote_kinds.specs.Ballot.{BallotLine, ballot_lines}
 use Rattle.image_codec.specs.State.{State}
@@ -183,7 +184,7 @@ script_seals n voters places bags =
 setting_is : (voters : ℕ) (digest : List ℕ)
     → setting_of (generated_tables voters digest) (titles voters)
     ≡ setting_with (record { councillors = map (λ c. c.number) councillor_panel.candidates; mayors = map (λ c. c.number) mayor_panel.candidates; parties = map (λ q. q.number) (map generated_party parties) }) (titles voters)
-unfolding ballot_lines line_panels
+unfolding ballot_lines line_panels row_of
 setting_is voters digest = refl
 
 is_setting : (n : Numbers) (roll : List ℕ) → IsSetting (setting_with n roll)

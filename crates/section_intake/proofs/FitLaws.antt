@@ -7,13 +7,12 @@ use Rattle.std.proofs.lemmas.Bool.{and_parts, cases_Bool, eqb-true}
 use Rattle.std.proofs.lemmas.Bool.Decides.{nat_tests}
 use Rattle.std.proofs.lemmas.List.{drop_all, drop_more}
 use Rattle.std.proofs.lemmas.Option.{get_or_from_slice_get, slice_get_cases}
-use Rattle.election_tables.specs.TablesData.{IsParty, IsTables, TablesData, candidates_at, places_at, places_in, section_with, without_name}
+use Rattle.election_tables.specs.TablesData.{IsParty, IsTables, TablesData, candidates_at, places_in, section_with, without_name}
 use Rattle.election_tables.specs.declared.tables.candidates.Candidate.{Candidate}
 use Rattle.election_tables.specs.declared.tables.candidates.NamedCandidate.{NamedCandidate}
 use Rattle.election_tables.specs.declared.tables.panels.Panel.{Panel}
 use Rattle.election_tables.specs.declared.tables.parties.Party.{Party}
 use Rattle.election_tables.specs.declared.tables.sections.Section.{Section}
-use Rattle.election_tables.proofs.PlacesOfPanels.{one_place}
 use Rattle.poll_report.specs.declared.report.Count.{Count}
 use Rattle.poll_report.specs.declared.report.OfficeCount.{OfficeCount}
 use Rattle.poll_report.specs.declared.report.Report.{Report}
@@ -22,9 +21,6 @@ use Rattle.vote_kinds.proofs.Lookups.{by_panel_get, by_panel_length, candidates_
 use Rattle.vote_kinds.specs.declared.choice.Choice.TheVariants as choice
 use Rattle.section_intake.specs.Fits.{FitLines, Fits, FitsLine}
 use Rattle.section_intake.specs.Fitting.{are_candidates, are_parties, fit_lines, fits, fits_election, fits_line, fits_section, is_party}
-
-pub places_known : (t : TablesData) (panel : ℕ) → panel < length t.panels → places_at t panel ≡ (line_of t panel).places
-places_known t panel lt = one_place t panel lt
 
 -- ---- candidate by candidate
 

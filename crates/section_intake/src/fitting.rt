@@ -52,7 +52,7 @@ fn fit_panels(tables: &Tables, offices: &[OfficeCount]) -> bool
 }
 
 /// Whether these counts are those of a panel.
-#[tactic(auto, unfolding(crate::specs::Fitting::fits_line), using(vote_kinds::proofs::Lookups::office_known, crate::proofs::FitLaws::places_known))]
+#[tactic(auto, unfolding(crate::specs::Fitting::fits_line), using(vote_kinds::proofs::Lookups::office_known, vote_kinds::proofs::Lookups::places_known))]
 fn fits_panel(tables: &Tables, panel: u32, office: &OfficeCount) -> bool
     requires { panel < length tables.now.panels }
     ensures { result ≡ fits_line (line_of tables.now panel) office.now }

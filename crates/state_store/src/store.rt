@@ -126,8 +126,8 @@ impl Store {
     /// The poll that both flashes keep, whatever a power cut left of them. It takes its memory, syncs both devices, looks
     /// at the frames and the slots, and heals the slots that don't stand with the held body, and no other. Where that body is
     /// an encoding of version 1, all four slots are then brought to that of version 2. All this is done in that order, the
-    /// internal device first, up to a fault a prefix of it. Both flashes hold the state at each stop behind the syncs. No
-    /// frame is written.
+    /// internal device first; where a device fails, the first operations of it were done, and of the next one a part or
+    /// nothing. Both flashes hold the state at each stop behind the syncs. No frame is written.
     ///
     /// The caller owes that both devices have the size of a flash. `Memory` comes where an allocation failed, before any
     /// call of the machine; `Foreign(Internal)` where the internal frame is that of no section of the tables with as many

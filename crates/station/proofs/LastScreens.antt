@@ -88,7 +88,7 @@ get_last : {A : Type 0} (xs : List A) (x : A) → slice_get (xs ++ x ∷ []) (le
 get_last [] x = refl
 get_last (y ∷ xs) x = get_last xs x
 
-get_more : {A : Type 0} (xs : List A) (x : A) (n : ℕ) (y : A) → slice_get (xs ++ x ∷ []) n ≡ Some y → (slice_get xs n ≡ Some y) ⊎ ((n ≡ length xs) × (y ≡ x))
+pub get_more : {A : Type 0} (xs : List A) (x : A) (n : ℕ) (y : A) → slice_get (xs ++ x ∷ []) n ≡ Some y → (slice_get xs n ≡ Some y) ⊎ ((n ≡ length xs) × (y ≡ x))
 get_more [] x zero y h = inr (refl, cc)
 get_more [] x (suc n) y h = absurd (cc)
 get_more (z ∷ xs) x zero y h = inl h
@@ -173,7 +173,7 @@ screens_stay v choices out put more e are number c h =
       field = is.field;
       before = is.before;
       stands = is.stands;
-      line_before = is.line_before;
+      earlier_is = is.earlier_is;
       screens = ap (λ (x : List (List Line)). slice_get x number) e ∙ get_front (screens_of out) more number _ is.screens;
       confirmable = is.confirmable;
       chosen = is.chosen;
@@ -191,7 +191,7 @@ before_one v choices c out are number d h =
       field = is.field;
       before = is.before;
       stands = is.stands;
-      line_before = is.line_before ∙ ap (λ (cs : List Choice). earlier_for v cs is.line) (sym (take-append-le number choices (c ∷ []) (omega arith)));
+      earlier_is = is.earlier_is ∙ ap (λ (cs : List Choice). earlier_for v cs is.line) (sym (take-append-le number choices (c ∷ []) (omega arith)));
       screens = is.screens;
       confirmable = is.confirmable;
       chosen = is.chosen;
@@ -209,7 +209,7 @@ last_one v choices c l f out put before at may chosen as_many e =
       field = f;
       before = before;
       stands = at;
-      line_before = ap (λ (cs : List Choice). earlier_for v cs l) (sym (take-append_seam choices (c ∷ [])));
+      earlier_is = ap (λ (cs : List Choice). earlier_for v cs l) (sym (take-append_seam choices (c ∷ [])));
       screens = ap (λ (x : List (List Line)). slice_get x (length choices)) e
           ∙ (ap (slice_get (screens_of out ++ (before ++ line.Screen l.panel (earlier_for v choices l) f ∷ []) ∷ [])) (sym as_many)
           ∙ get_last (screens_of out) (before ++ line.Screen l.panel (earlier_for v choices l) f ∷ []));

@@ -19,4 +19,5 @@ pub mod Starting
 pub mod Fims
 pub mod Casting
 pub mod LastScreens
+pub mod OneVote
 pub mod Prefixes

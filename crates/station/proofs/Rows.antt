@@ -128,7 +128,7 @@ same_candidate_twice : flat_map lines_told (outputs two_senators (idle_at pollin
     ∷ line.Screen 0 eva (field.Digits 2 10) ∷ line.Screen 0 eva (field.Digits 3 101) ∷ line.Ended ∷ []
 same_candidate_twice = refl
 
-second_is_null : (after two_senators (idle_at polling) same_twice).state.bags ≡ (choice.Nominal 101 ∷ choice.Null ∷ []) ∷ [] ∷ []
+second_is_null : (after two_senators (idle_at (record polling { places = 2 ∷ []; bags = [] ∷ [] })) same_twice).state.bags ≡ (choice.Nominal 101 ∷ choice.Null ∷ []) ∷ []
 second_is_null = refl
 
 -- the screens, by the lines of the ballot

@@ -1,8 +1,9 @@
 -- The ballots of a run, and how many FIM lines a shown text reaches into
-use Rattle.std.specs.Prelude.{ℕ, List, [], ◌∷◌, ◌++◌, codes, count_by, take}
+use Rattle.std.specs.Prelude.{◌≡◌, ◌<◌, ℕ, List, [], ◌∷◌, ◌++◌, Some, codes, count_by, slice_get, take}
 use Rattle.std.specs.Str.{bytes_eq}
 use Rattle.key_script.specs.declared.keys.Event.{Event}
 use Rattle.vote_kinds.specs.declared.choice.Choice.{Choice}
+use Rattle.vote_kinds.specs.declared.choice.Choice.TheVariants as choice
 use Rattle.vote_kinds.specs.Ballot.{BallotLine}
 use Rattle.image_codec.specs.CodecLaws.{Ballot}
 use Rattle.image_codec.specs.State.{State, filled_up}
@@ -32,6 +33,11 @@ ballots_of (waits before reply waiting) = []
 ballots_of (cancels before reply waiting run) = ballots_of run
 ballots_of (visits before reply waiting visit run) = ballot_of visit ++ ballots_of run
 ballots_of (cut_off before reply waiting on) = []
+
+-- no candidate has two votes: of two lines of one panel the choices are never the same candidate
+abbrev pub GivesOneVoteEach : List BallotLine → List Choice → Type 0
+GivesOneVoteEach lines choices = (i j number : ℕ) (l m : BallotLine) → i < j → slice_get lines i ≡ Some l → slice_get lines j ≡ Some m → l.panel ≡ m.panel
+    → slice_get choices i ≡ Some (choice.Nominal number) → slice_get choices j ≡ Some (choice.Nominal number) → ⊥
 
 -- FIM, as the display shows it
 

@@ -48,7 +48,7 @@ pub record IsOfLastScreen (v : Setting) (choices : List Choice) (out : List Outp
   pub field : Field
   pub before : List Line
   pub stands : slice_get v.lines number ≡ Some line
-  pub line_before : earlier ≡ earlier_for v (take number choices) line
+  pub earlier_is : earlier ≡ earlier_for v (take number choices) line
   pub screens : slice_get (screens_of out) number ≡ Some (before ++ Screen line.panel earlier field ∷ [])
   pub confirmable : is_confirmable line field ≡ true
   pub chosen : c ≡ choice_of line earlier field

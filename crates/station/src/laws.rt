@@ -1,11 +1,12 @@
 //! Laws of runs (`specs/Run.antt`), of states (`specs/States.antt`), of what a station stands for (`specs/Stands.antt`), of the screens of
-//! a visit (`specs/Screens.antt`), and of the states after prefixes of the events (`specs/Prefixes.antt`).
+//! a visit (`specs/Screens.antt`), of ballots (`specs/Cast.antt`), and of the states after prefixes of the events (`specs/Prefixes.antt`).
 ghost use Rattle.std.specs.Prelude.{◌≡◌, ◌*◌, ◌≤◌, ℕ, List, [], ◌∷◌, ◌++◌, length};
 ghost use Rattle.std.specs.List.{AllByRecursion};
 ghost use Rattle.election_tables.specs.Limits.{most_voters};
 ghost use Rattle.election_tables.specs.TablesData.{IsTables, TablesData};
 ghost use Rattle.key_script.specs.Event.{IsEvent};
 ghost use Rattle.key_script.specs.declared.keys.Event.{Event};
+ghost use Rattle.vote_kinds.specs.Ballot.{ballot_lines};
 ghost use Rattle.image_codec.specs.CodecLaws.{Ballot};
 ghost use Rattle.image_codec.specs.Encoding.{IsStateOf};
 ghost use Rattle.image_codec.specs.State.{State, filled_up};
@@ -14,7 +15,7 @@ ghost use Rattle.state_store.specs.Pieces.{commits_in, lines_in, state_after, te
 ghost use Rattle.station.specs.Setting.{Setting, setting_of};
 ghost use Rattle.station.specs.Output.{Output, commits_of};
 ghost use Rattle.station.specs.Run.{IsRun, Visit};
-ghost use Rattle.station.specs.Cast.{ballot_of, ballots_of, fims_reached};
+ghost use Rattle.station.specs.Cast.{GivesOneVoteEach, ballot_of, ballots_of, fims_reached};
 ghost use Rattle.station.specs.Screens.{AreOfLastScreens, confirmed_in};
 ghost use Rattle.station.specs.Prefixes.{StatesAreAfterPrefixes};
 ghost use Rattle.station.specs.Press.{Standing};
@@ -94,4 +95,10 @@ pub fn last_screens()
     ensures recorded { (v : Setting) (s t : State) (place : ℕ) (es : List Event) (out : List Output) (visit : Visit v s place es t out)
         (ballot : Ballot) → ballot_of visit ≡ ballot ∷ []
         → ballot ≡ record { place = place; choices = filled_up v.lines (confirmed_in visit) } }
+{}
+
+/// In no ballot of a run has a candidate two votes.
+pub fn one_vote_each()
+    ensures { (t : TablesData) (titles : List ℕ) (s last : State) (es : List Event) (out : List Output) → IsTables t
+        → (run : IsRun (setting_of t titles) s es last out) → AllByRecursion (λ ballot. GivesOneVoteEach (ballot_lines t) ballot.choices) (ballots_of run) }
 {}

@@ -18,6 +18,7 @@ mod station;
 mod visit;
 
 pub use laws::{
-    event_commits, fims_and_ballots, last_screens, one_run, run_commits, run_grows, stands_for,
+    event_commits, fims_and_ballots, last_screens, one_run, one_vote_each, run_commits, run_costs,
+    run_grows, stands_for,
 };
 pub use station::{StartError, Station};

@@ -48,8 +48,9 @@ impl OpenPanel {
         }
     }
 
-    /// One key, and what it does, where the line before has this choice of the panel, if it has one. The caller owes that the panel of
-    /// this number is one of the tables, that its office has the digits of this one, and that the key's digit is one.
+    /// One key, and what it does, where `before` is the same voter's choice of the line before, if there is one and it is of
+    /// the same panel. The caller owes that the panel of this number is one of the tables, that its office has the digits of
+    /// this one, and that the key's digit is one.
     pub(crate) fn key(
         &mut self,
         tables: &Tables,

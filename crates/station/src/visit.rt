@@ -53,7 +53,7 @@ fn choice_before(tables: &Tables, choices: &Choices, panel: u32) -> Option<Choic
 
 /// Adds Null until there is a choice for so many lines.
 pub(crate) fn fill_up(choices: &mut Choices, lines: usize)
-    requires { lines ≤ 9 }
+    requires { lines ≤ most_lines }
     ensures { choices.new.items ≡ choices.old.items ++ replicate (lines - length choices.old.items) Null }
 {
     while choices.len() < lines {

@@ -1,11 +1,13 @@
 -- Whoever is elected is a candidate of the office, and has one seat
-use Rattle.std.proofs.Common.{◌==◌, ◌*◌, ◌≤◌, ◌&&◌, leb, ℕ, Bool, List, [], ◌∷◌, map, filter, take, sum_by, sym, subst, inl, inr, arith}
-use Rattle.std.specs.List.{All, Contains}
-use Rattle.std.proofs.lemmas.Bool.{cases_Bool}
-use Rattle.std.proofs.lemmas.List.Elements.{All-append, All-cons, All-contains_itself, All-filter, All-head, All-map, All-nil, All-tail, All-take}
+use Rattle.std.proofs.Common.{◌≡◌, ◌==◌, ◌<◌, ◌*◌, ◌≤◌, ◌&&◌, leb, ℕ, Bool, nat_lt, List, [], ◌∷◌, length, map, filter, take, get_or, sum_by, cond, refl, sym, ap, subst, inl, inr, arith}
+use Rattle.std.specs.List.{All, Any, Contains}
+use Rattle.std.specs.List.Sorted.{IsStrictlyIncreasing}
+use Rattle.std.proofs.lemmas.Bool.{cases_Bool, ltb-true}
+use Rattle.std.proofs.lemmas.List.Elements.{All-append, All-cons, All-contains_itself, All-filter, All-head, All-map, All-nil, All-tail, All-take, filter_passes}
+use Rattle.std.proofs.lemmas.List.{length-map, length-take}
 use Rattle.std.proofs.lemmas.List.Sorted.{All-permutation}
-use Rattle.std.proofs.lemmas.List.Sums.{sum_by-append, sum_by-cons, sum_by-take-le}
-use Rattle.election_tables.specs.TablesData.{TablesData}
+use Rattle.std.proofs.lemmas.List.Sums.{length-filter, sum_by-append, sum_by-cons, sum_by-take-le}
+use Rattle.election_tables.specs.TablesData.{IsTables, TablesData}
 use Rattle.election_tables.specs.declared.tables.candidates.NamedCandidate.{NamedCandidate}
 use Rattle.election_tables.specs.declared.tables.panels.Panel.{Panel}
 use Rattle.election_tables.specs.declared.tables.parties.Party.{Party}
@@ -23,8 +25,9 @@ use Rattle.seat_remainders.specs.declared.contest.Entry.{Entry}
 use Rattle.seat_remainders.specs.declared.outcome.Award.{Award}
 use Rattle.seat_remainders.proofs.Ordered.{in_order-permutation, in_order-sum}
 use Rattle.totals.specs.Contest.{contestant_in, entries_in, entry_of, is_of_party}
-use Rattle.totals.specs.Laws.{MajorityIsOfCandidates, NobodyHasTwoSeats, SeatsAreOfCandidates, named_by}
+use Rattle.totals.specs.Laws.{ElectedAreCandidates, ElectedHaveVotes, MajorityIsOfCandidates, NobodyHasTwoSeats, NobodyIsElectedTwice, SeatsAreOfCandidates, SeatsAreTaken, named_by}
 use Rattle.totals.proofs.ContestVotes.{of_all, once_at_most, sum_mapped}
+use Rattle.totals.proofs.SimpleRule.{own_numbers, sum_by-filter-le}
 
 -- ---- candidates of the office
 
@@ -132,3 +135,61 @@ nobody_has_two t reports panel number s is lt given =
     let numbers = sum_mapped f (λ (c : NamedCandidate). c.number) p.candidates in
     let one = value_at_most number 1 (line_of t panel).candidates (candidates_rise t is panel lt) in
     subst (λ (l : List ℕ). sum_by f l ≤ 1) (sym given.elected) (omega (arith, few, once, entries, numbers, one))
+
+-- ---- by the simple rule
+
+abbrev has_vote : Entry → Bool
+has_vote c = nat_lt 0 c.votes
+
+-- those of the candidates who have a vote, in order
+abbrev with_votes : List Entry → List Entry
+with_votes candidates = filter has_vote (in_order candidates)
+
+pub elected_are_candidates : ElectedAreCandidates
+elected_are_candidates t reports panel seats =
+    let P : ℕ → Type 0 = Contains (line_of t panel).candidates in
+    let Q : Entry → Type 0 = λ e. P e.number in
+    let es = entries_in reports panel (panel_at t panel) in
+    let ordered = in_order_too Q es (are_candidates t reports panel) in
+    All-map P (λ (e : Entry). e.number) (take seats (with_votes es)) (All-take Q seats (with_votes es) (All-filter has_vote Q (in_order es) ordered))
+
+numbers_are : (reports : List Report) (panel : ℕ) (cs : List NamedCandidate) → map (λ e. e.number) (map (entry_of reports panel) cs) ≡ map (λ c. c.number) cs
+numbers_are reports panel [] = refl
+numbers_are reports panel (c ∷ cs) = ap (λ (l : List ℕ). c.number ∷ l) (numbers_are reports panel cs)
+
+-- the numbers of the entries rise
+pub entries_rise : (t : TablesData) (reports : List Report) (panel : ℕ) → IsTables t → panel < length t.panels
+    → IsStrictlyIncreasing (map (λ c. c.number) (entries_in reports panel (panel_at t panel)))
+entries_rise t reports panel is lt =
+    subst IsStrictlyIncreasing (sym (numbers_are reports panel (panel_at t panel).candidates)) (candidates_rise t is panel lt)
+
+pub nobody_is_elected_twice : NobodyIsElectedTwice
+nobody_is_elected_twice t reports panel seats number is lt =
+    let es = entries_in reports panel (panel_at t panel) in
+    let g : Entry → ℕ = λ e. value_at number 1 e.number in
+    let numbers = sum_mapped (value_at number 1) (λ (e : Entry). e.number) (take seats (with_votes es)) in
+    let first = sum_by-take-le g (with_votes es) seats in
+    let voted = sum_by-filter-le has_vote g (in_order es) in
+    let whole = in_order-sum g es in
+    let one = own_numbers es (entries_rise t reports panel is lt) number in
+    omega (arith, numbers, first, voted, whole, one)
+
+pub elected_have_votes : ElectedHaveVotes
+elected_have_votes seats candidates =
+    let P : ℕ → Type 0 = λ n. Any (λ (c : Entry). (c.number ≡ n) × (0 < c.votes)) candidates in
+    let Q : Entry → Type 0 = λ e. P e.number in
+    let there = All-filter has_vote (Contains candidates) (in_order candidates) (in_order_too (Contains candidates) candidates (All-contains_itself candidates)) in
+    let vote = filter_passes has_vote (in_order candidates) in
+    let all : All Q (with_votes candidates) = λ k d lt.
+    let c = get_or (with_votes candidates) k d in
+    let place = there k d lt in
+    (place.0, c, place.1, place.2, (refl, ltb-true 0 c.votes (vote k d lt))) in
+    All-map P (λ (e : Entry). e.number) (take seats (with_votes candidates)) (All-take Q seats (with_votes candidates) all)
+
+pub seats_are_taken : SeatsAreTaken
+seats_are_taken seats candidates =
+    let numbers = length-map (take seats (with_votes candidates)) (λ (e : Entry). e.number) in
+    let first = length-take seats (with_votes candidates) in
+    let voted = length-filter has_vote (in_order candidates) in
+    let whole = in_order-sum (λ e. cond (has_vote e) 1 0) candidates in
+    omega (arith, numbers, first, voted, whole)

@@ -10,9 +10,11 @@ use Rattle.election_tables.specs.declared.tables.sections.Section.{Section}
 use Rattle.poll_report.specs.declared.report.Count.{Count}
 use Rattle.poll_report.specs.declared.report.OfficeCount.{OfficeCount}
 use Rattle.poll_report.specs.declared.report.Report.{Report}
+use Rattle.seat_remainders.specs.declared.contest.Entry.{Entry}
 use Rattle.seat_remainders.specs.declared.outcome.MajorityOutcome.TheVariants.{Elected}
 use Rattle.seat_remainders.specs.declared.outcome.Outcome.TheVariants as outcome
-use Rattle.totals.specs.Lines.{majority_line, outcome_lines}
+use Rattle.totals.specs.Lines.{majority_line, outcome_lines, simple_lines}
+use Rattle.totals.specs.Simple.{elected_simply}
 use Rattle.totals.specs.Totals.{AreTotals}
 use Rattle.totals.proofs.TotalsLaws.{are_totals}
 
@@ -139,6 +141,49 @@ no_reports : AreTotals tables [] (
     ∷ [])
 unfolding digits
 no_reports = are_totals tables []
+
+-- two senators, each voter with two votes
+abbrev senators : Panel
+senators = record {
+  office = record { code = 5; digits = 3; kind = kind.Simple; seats = 2 };
+  candidates = candidate 101 19700101 ∷ candidate 102 19600101 ∷ candidate 201 19800101 ∷ [];
+}
+
+-- the first two who have a vote are elected
+two_senators : AreTotals (record {
+  process = 1;
+  date = 20261004;
+  turn = 1;
+  panels = senators ∷ [];
+  parties = party 10 ∷ party 20 ∷ [];
+  sections = section 1 ∷ [];
+  digest = [];
+}) (report 1 2 (record { code = 5; places = 2; nominal = count 101 2 ∷ count 201 1 ∷ []; parties = []; blank = 1; null_votes = 0 } ∷ []) ∷ []) (
+    line (codes "SECOES 1 DE 1")
+    ∷ line (codes "CARGO 5 VALIDOS 3 NOMINAIS 3 LEGENDA 0 BRANCOS 1 NULOS 0 TOTAL 4")
+    ∷ line (codes "CANDIDATO 101 VOTOS 2")
+    ∷ line (codes "CANDIDATO 102 VOTOS 0")
+    ∷ line (codes "CANDIDATO 201 VOTOS 1")
+    ∷ line (codes "ELEITO 101")
+    ∷ line (codes "ELEITO 201")
+    ∷ [])
+unfolding digits
+two_senators =
+    are_totals _ (report 1 2 (record { code = 5; places = 2; nominal = count 101 2 ∷ count 201 1 ∷ []; parties = []; blank = 1; null_votes = 0 } ∷ []) ∷ [])
+
+abbrev entry : ℕ → ℕ → ℕ → Entry
+entry number birth votes = record { number = number; birth = birth; votes = votes }
+
+-- where one has all votes the second seat stays empty
+one_has_votes : elected_simply 2 (entry 101 19700101 0 ∷ entry 102 19600101 3 ∷ []) ≡ 102 ∷ []
+one_has_votes = refl
+
+-- of equal votes the older stands first, of one day of birth the lower number
+equal_votes : elected_simply 2 (entry 101 19700101 1 ∷ entry 102 19600101 1 ∷ entry 201 19600101 1 ∷ []) ≡ 102 ∷ 201 ∷ []
+equal_votes = refl
+
+nobody_has_votes : simple_lines (elected_simply 2 (entry 101 19700101 0 ∷ entry 102 19600101 0 ∷ [])) ≡ line (codes "NINGUEM") ∷ []
+nobody_has_votes = refl
 
 -- the lines that these totals lack
 elected : majority_line (Elected 11) ≡ line (codes "ELEITO 11")

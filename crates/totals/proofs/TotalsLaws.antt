@@ -1,5 +1,5 @@
 -- Reports have one list of lines that tells the totals
-use Rattle.std.proofs.Common.{◌≡◌, ◌==◌, ◌+◌, ◌<◌, ℕ, zero, suc, true, false, List, [], ◌∷◌, ◌++◌, length, map, take, slice_get, Some, refl, sym, ap, subst, ◌∙◌, add-one, append_assoc, arith}
+use Rattle.std.proofs.Common.{◌≡◌, ◌==◌, ◌+◌, ◌<◌, ℕ, zero, suc, List, [], ◌∷◌, ◌++◌, length, map, take, slice_get, Some, refl, sym, ap, subst, ◌∙◌, add-one, append_assoc, arith}
 use Rattle.std.proofs.lemmas.List.{append-nil}
 use Rattle.election_tables.specs.TablesData.{TablesData}
 use Rattle.election_tables.specs.declared.office.Kind.{Kind}
@@ -19,7 +19,8 @@ use Rattle.seat_remainders.specs.declared.outcome.Outcome.{Outcome}
 use Rattle.seat_remainders.proofs.OneOutcome.{only_outcome, outcome_is}
 use Rattle.totals.specs.Contest.{contest_for, entries_in, votes_in}
 use Rattle.totals.specs.Laws.{OneTotals, SomeTotals}
-use Rattle.totals.specs.Lines.{candidate_line, majority_line, office_line, outcome_lines, section_line}
+use Rattle.totals.specs.Lines.{candidate_line, majority_line, office_line, outcome_lines, section_line, simple_lines}
+use Rattle.totals.specs.Simple.{elected_simply}
 use Rattle.totals.specs.Totals.{AreTotals, TellPanel, TellPanels, TellResult}
 use Rattle.totals.specs.declared.votes.PanelVotes.{PanelVotes}
 use Rattle.totals.proofs.LineLaws.{behind}
@@ -30,7 +31,7 @@ use Rattle.totals.proofs.LineLaws.{behind}
 abbrev result_of : Kind → ℕ → Contest → List Entry → (ℕ → ℕ) → List (List ℕ)
 result_of kind.Proportional turn contest candidates votes = outcome_lines votes (outcome_of contest)
 result_of kind.Absolute turn contest candidates votes = majority_line (majority_outcome candidates (turn == 1)) ∷ []
-result_of kind.Simple turn contest candidates votes = majority_line (majority_outcome candidates false) ∷ []
+result_of kind.Simple turn contest candidates votes = simple_lines (elected_simply contest.seats candidates)
 
 abbrev lines_of_panel : TablesData → List Report → ℕ → Panel → List (List ℕ)
 lines_of_panel t reports panel p =
@@ -150,12 +151,13 @@ tells_absolute t reports panel office known is entries all =
 pub tells_simple : (t : TablesData) (reports : List Report) (panel : ℕ) (office : Office) → office ≡ (panel_at t panel).office → office.kind ≡ kind.Simple
     → (entries : List Entry) → entries ≡ entries_in reports panel (panel_at t panel)
     → TellResult (panel_at t panel).office.kind t.turn (contest_for t reports panel (panel_at t panel)) (entries_in reports panel (panel_at t panel))
-    (λ number. nominal_sum panel number reports) (majority_line (majority_outcome entries false) ∷ [])
+    (λ number. nominal_sum panel number reports) (simple_lines (elected_simply office.seats entries))
 tells_simple t reports panel office known is entries all =
     let same : kind.Simple ≡ (panel_at t panel).office.kind = sym is ∙ ap (λ (w : Office). w.kind) known in
+    let seats : office.seats ≡ (panel_at t panel).office.seats = ap (λ (w : Office). w.seats) known in
     subst (λ (k : Kind). TellResult k t.turn (contest_for t reports panel (panel_at t panel)) (entries_in reports panel (panel_at t panel))
-    (λ number. nominal_sum panel number reports) (majority_line (majority_outcome entries false) ∷ [])) same
-    (ap (λ (es : List Entry). majority_line (majority_outcome es false) ∷ []) all)
+    (λ number. nominal_sum panel number reports) (simple_lines (elected_simply office.seats entries))) same
+    (ap (λ (n : ℕ). simple_lines (elected_simply n entries)) seats ∙ ap (λ (es : List Entry). simple_lines (elected_simply (panel_at t panel).office.seats es)) all)
 
 -- the office's line, one for each candidate, and what comes of the office, behind other lines
 pub panel_told : (t : TablesData) (reports : List Report) (panel : ℕ) (office : Office) (votes : PanelVotes) (entries : List Entry)

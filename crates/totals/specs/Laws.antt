@@ -1,6 +1,6 @@
 -- What is so of all totals
-use Rattle.std.specs.Prelude.{◌≡◌, ◌==◌, ℕ, ◌<◌, ◌≤◌, Bool, false, List, [], ◌∷◌, count_by, length}
-use Rattle.std.specs.List.{All, AllByRecursion, Contains}
+use Rattle.std.specs.Prelude.{◌≡◌, ◌==◌, ℕ, ◌<◌, ◌≤◌, Bool, false, List, [], ◌∷◌, count_by, length, min, nat_lt}
+use Rattle.std.specs.List.{All, AllByRecursion, Any, Contains}
 use Rattle.election_tables.specs.TablesData.{IsTables, TablesData}
 use Rattle.poll_report.specs.declared.report.Report.{Report}
 use Rattle.vote_kinds.specs.Ballot.{is_proportional, line_of, panel_at}
@@ -9,11 +9,13 @@ use Rattle.section_intake.specs.Sums.{all_sum}
 use Rattle.seat_remainders.specs.Majority.{majority_outcome}
 use Rattle.seat_remainders.specs.Outcome.{AreSeats}
 use Rattle.seat_remainders.specs.Parties.{nominal_votes, valid_votes}
+use Rattle.seat_remainders.specs.declared.contest.Entry.{Entry}
 use Rattle.seat_remainders.specs.declared.outcome.MajorityOutcome.{MajorityOutcome}
 use Rattle.seat_remainders.specs.declared.outcome.MajorityOutcome.TheVariants as majority
 use Rattle.seat_remainders.specs.declared.outcome.Seats.{Seats as SeatsData}
 use Rattle.totals.specs.Contest.{contest_in, entries_in, votes_in}
 use Rattle.totals.specs.Lines.{total_of, valid_of}
+use Rattle.totals.specs.Simple.{elected_simply}
 use Rattle.totals.specs.Totals.{AreTotals}
 
 -- over each list of reports there are totals,
@@ -67,3 +69,28 @@ named_by majority.Nobody = []
 abbrev pub MajorityIsOfCandidates : Type 0
 MajorityIsOfCandidates = (t : TablesData) (reports : List Report) (panel : ℕ) (absolute : Bool)
     → All (Contains (line_of t panel).candidates) (named_by (majority_outcome (entries_in reports panel (panel_at t panel)) absolute))
+
+-- ---- by the simple rule
+
+-- to one seat it elects whom `majority` elects by it;
+abbrev pub OneSeatByMajority : Type 0
+OneSeatByMajority = (candidates : List Entry) → elected_simply 1 candidates ≡ named_by (majority_outcome candidates false)
+
+-- to any number of seats it elects candidates of the office,
+abbrev pub ElectedAreCandidates : Type 0
+ElectedAreCandidates = (t : TablesData) (reports : List Report) (panel seats : ℕ)
+    → All (Contains (line_of t panel).candidates) (elected_simply seats (entries_in reports panel (panel_at t panel)))
+
+-- nobody twice,
+abbrev pub NobodyIsElectedTwice : Type 0
+NobodyIsElectedTwice = (t : TablesData) (reports : List Report) (panel seats number : ℕ) → IsTables t → panel < length t.panels
+    → count_by (λ n. number == n) (elected_simply seats (entries_in reports panel (panel_at t panel))) ≤ 1
+
+-- and nobody without a vote;
+abbrev pub ElectedHaveVotes : Type 0
+ElectedHaveVotes = (seats : ℕ) (candidates : List Entry)
+    → All (λ number. Any (λ c. (c.number ≡ number) × (0 < c.votes)) candidates) (elected_simply seats candidates)
+
+-- they are as many as there are seats, and all who have a vote where these are fewer
+abbrev pub SeatsAreTaken : Type 0
+SeatsAreTaken = (seats : ℕ) (candidates : List Entry) → length (elected_simply seats candidates) ≡ min seats (count_by (λ c. nat_lt 0 c.votes) candidates)

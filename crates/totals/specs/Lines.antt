@@ -50,6 +50,11 @@ majority_line (majority.Elected number) = number_line (codes "ELEITO ") number
 majority_line (majority.Runoff first second) = pair_line (codes "SEGUNDO TURNO ") first second
 majority_line majority.Nobody = codes "NINGUEM" ++ 10 ∷ []
 
+-- whom the simple rule elects: a line for each of them, in order, or that there is nobody
+abbrev pub simple_lines : List ℕ → List (List ℕ)
+simple_lines [] = (codes "NINGUEM" ++ 10 ∷ []) ∷ []
+simple_lines (n ∷ ns) = map (number_line (codes "ELEITO ")) (n ∷ ns)
+
 -- ---- a proportional office
 
 -- what a party has: its valid votes, its quotient and its seats

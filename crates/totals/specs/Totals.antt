@@ -1,5 +1,5 @@
 -- The totals of an election over the reports that were accepted: the sums of each office, and what comes of them by law
-use Rattle.std.specs.Prelude.{◌≡◌, ℕ, ◌+◌, ◌==◌, false, List, [], ◌∷◌, ◌++◌, length, map}
+use Rattle.std.specs.Prelude.{◌≡◌, ℕ, ◌+◌, ◌==◌, List, [], ◌∷◌, ◌++◌, length, map}
 use Rattle.election_tables.specs.TablesData.{TablesData}
 use Rattle.election_tables.specs.declared.office.Kind.{Kind}
 use Rattle.election_tables.specs.declared.office.Kind.TheVariants as kind
@@ -12,15 +12,17 @@ use Rattle.seat_remainders.specs.declared.contest.Contest.{Contest}
 use Rattle.seat_remainders.specs.declared.contest.Entry.{Entry}
 use Rattle.seat_remainders.specs.declared.outcome.Outcome.{Outcome}
 use Rattle.totals.specs.Contest.{contest_for, entries_in, votes_in}
-use Rattle.totals.specs.Lines.{candidate_line, majority_line, office_line, outcome_lines, section_line}
+use Rattle.totals.specs.Lines.{candidate_line, majority_line, office_line, outcome_lines, section_line, simple_lines}
+use Rattle.totals.specs.Simple.{elected_simply}
 
 -- These lines tell what comes of an office: in a proportional one the outcome of its contest; where it is decided by the absolute majority,
 -- that of its candidates by the absolute rule in the first turn, and by the simple one in the second (Constitution art. 77, paragraph 3);
--- where it is decided by the simple majority, by the simple rule. Each number of a candidate has so many votes.
+-- where it is decided by the simple majority, the first so many in the order of candidates as it has seats, of those who have a vote, are
+-- elected. Each number of a candidate has so many votes.
 abbrev pub TellResult : Kind → ℕ → Contest → List Entry → (ℕ → ℕ) → List (List ℕ) → Type 0
 TellResult kind.Proportional turn contest candidates votes lines = (o : Outcome) × IsOutcome contest o × (lines ≡ outcome_lines votes o)
 TellResult kind.Absolute turn contest candidates votes lines = lines ≡ majority_line (majority_outcome candidates (turn == 1)) ∷ []
-TellResult kind.Simple turn contest candidates votes lines = lines ≡ majority_line (majority_outcome candidates false) ∷ []
+TellResult kind.Simple turn contest candidates votes lines = lines ≡ simple_lines (elected_simply contest.seats candidates)
 
 -- These lines tell of the panel of a number: its votes, those of each candidate, and what comes of them.
 pub record TellPanel (t : TablesData) (reports : List Report) (panel : ℕ) (p : Panel) (lines : List (List ℕ)) : Type 0 where

@@ -1,5 +1,5 @@
 //! The candidates of a panel with their votes.
-ghost use Rattle.std.specs.Prelude.{◌≡◌, ◌+◌, ◌<◌, ◌≤◌, ◌^◌, List, filter, length, IfOk};
+ghost use Rattle.std.specs.Prelude.{◌≡◌, ◌==◌, ◌+◌, ◌<◌, ◌≤◌, ◌^◌, List, filter, length, not, IfOk};
 ghost use Rattle.election_tables.specs.Fields.{first_two};
 ghost use Rattle.election_tables.specs.Limits.{most_candidates};
 ghost use Rattle.poll_report.specs.declared.report.Report.{Report};
@@ -63,6 +63,20 @@ pub(crate) fn of_party(
         }
     }
     Ok(own)
+}
+
+/// Those with another number, in the same order.
+pub(crate) fn without(alloc: Global, entries: &[Entry], number: u32) -> Result<Entries, Memory>
+    requires { length entries.now < 2 ^ 32 }
+    ensures { IfOk result (λ others. others ≡ filter (λ c. not (c.number == number)) entries.now) }
+{
+    let mut others = Entries::new(alloc);
+    for entry in entries {
+        if entry.number != number {
+            others.push(*entry)?;
+        }
+    }
+    Ok(others)
 }
 
 /// The first two of so many digits.

@@ -1,5 +1,5 @@
 //! What is so of all totals (`specs/Laws.antt`). Each function here does nothing: its contract is the law.
-ghost use Rattle.totals.specs.Laws.{CandidatesHaveNominalVotes, ContestHasValidVotes, MajorityHasNoPartyVotes, MajorityIsOfCandidates, NobodyHasTwoSeats, OneTotals, SeatsAreOfCandidates, SomeTotals, TotalIsAllVotes};
+ghost use Rattle.totals.specs.Laws.{CandidatesHaveNominalVotes, ContestHasValidVotes, ElectedAreCandidates, ElectedHaveVotes, MajorityHasNoPartyVotes, MajorityIsOfCandidates, NobodyHasTwoSeats, NobodyIsElectedTwice, OneSeatByMajority, OneTotals, SeatsAreOfCandidates, SeatsAreTaken, SomeTotals, TotalIsAllVotes};
 
 /// Over each list of reports there is one list of lines that tells the totals. The votes of an office's line are all votes of the reports;
 /// where the reports fit the tables, the nominal votes are those of the candidates, the valid votes those of the contest, and a majority
@@ -14,9 +14,15 @@ pub fn totals()
 {}
 
 /// Whoever has a seat is a candidate of the office, and has one alone; whom a majority office elects, or sends to a second round, is a
-/// candidate of it too.
+/// candidate of it too. To one seat the simple rule elects whom `majority` elects by it. To any number of seats it elects
+/// candidates of the office, nobody twice and nobody without a vote, as many as there are seats, or all who have a vote.
 pub fn elected()
     ensures seats { SeatsAreOfCandidates }
     ensures once { NobodyHasTwoSeats }
     ensures majority { MajorityIsOfCandidates }
+    ensures one_seat { OneSeatByMajority }
+    ensures candidates { ElectedAreCandidates }
+    ensures not_twice { NobodyIsElectedTwice }
+    ensures votes { ElectedHaveVotes }
+    ensures taken { SeatsAreTaken }
 {}

@@ -1,4 +1,5 @@
 //! What comes of each office, and the lines that tell it.
+ghost use Rattle.std.specs.List.Sorted.{IsStrictlyIncreasing};
 ghost use Rattle.std.specs.Prelude.{◌≡◌, ◌+◌, ◌<◌, ◌≤◌, ◌^◌, [], ◌∷◌, ◌++◌, ℕ, List, length, map, IfOk, OnOk};
 ghost use Rattle.election_tables.specs.TablesData.{TablesData};
 ghost use Rattle.poll_report.specs.declared.report.Report.{Report};
@@ -10,7 +11,8 @@ ghost use Rattle.seat_remainders.specs.Outcome.{IsOutcome};
 ghost use Rattle.seat_remainders.specs.Parties.{nominal_votes};
 ghost use Rattle.seat_remainders.specs.declared.outcome.Outcome.{Outcome};
 ghost use Rattle.totals.specs.Contest.{contest_in};
-ghost use Rattle.totals.specs.Lines.{award_lines, candidate_line, elected_lines, majority_line, outcome_lines, party_line, seats_lines};
+ghost use Rattle.totals.specs.Lines.{award_lines, candidate_line, elected_lines, majority_line, outcome_lines, party_line, seats_lines, simple_lines};
+ghost use Rattle.totals.specs.Simple.{elected_simply};
 ghost use Rattle.totals.specs.Totals.{AreTotals, TellPanel};
 
 use crate::contest::contest_of;
@@ -19,10 +21,12 @@ use crate::lines::{
     award_line, candidate_line, elected_line, majority_line, number_line, office_line, pair_line,
     party_line, section_line,
 };
+use crate::simple_rule::elected_simply;
 use crate::votes::PanelVotes;
 use election_tables::{Kind, Tables};
 use seat_remainders::{
-    Awards, Entry, Numbers, Outcome, PartySeatList, Seats, distribute, majority,
+    Awards, Entries, Entry, MajorityOutcome, Numbers, Outcome, PartySeatList, Seats, distribute,
+    majority,
 };
 use section_intake::Intake;
 use std::alloc::Global;
@@ -70,7 +74,7 @@ fn push_panel(
     match office.kind {
         Kind::Proportional => push_contest(alloc, lines, tables, intake, panel),
         Kind::Absolute => push_majority(lines, entries.as_slice(), tables.turn() == 1),
-        Kind::Simple => push_majority(lines, entries.as_slice(), false),
+        Kind::Simple => push_simple(alloc, lines, entries, office.seats),
     }
 }
 
@@ -84,7 +88,7 @@ fn push_candidates(lines: &mut Vec<LineBuffer>, entries: &[Entry]) -> Result<(),
     Ok(())
 }
 
-/// The winner of a majority office, by the absolute or the simple rule.
+/// What comes of an office of the absolute majority, by the absolute or the simple rule.
 fn push_majority(
     lines: &mut Vec<LineBuffer>,
     entries: &[Entry],
@@ -94,6 +98,35 @@ fn push_majority(
     ensures { OnOk result (lines.new.items ≡ lines.old.items ++ majority_line (majority_outcome entries.now absolute) ∷ []) }
 {
     lines.push(majority_line(majority(entries, absolute)))?;
+    Ok(())
+}
+
+/// Whom the simple rule elects to so many seats.
+fn push_simple(
+    alloc: Global,
+    lines: &mut Vec<LineBuffer>,
+    entries: Entries,
+    seats: u32,
+) -> Result<(), Memory>
+    requires rising { IsStrictlyIncreasing (map (λ c. c.number) entries) }
+    requires votes { nominal_votes entries ≤ 10 ^ 12 }
+    ensures { OnOk result (lines.new.items ≡ lines.old.items ++ simple_lines (elected_simply seats entries)) }
+{
+    let elected = elected_simply(alloc, entries, seats)?;
+    push_elected_simply(lines, &elected)
+}
+
+/// One line for each of the elected, or that there is nobody.
+fn push_elected_simply(lines: &mut Vec<LineBuffer>, elected: &Numbers) -> Result<(), Memory>
+    ensures { OnOk result (lines.new.items ≡ lines.old.items ++ simple_lines elected.now) }
+{
+    if elected.len() == 0 {
+        lines.push(majority_line(MajorityOutcome::Nobody))?;
+        return Ok(());
+    }
+    for i in 0..elected.len() {
+        lines.push(majority_line(MajorityOutcome::Elected(*elected.get(i))))?;
+    }
     Ok(())
 }
 

@@ -46,7 +46,7 @@ use vota::vota;
 /// recovers the poll that the flashes hold, runs the session of the keys over it, and where the poll is sealed then puts its report and
 /// its record as `OUT.bu` and `OUT.rdv`. `emite TABLES ROLL OUT` puts these two files of the sealed poll that the flashes hold, and writes
 /// nothing on a flash. `confere TABLES REPORT` tells whether the file of a report is whole and fits the tables. `totaliza TABLES LIST` tells
-/// that of each report that the list names, and the sums and the seats, or the winner, of each office over those that are accepted.
+/// that of each report that the list names, and the sums and the seats, or the elected, of each office over those that are accepted.
 /// `ensaio N` rehearses a whole election of N voters in memory, puts its files and tells its lines. Where the command was refused, a line
 /// tells why.
 pub fn urna<M: Machine, C: Cabinet>(

@@ -1,7 +1,7 @@
 -- Look-ups in the tables, as the lines of the ballot see them
 use Rattle.std.proofs.Common.{◌≡◌, ℕ, ◌+◌, ◌<◌, ◌≤◌, ◌||◌, zero, suc, Bool, true, false, cond, List, [], ◌∷◌, map, length, get_or, slice_get, Option, Some, None, option_map, unwrap_or, nat_eq, find, is_some, Bor, option_copied, refl, sym, ap, subst, ◌∙◌, arith}
 use Rattle.std.specs.List.{list_any}
-use Rattle.std.proofs.lemmas.List.{length-map}
+use Rattle.std.proofs.lemmas.List.{get_or-map, length-map}
 use Rattle.std.proofs.lemmas.Option.{slice_get-get_or, slice_get-map, unwrap_or-slice_get}
 use Rattle.election_tables.proofs.Kept.{code_digits-range}
 use Rattle.election_tables.proofs.LinePanels.{line_within}
@@ -11,7 +11,7 @@ use Rattle.election_tables.specs.declared.office.Office.{Office}
 use Rattle.election_tables.specs.declared.tables.panels.Panel.{Panel}
 use Rattle.election_tables.specs.declared.tables.candidates.Candidate.{Candidate}
 use Rattle.election_tables.specs.declared.tables.candidates.NamedCandidate.{NamedCandidate}
-use Rattle.election_tables.specs.TablesData.{TablesData, IsTables, IsPanel, candidates_at, candidate_name, without_name, line_panels, party_name, places_in, places_of}
+use Rattle.election_tables.specs.TablesData.{TablesData, IsTables, IsPanel, candidates_at, candidate_name, without_name, line_panels, party_name, places_at, places_in, places_of}
 use Rattle.vote_kinds.specs.Ballot.{BallotLine, no_panel, panel_at, line_for, line_of, lines_from, lines_by_panel, ballot_lines}
 
 office_in : (o : Option Panel) (r : Office) → option_map (λ p. p.office) o ≡ Some r → r ≡ (unwrap_or o no_panel).office
@@ -21,6 +21,10 @@ office_in (Some p) r e = cc
 -- the office that the tables tell is that of the panel
 pub office_known : (t : TablesData) (panel : ℕ) (r : Office) → option_map (λ p. p.office) (slice_get t.panels panel) ≡ Some r → r ≡ (panel_at t panel).office
 office_known t panel r e = office_in (slice_get t.panels panel) r e
+
+-- the votes that a voter has in a panel are those of its line
+pub places_known : (t : TablesData) (panel : ℕ) → panel < length t.panels → places_at t panel ≡ (line_of t panel).places
+places_known t panel lt = get_or-map places_in t.panels panel no_panel 0 lt ∙ ap places_in (sym (unwrap_or-slice_get t.panels panel no_panel))
 
 candidates_in : (o : Option Panel) → option_map_or (λ p. p.candidates) o [] ≡ (unwrap_or o no_panel).candidates
 candidates_in None = refl

@@ -29,7 +29,8 @@ pub fn confirmable(tables: &Tables, panel: u32, field: &Field) -> bool
 }
 
 /// The choice that a field of a panel stands for (Lei 9.504/1997 art. 59 paragraph 2; docs/RULES.md, "The choice"), which is one
-/// that a voter may make there, where the same voter chose `before` on the line before, if that is of the same panel.
+/// that a voter may make there. `before` is the same voter's choice of the line before, if there is one and it is of the same panel: its
+/// candidate isn't chosen again, and the choice is then null.
 ///
 /// The caller owes that the panel is one of the tables, that the field has no more digits than its office, and that CONFIRMA is
 /// taken at it.

@@ -68,7 +68,7 @@ impl Choice {
     }
 }
 
-/// What stands typed in a panel.
+/// What stands typed on a line of the ballot.
 #[derive(Clone, Copy, Debug, PartialEq, Eq)]
 pub enum Field {
     Empty,

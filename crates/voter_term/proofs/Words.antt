@@ -1,5 +1,5 @@
 -- The field after a word with one more key
-use Rattle.std.proofs.Common.{◌≡◌, ℕ, zero, suc, zero-add, ◌+◌, ◌-◌, ◌*◌, ◌<◌, ◌≤◌, Bool, true, false, not, cond, List, [], ◌∷◌, ◌++◌, length, take, reverse, filter, refl, sym, ap, ◌∙◌, ltb, ◌⊎◌, inl, inr, arith}
+use Rattle.std.proofs.Common.{◌≡◌, ℕ, zero, suc, zero-add, ◌+◌, ◌-◌, ◌*◌, ◌<◌, ◌≤◌, Bool, true, false, not, cond, List, [], ◌∷◌, ◌++◌, length, take, reverse, filter, refl, sym, ap, ◌∙◌, ltb, inl, inr, arith}
 use Rattle.std.specs.List.{after_last, prefix_len, suffix_len}
 use Rattle.std.proofs.lemmas.List.{take-append-le, take_all, length-append, drop-append-le, append-nil, drop_all, length-take-le, reverse-append, length-reverse}
 use Rattle.std.proofs.lemmas.List.Elements.{filter-append}

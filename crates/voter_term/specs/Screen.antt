@@ -14,7 +14,7 @@ field_text field.Empty = codes "VAZIA"
 field_text field.Blank = codes "BRANCO"
 field_text (field.Digits count value) = padded count value
 
--- the choice that a field stands for, where it may be confirmed and the same voter chose `earlier` on the line before
+-- the choice that a field stands for, where it may be confirmed; `earlier` is the same voter's choice of the line before, of the same panel
 abbrev pub shown_choice : BallotLine → Option Choice → Field → Option Choice
 shown_choice line earlier f = if is_confirmable line f then Some (choice_of line earlier f) else None
 

@@ -11,14 +11,14 @@ use key_script::Key;
 use std::marker::Model;
 use vote_kinds::{Choice, Field, choice_of, confirmable, office_digits};
 
-/// What a key does on the panel that stands.
+/// What a key does on the line of the ballot that stands.
 #[derive(Clone, Copy, Debug, PartialEq, Eq)]
 pub enum Shown {
     /// The key isn't taken.
     Nothing,
     /// The field changes, and is shown.
     Screen,
-    /// The panel ends with this choice.
+    /// The line of the ballot ends with this choice.
     Voted(Choice),
 }
 
@@ -55,8 +55,9 @@ impl<const CAP: u8> Panel<CAP> {
         self.field
     }
 
-    /// Takes one key, and tells what it does, where the same voter chose `before` on the line before, if that is of the same panel. After
-    /// any word of keys that led to the field the panel stands for that word and the key; it ends exactly with a panel word.
+    /// Takes one key, and tells what it does, where `before` is the same voter's choice of the line before, if there is one
+    /// and it is of the same panel. After any word of keys that led to the field the panel stands for that word and the key;
+    /// it ends exactly with a panel word.
     ///
     /// The caller owes that the panel is one of the tables, that its office has CAP digits, and that the key's digit is one.
     pub fn key(&mut self, tables: &Tables, panel: u32, before: Option<Choice>, key: Key) -> Shown

@@ -7,9 +7,9 @@ use election_tables::Tables;
 use urna_base::LineBuffer;
 use vote_kinds::{Choice, Field, choice_of, confirmable, office_digits};
 
-/// Puts the screen line of a panel's field at the front of `into`, and tells its length (docs/FORMATS.md, "Shown texts"). The line
-/// shows the choice that the field stands for, where CONFIRMA is taken at it and the same voter chose `before` on the line before, if
-/// that is of the same panel.
+/// Puts the screen line of a panel's field at the front of `into`, and tells its length (docs/FORMATS.md, "Shown texts"). Where CONFIRMA
+/// is taken at the field, the line shows the choice that it stands for; `before` is the same voter's choice of the line before, if there
+/// is one and it is of the same panel.
 ///
 /// The caller owes that the panel is one of the tables, and that the field has no more digits than the panel's office.
 pub fn screen(

@@ -2,6 +2,7 @@ use Rattle.std.proofs.Common.{◌≡◌, ◌<◌, true, List, [], ◌∷◌, len
 use Rattle.std.proofs.lemmas.List.{length-replicate}
 use Rattle.election_tables.specs.TablesData.{TablesData}
 use Rattle.election_tables.specs.declared.tables.panels.Panel.{Panel}
+use Rattle.election_tables.proofs.PlacesOfPanels.{few_places}
 use Rattle.vote_kinds.specs.declared.choice.Choice.{Choice}
 use Rattle.vote_kinds.specs.Ballot.{BallotLine, line_for, line_of, no_panel, is_choice}
 use Rattle.vote_kinds.proofs.Lookups.{by_panel_get}
@@ -26,7 +27,9 @@ loop-choice-init g c =
     let one : length t.panels ≡ 1 = omega arith in
     record {
       panels = ap (λ (r : RdvData). length r.bags) c.in_ok-votes.ensures ∙ length-replicate {A = List Choice} (length t.panels) [] ∙ one;
-      room = ap (λ (r : RdvData). room_at r 0) c.in_ok-votes.ensures ∙ empty_room t 6 0 (omega arith);
+      room =
+          let all = ap (λ (r : RdvData). room_at r 0) c.in_ok-votes.ensures ∙ empty_room t 6 0 in
+          omega (arith, all, (few_places t c.panels.ensures.tables 0 (omega arith)).0);
     }
 
 pub add-requires-clause-choice : goal.add-requires-clause-choice
@@ -37,5 +40,5 @@ pub loop-choice-preserved : goal.loop-choice-preserved
 loop-choice-preserved g c =
     record {
       panels = ap (λ (r : RdvData). length r.bags) c.add.ensures ∙ length-with_vote 0 _ c.loop-choice.votes.bags ∙ c.loop-choice.invariant.panels;
-      room = ap (λ (r : RdvData). room_at r 0) c.add.ensures ∙ c.loop-choice.invariant.room;
+      room = let same = ap (λ (r : RdvData). room_at r 0) c.add.ensures in omega (arith, same, c.loop-choice.invariant.room);
     }

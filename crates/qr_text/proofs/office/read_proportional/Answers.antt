@@ -11,7 +11,7 @@ pub returns-clause-exact : goal.returns-clause-exact
 returns-clause-exact c = λ q able came.
     let parties = c.in_ok-parties.ensures in
     let read = rw (parties.nominal, parties.legend) at c.in_ok-sums.ensures.exact in
-    let office = c.office_of.ensures ∙ ap (λ (cs : List Count). with_sums c.args.code cs c.in_ok-parties.parties.items c.in_ok-sums.sums) c.new.ensures in
+    let office = c.office_of.ensures ∙ ap (λ (cs : List Count). with_sums c.args.code 1 cs c.in_ok-parties.parties.items c.in_ok-sums.sums) c.new.ensures in
     proportional_join q c.args.voters.now c.args.code c.args.reader.now c.in_ok-parties.parties.items c.read_parties.new.reader c.requires able came (parties.exact q) (parties.no_more q)
     ∙ (bind_ok _ _ _ read ∙ ap (λ (o : SaidOffice). goes (after_office q o) c.read_sums.new.reader) (sym office))
 

@@ -1,5 +1,5 @@
-use Rattle.std.proofs.Common.{◌≡◌, ◌≤◌, ◌<◌, ◌+◌, ℕ, suc, List, length, ap, add-one, sym, arith}
-use Rattle.election_tables.specs.TablesData.{line_panels, places_at}
+use Rattle.std.proofs.Common.{◌≡◌, ◌+◌, ℕ, suc, List, length, ap, add-one, arith}
+use Rattle.election_tables.specs.TablesData.{places_at}
 use Rattle.election_tables.proofs.LinePanels.{length-lines_more, lines_are, lines_over}
 use Rattle.election_tables.proofs.PlacesOfPanels.{lines_before, lines_few}
 use Rattle.election_tables.proofs.tables.Tables.ballot_lines.Goals as goal

@@ -1,5 +1,5 @@
-use Rattle.std.proofs.Common.{◌≡◌, ◌≤◌, ◌<◌, ◌+◌, ℕ, List, length, ap, subst, sym, slice_get, ◌∙◌, arith}
-use Rattle.election_tables.specs.TablesData.{line_panels, places_at}
+use Rattle.std.proofs.Common.{◌≤◌, ◌<◌, ◌+◌, ℕ, List, length, ap, subst, slice_get, ◌∙◌, arith}
+use Rattle.election_tables.specs.TablesData.{places_at}
 use Rattle.election_tables.proofs.LinePanels.{IsAt, at_line, at_next, at_panel, at_start, lines_are}
 use Rattle.election_tables.proofs.tables.Tables.line_panel.Goals as goal
 
