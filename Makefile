@@ -7,7 +7,7 @@ URNA = $(CURDIR)/crates/urna_app/out/urna_app
 # The minutes are those of four idle processors. A proof that was made before and where nothing has changed takes seconds.
 list:
 	@echo "make try          the example day, compiled without a proof: a minute"
-	@echo "make demo         urna proved and built, a rehearsal of 400 voters, the example day, and an election with two senators on real files in out/demo: 20 minutes from nothing, then seconds"
+	@echo "make demo         urna proved and built, a rehearsal of 400 voters, the example day, the totals of an election with a federation, and an election with two senators on real files in out/demo: 20 minutes from nothing, then seconds"
 	@echo "make urna         the program, proved and built, and beside it, in urna_app.txt, of which commit and with which kit: part of a demo"
 	@echo "make test         the gate, each proof from nothing, each edit that must be refused, each test and program, and check-house: an hour"
 	@echo "make check-house  names, sessions and lines of the documents and the sources: seconds"

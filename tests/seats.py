@@ -12,18 +12,13 @@ BIRTH = "19600101"
 
 
 class Party:
-    def __init__(self, told):
-        number, words = told.split(": ") if ": " in told else (told.rstrip(":"), "")
-        self.number, self.seats, votes, candidates = int(number), 0, 0, []
-        for word in words.split():
-            if word.startswith("L"):
-                votes = int(word[1:])
-            else:
-                nominal, birth = (word.split("@") + [BIRTH])[:2]
-                candidates.append((-int(nominal), birth, self.number * 1000 + len(candidates) + 1))
+    """One contestant, which may be a federation too: its number, its party votes, and of each candidate the votes, the birth and the number."""
+
+    def __init__(self, number, votes, candidates):
+        self.number, self.seats = number, 0
         # More votes first, then the older, then the lower number.
-        self.candidates = sorted(candidates)
-        self.votes = votes + sum(-nominal for nominal, _, _ in candidates)
+        self.candidates = sorted((-nominal, birth, candidate) for nominal, birth, candidate in candidates)
+        self.votes = votes + sum(nominal for nominal, _, _ in candidates)
 
     def has_left(self, least):
         """Whether a candidate without a seat has so many votes."""
@@ -33,28 +28,42 @@ class Party:
         """The greatest average comes first, then more votes, then the lower number."""
         return (-Fraction(self.votes, self.seats + 1), -self.votes, self.number)
 
+    def elected(self):
+        return [candidate for _, _, candidate in self.candidates[: self.seats]]
 
-def first_phase(contest):
-    """The seats of a contest, its parties with those of the first phase, and the electoral quotient."""
-    told, *parties = contest.split(", ")
-    seats, parties = int(told.split()[0]), [Party(party) for party in parties]
+
+def party_of(told):
+    number, words = told.split(": ") if ": " in told else (told.rstrip(":"), "")
+    votes, candidates = 0, []
+    for word in words.split():
+        if word.startswith("L"):
+            votes = int(word[1:])
+        else:
+            nominal, birth = (word.split("@") + [BIRTH])[:2]
+            candidates.append((int(nominal), birth, int(number) * 1000 + len(candidates) + 1))
+    return Party(int(number), votes, candidates)
+
+
+def contest_of(told):
+    """The seats and the parties of a contest."""
+    told, *parties = told.split(", ")
+    return int(told.split()[0]), [party_of(party) for party in parties]
+
+
+def first_phase(seats, parties):
+    """Gives the parties the seats of the first phase. The electoral quotient comes back."""
     # The nearest whole number, the lower one at a half.
     quotient = -((seats - 2 * sum(party.votes for party in parties)) // (2 * seats))
     for party in parties if quotient else []:
         able = sum(-nominal >= Fraction(quotient, 10) for nominal, _, _ in party.candidates)
         party.seats = min(party.votes // quotient, able)
-    return seats, parties, quotient
+    return quotient
 
 
-def outcome(contest):
-    seats, parties, quotient = first_phase(contest)
-    if quotient == 0:
-        return f"no quotient {sum(party.votes for party in parties)} {seats}"
-    first = sum(party.seats for party in parties)
-    if first > seats:
-        return f"over {first} {seats}"
+def give_rest(seats, parties, quotient):
+    """Gives the seats that remain. Of each the phase and the number of the party come back."""
     rounds = []
-    for _ in range(seats - first):
+    for _ in range(seats - sum(party.seats for party in parties)):
         phase, compete = 2, [p for p in parties if p.votes >= Fraction(4 * quotient, 5) and p.has_left(Fraction(quotient, 5))]
         if not compete:
             phase, compete = 3, [p for p in parties if p.votes >= 1 and p.has_left(0)]
@@ -62,16 +71,30 @@ def outcome(contest):
             break
         best = min(compete, key=Party.rank)
         best.seats += 1
-        rounds.append(f"{phase}>{best.number}")
+        rounds.append((phase, best.number))
+    return rounds
+
+
+def outcome(contest):
+    seats, parties = contest_of(contest)
+    quotient = first_phase(seats, parties)
+    if quotient == 0:
+        return f"no quotient {sum(party.votes for party in parties)} {seats}"
+    first = sum(party.seats for party in parties)
+    if first > seats:
+        return f"over {first} {seats}"
+    rounds = give_rest(seats, parties, quotient)
     standings = ", ".join(f"{p.number}: {p.votes} {p.votes // quotient} {p.seats}" for p in parties)
-    elected = [str(number) for p in parties for _, _, number in p.candidates[: p.seats]]
+    awards = [f"{phase}>{number}" for phase, number in rounds]
+    elected = [str(number) for p in parties for number in p.elected()]
     vacant = seats - first - len(rounds)
-    return f"QE {quotient}, {standings}, {' '.join(['rounds', *rounds])}, {' '.join(['elected', *elected])}, vacant {vacant}"
+    return f"QE {quotient}, {standings}, {' '.join(['rounds', *awards])}, {' '.join(['elected', *elected])}, vacant {vacant}"
 
 
 def averages(contest):
     """The averages that the seats of the second phase are taken from, each as votes/divisor>party."""
-    seats, parties, quotient = first_phase(contest)
+    seats, parties = contest_of(contest)
+    quotient = first_phase(seats, parties)
     table, left = [], seats - sum(party.seats for party in parties)
     for party in parties:
         if party.votes >= Fraction(4 * quotient, 5):

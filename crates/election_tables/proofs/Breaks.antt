@@ -102,11 +102,11 @@ all_pass n [] all = refl
 all_pass n (true ∷ rs) all = all_pass (n + 1) rs (λ j h below. sym (one_more true rs n j h) ∙ all j (omega arith) (omega arith))
 all_pass n (false ∷ rs) all = absurd (let here : Some false ≡ Some true = sym (at_front false rs n n refl) ∙ all n (omega arith) (omega arith) in cc)
 
--- ---- the fourteen rules
+-- ---- the rules
 
-fourteen : (ms : Members) → length (rules ms) ≡ 14
+seventeen : (ms : Members) → length (rules ms) ≡ 17
 unfolding rules shape_rules typed_rules
-fourteen ms = refl
+seventeen ms = refl
 
 pub broken_is_first : (ms : Members) (k : ℕ) → broken_rule ms ≡ Some k → IsFirstBroken k ms
 unfolding broken_rule
@@ -114,7 +114,7 @@ broken_is_first ms k e =
     let f = fails_first 1 k (rules ms) e in
     let low = f.low in
     let high = f.high in
-    let size = fourteen ms in
+    let size = seventeen ms in
     record { number = (low, omega arith); fails = f.fails; before = f.before }
 
 pub first_is_broken : (ms : Members) (k : ℕ) → IsFirstBroken k ms → broken_rule ms ≡ Some k
@@ -122,13 +122,13 @@ unfolding broken_rule
 first_is_broken ms k f =
     let low = f.number.0 in
     let high = f.number.1 in
-    let size = fourteen ms in
+    let size = seventeen ms in
     first_fails 1 k (rules ms) (record { low = low; high = omega arith; fails = f.fails; before = f.before })
 
-pub kept_is_all : (ms : Members) → broken_rule ms ≡ None → (k : ℕ) → 1 ≤ k → k ≤ 14 → RuleHolds k ms
+pub kept_is_all : (ms : Members) → broken_rule ms ≡ None → (k : ℕ) → 1 ≤ k → k ≤ 17 → RuleHolds k ms
 unfolding broken_rule
-kept_is_all ms e k low high = let size = fourteen ms in none_fails 1 k (rules ms) e low (omega arith)
+kept_is_all ms e k low high = let size = seventeen ms in none_fails 1 k (rules ms) e low (omega arith)
 
-pub all_is_kept : (ms : Members) → ((k : ℕ) → 1 ≤ k → k ≤ 14 → RuleHolds k ms) → broken_rule ms ≡ None
+pub all_is_kept : (ms : Members) → ((k : ℕ) → 1 ≤ k → k ≤ 17 → RuleHolds k ms) → broken_rule ms ≡ None
 unfolding broken_rule
-all_is_kept ms all = let size = fourteen ms in all_pass 1 (rules ms) (λ j low below. all j low (omega arith))
+all_is_kept ms all = let size = seventeen ms in all_pass 1 (rules ms) (λ j low below. all j low (omega arith))

@@ -15,12 +15,13 @@ use Rattle.election_tables.specs.declared.tables.candidates.NamedCandidate.{Name
 use Rattle.election_tables.specs.declared.tables.parties.Party.{Party}
 use Rattle.election_tables.specs.declared.tables.sections.Section.{Section}
 use Rattle.election_tables.specs.declared.tables.panels.Panel.{Panel}
+use Rattle.election_tables.specs.declared.tables.federations.Federation.{Federation}
 use Rattle.election_tables.specs.DocumentData.{DocumentData}
 use Rattle.election_tables.specs.Entries.{document_of}
 use Rattle.election_tables.specs.Limits.{most_voters}
 use Rattle.election_tables.specs.Offices.{code_digits}
 use Rattle.election_tables.specs.Roll.{IsRoll, IsRollOf, RollData}
-use Rattle.election_tables.specs.Tables.{AreTablesOf, IsPanelOf, IsReadAs, candidates_of, entry_of_candidate, entry_of_office, entry_of_party, entry_of_section}
+use Rattle.election_tables.specs.Tables.{AreTablesOf, IsPanelOf, IsReadAs, candidates_of, entry_of_candidate, entry_of_federation, entry_of_office, entry_of_party, entry_of_section}
 use Rattle.election_tables.specs.TablesData.{TablesData}
 use Rattle.election_tables.proofs.Keys.{pair_cmp_total}
 use Rattle.election_tables.proofs.Reading.{one_document}
@@ -104,6 +105,18 @@ same_parts o key entry exact entries xs ys p q rise_x rise_y =
 
 -- ---- an entry tells its part apart
 
+-- and so a list of entries its list of parts
+same_mapped : {X E : Type 0} (f : X → E) → ((x y : X) → f x ≡ f y → x ≡ y) → (xs ys : List X) → map f xs ≡ map f ys → xs ≡ ys
+same_mapped f exact [] [] h = refl
+same_mapped f exact [] (y ∷ ys) h = absurd (cc)
+same_mapped f exact (x ∷ xs) [] h = absurd (cc)
+same_mapped f exact (x ∷ xs) (y ∷ ys) h =
+    let head : f x ≡ f y = cc in
+    let rest : map f xs ≡ map f ys = cc in
+    let first : x ≡ y = exact x y head in
+    let others : xs ≡ ys = same_mapped f exact xs ys rest in
+    cc
+
 party_exact : (x y : Party) → entry_of_party x ≡ entry_of_party y → x ≡ y
 party_exact x y h =
     let number : x.number ≡ y.number = (let e : pos x.number ≡ pos y.number = ap (λ q. q.number) h in cc) in
@@ -123,6 +136,12 @@ section_exact x y h =
     let number : x.number ≡ y.number = (let e : pos x.number ≡ pos y.number = ap (λ s. s.number) h in cc) in
     let voters : x.voters ≡ y.voters = (let e : pos x.voters ≡ pos y.voters = ap (λ s. s.voters) h in cc) in
     λ i. record { zone = zone i; number = number i; voters = voters i }
+
+federation_exact : (x y : Federation) → entry_of_federation x ≡ entry_of_federation y → x ≡ y
+federation_exact x y h =
+    let name : x.name ≡ y.name = ap (λ f. f.name) h in
+    let parties : x.parties ≡ y.parties = same_mapped pos (λ m n e. (cc)) x.parties y.parties (ap (λ f. f.parties) h) in
+    λ i. record { name = name i; parties = parties i }
 
 same_panel : (entries : List CandidateEntry) (p q : Panel) → entry_of_office p.office ≡ entry_of_office q.office → IsPanelOf entries p → IsPanelOf entries q → p ≡ q
 same_panel entries p q h of_p of_q =
@@ -160,7 +179,8 @@ same_tables d t u a b digest =
     (sorted_from_strictly_increasing (map (λ q. q.number) t.parties) a.parties_rise) (sorted_from_strictly_increasing (map (λ q. q.number) u.parties) b.parties_rise) in
     let sections : t.sections ≡ u.sections = same_parts pair_cmp_total (λ s. (s.zone, s.number)) entry_of_section section_exact d.sections t.sections u.sections
     a.sections b.sections a.sections_rise b.sections_rise in
-    λ i. record { process = process i; date = date i; turn = turn i; panels = panels i; parties = parties i; sections = sections i; digest = digest i }
+    let federations : t.federations ≡ u.federations = same_mapped entry_of_federation federation_exact t.federations u.federations (a.federations ∙ sym b.federations) in
+    λ i. record { process = process i; date = date i; turn = turn i; panels = panels i; parties = parties i; sections = sections i; federations = federations i; digest = digest i }
 
 pub tables_determined : (bytes : List ℕ) (t u : TablesData) → IsReadAs bytes t → IsReadAs bytes u → t ≡ u
 tables_determined bytes t u a b =
@@ -168,19 +188,9 @@ tables_determined bytes t u a b =
     let P : Members → Type 0 = λ ms. AreTablesOf (document_of ms) u in
     same_tables (document_of a.members) t u a.tables (subst P same b.tables) (a.digest ∙ sym b.digest)
 
-same_titles : (ts us : List ℕ) → map Some ts ≡ map Some us → ts ≡ us
-same_titles [] [] h = refl
-same_titles [] (u ∷ us) h = absurd (cc)
-same_titles (t ∷ ts) [] h = absurd (cc)
-same_titles (t ∷ ts) (u ∷ us) h =
-    let first : t ≡ u = cc in
-    let rest : map Some ts ≡ map Some us = cc in
-    let others : ts ≡ us = same_titles ts us rest in
-    cc
-
 pub roll_determined : (bytes : List ℕ) (r s : RollData) → IsRollOf bytes r → IsRollOf bytes s → r ≡ s
 roll_determined bytes r s a b =
-    let titles : r.titles ≡ s.titles = same_titles r.titles s.titles (sym a.titles ∙ b.titles) in
+    let titles : r.titles ≡ s.titles = same_mapped Some (λ m n h. (cc)) r.titles s.titles (sym a.titles ∙ b.titles) in
     let digest : r.digest ≡ s.digest = a.digest ∙ sym b.digest in
     λ i. record { titles = titles i; digest = digest i }
 

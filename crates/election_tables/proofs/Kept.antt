@@ -1,20 +1,24 @@
--- What a document that keeps rules 4 to 14 has, and that its entries fit the types of the tables.
-use Rattle.std.proofs.Common.{◌≡◌, ℕ, ℤ, pos, negsuc, ◌-◌, ◌^◌, ◌<◌, ◌≤◌, ◌==◌, Bool, true, false, ◌&&◌, List, [], ◌∷◌, length, map, nat_le, nat_lt, Option, Some, None, is_some, option_map, refl, subst, arith}
+-- What a document that keeps the rules from 4 on has, and that its entries fit the types of the tables.
+use Rattle.std.proofs.Common.{◌≡◌, ℕ, ℤ, pos, negsuc, ◌-◌, ◌^◌, ◌<◌, ◌≤◌, ◌==◌, Bool, true, false, ◌&&◌, List, [], ◌∷◌, length, map, nat_le, nat_lt, Option, Some, None, is_some, option_map, refl, sym, ◌∙◌, subst, inl, inr, arith}
 use Rattle.std.specs.List.{All, list_all, list_any}
 use Rattle.std.specs.Option.{option_map_or}
 use Rattle.std.specs.Ordering.{int_eq}
-use Rattle.std.proofs.lemmas.Bool.{and_parts, and_from, eqb-true, leb-true, ltb-true, le-leb, false≢true}
+use Rattle.std.proofs.lemmas.Bool.{and_parts, and_from, cases_Bool, eqb-true, leb-true, ltb-true, le-leb, false≢true}
+use Rattle.std.proofs.lemmas.Bool.Decides.{Decides-int_eq}
 use Rattle.std.proofs.lemmas.List.Elements.{All-nil, All-cons}
+use Rattle.std.proofs.lemmas.List.Folds.{list_all-append}
 use Rattle.std.proofs.Math.Nat.{pow-le-pow_right}
 use Rattle.urna_base.proofs.MomentLaws.{is_date-below}
+use Rattle.election_tables.specs.declared.document.FederationEntry.{FederationEntry}
+use Rattle.election_tables.specs.declared.document.PartyEntry.{PartyEntry}
 use Rattle.election_tables.specs.declared.office.Kind.{Kind}
 use Rattle.election_tables.specs.DocumentData.{DocumentData}
 use Rattle.election_tables.specs.Fields.{natural, is_within, is_valid_date, is_name, has_digits}
-use Rattle.election_tables.specs.Fitting.{office_fits, party_fits, candidate_fits}
+use Rattle.election_tables.specs.Fitting.{office_fits, party_fits, candidate_fits, federation_fits}
 use Rattle.election_tables.specs.declared.office.OfficeRow.{OfficeRow}
-use Rattle.election_tables.specs.Limits.{most_offices, most_parties, most_candidates, most_sections, proportional_seats, greatest_process}
+use Rattle.election_tables.specs.Limits.{most_offices, most_parties, most_candidates, most_sections, most_federations, proportional_seats, greatest_process}
 use Rattle.election_tables.specs.Offices.{code_digits, greatest_code, most_seats, office_rows, row_of}
-use Rattle.election_tables.specs.Rules.{first_broken, typed_rules, digits_by_code, kind_fits, seats_in_range, section_in_range, counts_in_range, head_in_range, names_in_range, has_office, are_distinct, rule_4, rule_5, rule_6, rule_7, rule_8, rule_9, rule_10, rule_11, rule_12, rule_13, rule_14}
+use Rattle.election_tables.specs.Rules.{first_broken, typed_rules, digits_by_code, kind_fits, seats_in_range, section_in_range, counts_in_range, head_in_range, names_in_range, has_office, are_distinct, rule_4, rule_5, rule_6, rule_7, rule_8, rule_9, rule_10, rule_11, rule_12, rule_13, rule_14, rule_15, rule_16, rule_17, all_members}
 use Rattle.election_tables.proofs.Breaks.{all_hold}
 use Rattle.election_tables.proofs.Rising.{find_all, find_passes}
 
@@ -30,6 +34,9 @@ pub record Kept (d : DocumentData) : Type 0 where
   pub births : rule_12 d ≡ true
   pub sections_differ : rule_13 d ≡ true
   pub seats : rule_14 d ≡ true
+  pub member_counts : rule_15 d ≡ true
+  pub members_are_parties : rule_16 d ≡ true
+  pub members_differ : rule_17 d ≡ true
 
 pub kept : (d : DocumentData) → first_broken 4 (typed_rules d) ≡ None → Kept d
 unfolding typed_rules
@@ -47,6 +54,9 @@ kept d e =
       births = h.1.1.1.1.1.1.1.1.0;
       sections_differ = h.1.1.1.1.1.1.1.1.1.0;
       seats = h.1.1.1.1.1.1.1.1.1.1.0;
+      member_counts = h.1.1.1.1.1.1.1.1.1.1.1.0;
+      members_are_parties = h.1.1.1.1.1.1.1.1.1.1.1.1.0;
+      members_differ = h.1.1.1.1.1.1.1.1.1.1.1.1.1.0;
     }
 
 -- ---- tests of every element
@@ -184,7 +194,8 @@ parties_few d k =
     let (least, most) = and_parts (nat_le 1 (length d.parties)) (nat_le (length d.parties) most_parties) h in
     (leb-true 1 (length d.parties) least, leb-true (length d.parties) most_parties most)
 
-lists_few : (d : DocumentData) → Kept d → (nat_le (length d.candidates) most_candidates && (nat_le 1 (length d.sections) && nat_le (length d.sections) most_sections)) ≡ true
+lists_few : (d : DocumentData) → Kept d
+    → (nat_le (length d.candidates) most_candidates && ((nat_le 1 (length d.sections) && nat_le (length d.sections) most_sections) && nat_le (length d.federations) most_federations)) ≡ true
 lists_few d k =
     let (_, rest) = and_parts (nat_le 1 (length d.offices) && nat_le (length d.offices) most_offices) _ (counts d k) in
     (and_parts (nat_le 1 (length d.parties) && nat_le (length d.parties) most_parties) _ rest).1
@@ -194,9 +205,16 @@ candidates_few d k = leb-true (length d.candidates) most_candidates (and_parts (
 
 pub sections_few : (d : DocumentData) → Kept d → (1 ≤ length d.sections) × (length d.sections ≤ most_sections)
 sections_few d k =
-    let (_, h) = and_parts (nat_le (length d.candidates) most_candidates) (nat_le 1 (length d.sections) && nat_le (length d.sections) most_sections) (lists_few d k) in
+    let (_, rest) = and_parts (nat_le (length d.candidates) most_candidates) _ (lists_few d k) in
+    let (h, _) = and_parts (nat_le 1 (length d.sections) && nat_le (length d.sections) most_sections) (nat_le (length d.federations) most_federations) rest in
     let (least, most) = and_parts (nat_le 1 (length d.sections)) (nat_le (length d.sections) most_sections) h in
     (leb-true 1 (length d.sections) least, leb-true (length d.sections) most_sections most)
+
+pub federations_few : (d : DocumentData) → Kept d → length d.federations ≤ most_federations
+federations_few d k =
+    let (_, rest) = and_parts (nat_le (length d.candidates) most_candidates) _ (lists_few d k) in
+    let (_, h) = and_parts (nat_le 1 (length d.sections) && nat_le (length d.sections) most_sections) (nat_le (length d.federations) most_federations) rest in
+    leb-true (length d.federations) most_federations h
 
 heads : (d : DocumentData) → Kept d → head_in_range d ≡ true
 heads d k = (and_parts (counts_in_range d) (head_in_range d) (and_parts (counts_in_range d && head_in_range d) _ k.ranges).0).1
@@ -216,13 +234,49 @@ turn_in_range d k = (and_parts (is_valid_date d.date) (is_within 1 2 d.turn) (an
 pub sections_in_range : (d : DocumentData) → Kept d → list_all section_in_range d.sections ≡ true
 sections_in_range d k = (and_parts (list_all section_in_range d.sections) (names_in_range d) (and_parts (counts_in_range d && head_in_range d) _ k.ranges).1).0
 
+names : (d : DocumentData) → Kept d → names_in_range d ≡ true
+names d k = (and_parts (list_all section_in_range d.sections) (names_in_range d) (and_parts (counts_in_range d && head_in_range d) _ k.ranges).1).1
+
 pub party_names : (d : DocumentData) → Kept d → list_all (λ p. is_name p.name) d.parties ≡ true
-party_names d k = (and_parts (list_all (λ p. is_name p.name) d.parties) (list_all (λ c. is_name c.name) d.candidates)
-    (and_parts (list_all section_in_range d.sections) (names_in_range d) (and_parts (counts_in_range d && head_in_range d) _ k.ranges).1).1).0
+party_names d k = (and_parts (list_all (λ p. is_name p.name) d.parties) _ (names d k)).0
 
 pub candidate_names : (d : DocumentData) → Kept d → list_all (λ c. is_name c.name) d.candidates ≡ true
-candidate_names d k = (and_parts (list_all (λ p. is_name p.name) d.parties) (list_all (λ c. is_name c.name) d.candidates)
-    (and_parts (list_all section_in_range d.sections) (names_in_range d) (and_parts (counts_in_range d && head_in_range d) _ k.ranges).1).1).1
+candidate_names d k =
+    let (_, rest) = and_parts (list_all (λ p. is_name p.name) d.parties) _ (names d k) in
+    (and_parts (list_all (λ c. is_name c.name) d.candidates) (list_all (λ f. is_name f.name) d.federations) rest).0
+
+pub federation_names : (d : DocumentData) → Kept d → list_all (λ f. is_name f.name) d.federations ≡ true
+federation_names d k =
+    let (_, rest) = and_parts (list_all (λ p. is_name p.name) d.parties) _ (names d k) in
+    (and_parts (list_all (λ c. is_name c.name) d.candidates) (list_all (λ f. is_name f.name) d.federations) rest).1
 
 pub codes_differ : (d : DocumentData) → Kept d → are_distinct int_eq (map (λ o. o.code) d.offices) ≡ true
 codes_differ d k = (and_parts (list_all (λ o. is_some (digits_by_code o.code)) d.offices) (are_distinct int_eq (map (λ o. o.code) d.offices)) k.codes).1
+
+-- ---- federations
+
+-- what is so of all numbers together is so of each federation's
+pub of_each : (test : ℤ → Bool) (fs : List FederationEntry) → list_all test (all_members fs) ≡ true → list_all (λ f. list_all test f.parties) fs ≡ true
+of_each test [] e = refl
+of_each test (f ∷ fs) e =
+    let (here, more) = and_parts (list_all test f.parties) (list_all test (all_members fs)) (sym (list_all-append test f.parties (all_members fs)) ∙ e) in
+    and_from _ _ here (of_each test fs more)
+
+pub members_of_each : (d : DocumentData) → Kept d → list_all (λ f. list_all (λ n. list_any (λ p. int_eq p.number n) d.parties) f.parties) d.federations ≡ true
+members_of_each d k = of_each (λ n. list_any (λ p. int_eq p.number n) d.parties) d.federations k.members_are_parties
+
+-- a number of the parties has their range
+party_number : (n : ℤ) (ps : List PartyEntry) → list_all (λ p. is_within 10 99 p.number) ps ≡ true → list_any (λ p. int_eq p.number n) ps ≡ true → is_within 10 99 n ≡ true
+party_number n [] range e = absurd (false≢true e)
+party_number n (p ∷ ps) range e =
+    let (here, more) = and_parts (is_within 10 99 p.number) (list_all (λ q. is_within 10 99 q.number) ps) range in
+    elim (cases_Bool (int_eq p.number n)) [
+      | inl same ↦ (let is : p.number ≡ n = (Decides-int_eq p.number n).0 same in rw is at here)
+      | inr other ↦ party_number n ps more (rw other at e)
+    ]
+
+pub federations_fit : (d : DocumentData) → Kept d → list_all federation_fits d.federations ≡ true
+federations_fit d k =
+    let there = λ (n : ℤ). list_any (λ p. int_eq p.number n) d.parties in
+    of_each (is_within 10 99) d.federations
+    (all_from_two there there (is_within 10 99) (λ n e _. party_number n d.parties k.party_numbers e) (all_members d.federations) k.members_are_parties k.members_are_parties)

@@ -18,3 +18,4 @@ pub mod LinePanels
 pub mod Places
 pub mod PlacesOfPanels
 mod Numbers
+pub mod Blocs

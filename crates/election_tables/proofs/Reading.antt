@@ -23,7 +23,7 @@ pub read_rule : (bytes digest : List ℕ) (ms : Members) (r : Result TablesData 
 read_rule bytes digest ms r doc a k e = record { members = ms; parsed = doc; broken = subst (IsAnswerFor ms digest) e a }
 
 pub read_rule_number : (digest : List ℕ) (ms : Members) (r : Result TablesData TablesError) → IsAnswerFor ms digest r
-    → (k : ℕ) → r ≡ Err (error.Rule k) → (1 ≤ k) × (k ≤ 14)
+    → (k : ℕ) → r ≡ Err (error.Rule k) → (1 ≤ k) × (k ≤ 17)
 read_rule_number digest ms r a k e = (broken_is_first ms k (subst (IsAnswerFor ms digest) e a)).number
 
 -- where rule k is the first broken one, no other answer can come

@@ -1,11 +1,13 @@
--- Worked rows: documents, and the first rule that each breaks.
-use Rattle.std.proofs.Common.{◌≡◌, ℕ, List, ◌++◌, refl, codes, Option, Some, None, option_map}
+-- Worked rows: documents, and the first rule that each breaks; some federations, and the numbers of their blocs.
+use Rattle.std.proofs.Common.{◌≡◌, ℕ, List, [], ◌∷◌, ◌++◌, map, true, false, refl, codes, Option, Some, None, option_map}
 use Rattle.toml.specs.Parse.{parse_document}
 use Rattle.toml.proofs.OnLiterals.{toml_on_literals}
 use Rattle.urna_base.specs.Moment.{is_date}
 use Rattle.election_tables.specs.Shape.{is_key}
 use Rattle.election_tables.specs.Offices.{row_of}
 use Rattle.election_tables.specs.Rules.{broken_rule, rules, shape_rules, typed_rules}
+use Rattle.election_tables.specs.TablesData.{bloc_of, is_federation}
+use Rattle.election_tables.specs.declared.tables.federations.Federation.{Federation}
 
 -- the first rule that the document breaks, where the bytes are one
 abbrev fault : List ℕ → Option (Option ℕ)
@@ -183,3 +185,83 @@ first_of_two = refl
 pub no_toml : fault (codes "processo 7\n") ≡ None
 unfolding toml_on_literals
 no_toml = refl
+
+-- ---- federations
+
+-- tables with one office and these federations
+abbrev federated : List ℕ → Option (Option ℕ)
+federated federations = fault (head ++ one_office ++ parties ++ candidates_of_one ++ one_voter ++ codes "federacao = " ++ federations ++ codes "\n")
+
+-- a federation of both parties keeps every rule
+pub federation : federated (codes "[{nome = \"FA\", partidos = [45, 13]}]") ≡ Some None
+unfolding toml_on_literals is_key is_date row_of broken_rule rules shape_rules typed_rules
+federation = refl
+
+-- no federation: an empty array
+pub no_federation : federated (codes "[]") ≡ Some None
+unfolding toml_on_literals is_key is_date row_of broken_rule rules shape_rules typed_rules
+no_federation = refl
+
+-- a federation without partidos
+pub federation_without_parties : federated (codes "[{nome = \"FA\"}]") ≡ Some (Some 1)
+unfolding toml_on_literals is_key is_date row_of broken_rule rules shape_rules typed_rules
+federation_without_parties = refl
+
+-- a table in the place of the federations
+pub federations_a_table : federated (codes "{}") ≡ Some (Some 2)
+unfolding toml_on_literals is_key is_date row_of broken_rule rules shape_rules typed_rules
+federations_a_table = refl
+
+-- a text among the numbers
+pub federation_of_text : federated (codes "[{nome = \"FA\", partidos = [13, \"45\"]}]") ≡ Some (Some 2)
+unfolding toml_on_literals is_key is_date row_of broken_rule rules shape_rules typed_rules
+federation_of_text = refl
+
+-- a federation with another key
+pub extra_in_federation : federated (codes "[{nome = \"FA\", partidos = [13, 45], sigla = \"F\"}]") ≡ Some (Some 3)
+unfolding toml_on_literals is_key is_date row_of broken_rule rules shape_rules typed_rules
+extra_in_federation = refl
+
+-- a federation with an empty name
+pub federation_unnamed : federated (codes "[{nome = \"\", partidos = [13, 45]}]") ≡ Some (Some 4)
+unfolding toml_on_literals is_key is_date row_of broken_rule rules shape_rules typed_rules
+federation_unnamed = refl
+
+-- a federation of one number, which is no party's either
+pub federation_of_one : federated (codes "[{nome = \"FA\", partidos = [20]}]") ≡ Some (Some 15)
+unfolding toml_on_literals is_key is_date row_of broken_rule rules shape_rules typed_rules
+federation_of_one = refl
+
+-- a federation of no party
+pub federation_of_none : federated (codes "[{nome = \"FA\", partidos = []}]") ≡ Some (Some 15)
+unfolding toml_on_literals is_key is_date row_of broken_rule rules shape_rules typed_rules
+federation_of_none = refl
+
+-- a number that is no party's
+pub member_no_party : federated (codes "[{nome = \"FA\", partidos = [13, 20]}]") ≡ Some (Some 16)
+unfolding toml_on_literals is_key is_date row_of broken_rule rules shape_rules typed_rules
+member_no_party = refl
+
+-- a party twice in one federation
+pub member_twice : federated (codes "[{nome = \"FA\", partidos = [13, 13]}]") ≡ Some (Some 17)
+unfolding toml_on_literals is_key is_date row_of broken_rule rules shape_rules typed_rules
+member_twice = refl
+
+-- parties in two federations
+pub member_of_two : federated (codes "[{nome = \"FA\", partidos = [13, 45]}, {nome = \"FB\", partidos = [45, 13]}]") ≡ Some (Some 17)
+unfolding toml_on_literals is_key is_date row_of broken_rule rules shape_rules typed_rules
+member_of_two = refl
+
+-- ---- blocs
+
+-- two federations: of 45 and 13, and of 20, 31 and 30
+abbrev two_federations : List Federation
+two_federations = record { name = codes "FA"; parties = 45 ∷ 13 ∷ [] } ∷ record { name = codes "FB"; parties = 20 ∷ 31 ∷ 30 ∷ [] } ∷ []
+
+-- the numbers of the blocs of 45, 30 and 99
+pub numbers_of_blocs : map (bloc_of two_federations) (45 ∷ 30 ∷ 99 ∷ []) ≡ 13 ∷ 20 ∷ 99 ∷ []
+numbers_of_blocs = refl
+
+-- 13 and 20 are federations; 45, which is in one, and 99, which is in none, are not
+pub numbers_of_federations : map (is_federation two_federations) (13 ∷ 20 ∷ 45 ∷ 99 ∷ []) ≡ true ∷ true ∷ false ∷ false ∷ []
+numbers_of_federations = refl

@@ -1,29 +1,33 @@
 -- The tables of a document that keeps its rules have what callers rely on.
-use Rattle.std.proofs.Common.{◌≡◌, ◌≢◌, ℕ, ℤ, pos, ◌≤◌, ◌==◌, true, false, ◌&&◌, ◌||◌, List, [], ◌∷◌, length, map, get_or, nat_le, Some, IsPermutation, nat_cmp, refl, ap, sym, ◌∙◌, subst, arith}
-use Rattle.std.specs.List.{All, AllPairs, count_by, list_any}
+use Rattle.std.proofs.Common.{◌≡◌, ◌≢◌, ℕ, ℤ, pos, ◌≤◌, ◌==◌, Bool, true, false, ◌&&◌, ◌||◌, List, [], ◌∷◌, ◌++◌, length, map, get_or, nat_le, Some, IsPermutation, nat_cmp, refl, ap, sym, ◌∙◌, subst, arith}
+use Rattle.std.specs.List.{All, AllPairs, count_by, list_all, list_any}
 use Rattle.std.proofs.lemmas.List.Sums.{count_by-le-length, length-filter}
 use Rattle.std.specs.List.Sorted.{IsPermutation}
 use Rattle.std.specs.Ordering.{int_eq, eq_by_cmp}
 use Rattle.std.proofs.lemmas.Bool.{and_parts, leb-true, eq-eqb, false≢true}
-use Rattle.std.proofs.lemmas.List.{get_or-map, length-map}
-use Rattle.std.proofs.lemmas.List.Elements.{All-filter, All-same}
+use Rattle.std.proofs.lemmas.Bool.Decides.{Decides-int_eq}
+use Rattle.std.proofs.lemmas.List.{get_or-map, length-map, map-append}
+use Rattle.std.proofs.lemmas.List.Folds.{list_all-map}
+use Rattle.std.proofs.lemmas.List.Elements.{All-filter, All-same, All-weaker}
 use Rattle.std.proofs.lemmas.List.Sorted.{All-permutation, length_permutation, list_any-IsPermutation}
 use Rattle.std.proofs.lemmas.Map.Keys.{apart_from_distinct}
 use Rattle.urna_base.specs.Moment.{is_date}
 use Rattle.election_tables.specs.declared.document.OfficeEntry.{OfficeEntry}
 use Rattle.election_tables.specs.declared.document.PartyEntry.{PartyEntry}
 use Rattle.election_tables.specs.declared.document.CandidateEntry.{CandidateEntry}
+use Rattle.election_tables.specs.declared.document.FederationEntry.{FederationEntry}
 use Rattle.election_tables.specs.declared.tables.candidates.NamedCandidate.{NamedCandidate}
 use Rattle.election_tables.specs.declared.tables.parties.Party.{Party}
 use Rattle.election_tables.specs.declared.tables.sections.Section.{Section}
 use Rattle.election_tables.specs.declared.tables.panels.Panel.{Panel}
+use Rattle.election_tables.specs.declared.tables.federations.Federation.{Federation}
 use Rattle.election_tables.specs.DocumentData.{DocumentData}
 use Rattle.election_tables.specs.Fields.{is_within, is_valid_date, is_name, has_digits, first_two}
-use Rattle.election_tables.specs.Limits.{most_candidates, most_voters, greatest_section, greatest_process}
+use Rattle.election_tables.specs.Limits.{most_candidates, fewest_members, most_members, most_voters, greatest_section, greatest_process}
 use Rattle.election_tables.specs.Offices.{code_digits, most_seats}
-use Rattle.election_tables.specs.Rules.{are_distinct, kind_fits, seats_in_range, section_in_range, has_office, has_party}
-use Rattle.election_tables.specs.Tables.{AreTablesOf, IsPanelOf, candidates_of, entry_of_candidate, entry_of_office, entry_of_party, entry_of_section}
-use Rattle.election_tables.specs.TablesData.{TablesData, IsCandidate, IsPanel, IsParty, IsSection, IsTables}
+use Rattle.election_tables.specs.Rules.{are_distinct, kind_fits, seats_in_range, section_in_range, has_office, has_party, all_members, members_in_range}
+use Rattle.election_tables.specs.Tables.{AreTablesOf, IsPanelOf, candidates_of, entry_of_candidate, entry_of_federation, entry_of_office, entry_of_party, entry_of_section}
+use Rattle.election_tables.specs.TablesData.{TablesData, IsCandidate, IsFederation, IsPanel, IsParty, IsSection, IsTables, members_of}
 use Rattle.election_tables.proofs.Distinct.{IsDistinct-from_test}
 use Rattle.election_tables.proofs.FewCandidates.{candidates_together}
 use Rattle.election_tables.proofs.Keys.{int_eq_by_cmp, nat_eq_by_cmp}
@@ -67,6 +71,12 @@ any_party n (q ∷ qs) =
     ap (λ x. x || list_any (λ p. int_eq p.number (pos n)) (map entry_of_party qs)) (int_eq_by_cmp q.number n ∙ sym (nat_eq_by_cmp q.number n))
     ∙ ap (λ r. (q.number == n) || r) (any_party n qs)
 
+-- a party of the document is one of the tables
+party_there : (entries : List PartyEntry) (parties : List Party) → IsPermutation entries (map entry_of_party parties) → (n : ℕ)
+    → list_any (λ p. int_eq p.number (pos n)) entries ≡ true → list_any (λ q. q.number == n) parties ≡ true
+party_there entries parties moved n there =
+    sym (any_party n parties) ∙ sym (list_any-IsPermutation (λ (p : PartyEntry). int_eq p.number (pos n)) entries (map entry_of_party parties) moved) ∙ there
+
 candidate_from : (offices : List OfficeEntry) (entries : List PartyEntry) (parties : List Party) (code digits : ℕ) (c : NamedCandidate)
     → code_digits code ≡ Some digits → IsPermutation entries (map entry_of_party parties)
     → has_office offices (entry_of_candidate code c) ≡ true → has_party entries (entry_of_candidate code c) ≡ true
@@ -77,8 +87,7 @@ candidate_from offices entries parties code digits c known moved office party bi
     let there : list_any (λ p. int_eq p.number (pos (first_two digits c.number))) entries ≡ true = rw known at party in
     record {
       number = number;
-      party = sym (any_party (first_two digits c.number) parties)
-          ∙ sym (list_any-IsPermutation (λ (p : PartyEntry). int_eq p.number (pos (first_two digits c.number))) entries (map entry_of_party parties) moved) ∙ there;
+      party = party_there entries parties moved (first_two digits c.number) there;
       birth = birth;
       name = name;
     }
@@ -127,6 +136,38 @@ section_from s h =
     let (number, voters) = and_parts (is_within 1 greatest_section (pos s.number)) (is_within 1 most_voters (pos s.voters)) rest in
     record { zone = within 1 greatest_section s.zone zone; number = within 1 greatest_section s.number number; voters = within 1 most_voters s.voters voters }
 
+-- ---- federations
+
+federation_from : (entries : List PartyEntry) (parties : List Party) (f : Federation) → IsPermutation entries (map entry_of_party parties)
+    → is_name (entry_of_federation f).name ≡ true → members_in_range (entry_of_federation f) ≡ true
+    → list_all (λ n. list_any (λ p. int_eq p.number n) entries) (entry_of_federation f).parties ≡ true → IsFederation parties f
+federation_from entries parties f moved name count members =
+    let there = λ (n : ℤ). list_any (λ p. int_eq p.number n) entries in
+    let (least, most) = and_parts (nat_le fewest_members (length (map pos f.parties))) (nat_le (length (map pos f.parties)) most_members) count in
+    let low = leb-true fewest_members (length (map pos f.parties)) least in
+    let high = leb-true (length (map pos f.parties)) most_members most in
+    let size : length (map pos f.parties) ≡ length f.parties = length-map f.parties pos in
+    let all : All (λ n. there (pos n) ≡ true) f.parties = all_true (λ n. there (pos n)) f.parties (sym (list_all-map there pos f.parties) ∙ members) in
+    record {
+      name = name;
+      count = (omega (arith, low, size), omega (arith, high, size));
+      members = All-weaker (λ n. there (pos n) ≡ true) (λ n. list_any (λ q. q.number == n) parties ≡ true) (party_there entries parties moved) f.parties all;
+    }
+
+member_numbers : (fs : List Federation) → all_members (map entry_of_federation fs) ≡ map pos (members_of fs)
+member_numbers [] = refl
+member_numbers (f ∷ fs) = ap (λ (ns : List ℤ). map pos f.parties ++ ns) (member_numbers fs) ∙ sym (map-append pos f.parties (members_of fs))
+
+members_differ : (fs : List Federation) → are_distinct int_eq (all_members (map entry_of_federation fs)) ≡ true → AllPairs (λ a b. a ≢ b) (members_of fs)
+members_differ fs distinct i j e before h equal =
+    let ns : List ℕ = members_of fs in
+    let size : length (map pos ns) ≡ length ns = length-map ns pos in
+    let apart : int_eq (get_or (map pos ns) i (pos e)) (get_or (map pos ns) j (pos e)) ≡ false =
+    apart_from_distinct int_eq (map pos ns) i j (pos e) (IsDistinct-from_test int_eq (map pos ns) (ap (are_distinct int_eq) (sym (member_numbers fs)) ∙ distinct)) before (omega arith) in
+    let first : get_or (map pos ns) i (pos e) ≡ pos (get_or ns i e) = get_or-map pos ns i e (pos e) (omega arith) in
+    let second : get_or (map pos ns) j (pos e) ≡ pos (get_or ns j e) = get_or-map pos ns j e (pos e) h in
+    false≢true (sym apart ∙ (Decides-int_eq (get_or (map pos ns) i (pos e)) (get_or (map pos ns) j (pos e))).1 (first ∙ ap pos equal ∙ sym second))
+
 -- ---- the whole
 
 valid_date : (n : ℕ) (z : ℤ) → pos n ≡ z → is_valid_date z ≡ true → is_date n ≡ true
@@ -159,6 +200,10 @@ tables_valid d t k are size =
     let few_parties = kept.parties_few d k in
     let few_sections = kept.sections_few d k in
     let few_candidates = kept.candidates_few d k in
+    let federations_length : length t.federations ≡ length d.federations = sym (length-map t.federations entry_of_federation) ∙ ap length are.federations in
+    let few_federations = kept.federations_few d k in
+    let each_federation : (test : FederationEntry → Bool) → list_all test d.federations ≡ true → All (λ f. test (entry_of_federation f) ≡ true) t.federations =
+    λ test h. parts_at (λ e. test e ≡ true) entry_of_federation t.federations (All-same (λ e. test e ≡ true) _ d.federations are.federations (all_true test d.federations h)) in
     let together = candidates_together d.offices d.candidates t.panels are.offices (kept.codes_differ d k) are.panels in
     record {
       process = within_same 1 greatest_process t.process d.process are.process (kept.process_in_range d k);
@@ -181,5 +226,11 @@ tables_valid d t k are size =
       sections = (λ i s h. section_from (get_or t.sections i s)
           (parts_are (λ e. section_in_range e ≡ true) d.sections entry_of_section t.sections are.sections (all_true section_in_range d.sections (kept.sections_in_range d k)) i s h));
       sections_rise = are.sections_rise;
+      federation_count = omega arith;
+      federations = (λ i f h. federation_from d.parties t.parties (get_or t.federations i f) are.parties
+          (each_federation (λ e. is_name e.name) (kept.federation_names d k) i f h)
+          (each_federation members_in_range k.member_counts i f h)
+          (each_federation (λ e. list_all (λ n. list_any (λ p. int_eq p.number n) d.parties) e.parties) (kept.members_of_each d k) i f h));
+      members = members_differ t.federations (ap (λ (es : List FederationEntry). are_distinct int_eq (all_members es)) are.federations ∙ k.members_differ);
       digest = size;
     }

@@ -4,6 +4,7 @@ use Rattle.election_tables.specs.declared.document.OfficeEntry.{OfficeEntry}
 use Rattle.election_tables.specs.declared.document.PartyEntry.{PartyEntry}
 use Rattle.election_tables.specs.declared.document.CandidateEntry.{CandidateEntry}
 use Rattle.election_tables.specs.declared.document.SectionEntry.{SectionEntry}
+use Rattle.election_tables.specs.declared.document.FederationEntry.{FederationEntry}
 
 -- the numbers and lists of a document, in its order: the offices in panel order
 pub record DocumentData : Type 0 where
@@ -14,3 +15,4 @@ pub record DocumentData : Type 0 where
   pub parties : List PartyEntry
   pub candidates : List CandidateEntry
   pub sections : List SectionEntry
+  pub federations : List FederationEntry

@@ -1,8 +1,10 @@
 -- That the numbers of a document's entries fit the types of the tables. Entries of a document that keeps the rules do.
 use Rattle.std.specs.Prelude.{is_some, Bool, ◌&&◌}
+use Rattle.std.specs.List.{list_all}
 use Rattle.election_tables.specs.declared.document.OfficeEntry.{OfficeEntry}
 use Rattle.election_tables.specs.declared.document.PartyEntry.{PartyEntry}
 use Rattle.election_tables.specs.declared.document.CandidateEntry.{CandidateEntry}
+use Rattle.election_tables.specs.declared.document.FederationEntry.{FederationEntry}
 use Rattle.election_tables.specs.Limits.{proportional_seats}
 use Rattle.election_tables.specs.Fields.{is_within}
 use Rattle.election_tables.specs.Offices.{greatest_code}
@@ -16,3 +18,6 @@ party_fits p = is_within 10 99 p.number
 
 abbrev pub candidate_fits : CandidateEntry → Bool
 candidate_fits c = is_within 0 99999 c.number && is_within 0 99999999 c.birth
+
+abbrev pub federation_fits : FederationEntry → Bool
+federation_fits f = list_all (is_within 10 99) f.parties

@@ -13,6 +13,18 @@ most_lines = 9
 abbrev pub most_parties : ℕ
 most_parties = 40
 
+-- the most federations
+abbrev pub most_federations : ℕ
+most_federations = 20
+
+-- the fewest parties of a federation
+abbrev pub fewest_members : ℕ
+fewest_members = 2
+
+-- and the most
+abbrev pub most_members : ℕ
+most_members = 40
+
 -- the most candidates, of all offices together
 abbrev pub most_candidates : ℕ
 most_candidates = 4096

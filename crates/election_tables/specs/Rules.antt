@@ -1,6 +1,6 @@
--- Rules 4 to 14, over the typed lists of a document, and the number of the first rule that doesn't hold.
+-- The rules from 4 on, over the typed lists of a document, and the number of the first rule that doesn't hold.
 use Rattle.std.specs.Prelude.{ℕ, ◌+◌, ℤ, pos, List, [], ◌∷◌, ◌++◌, length, map, Option, Some, None, is_some, option_and_then, Bool, true, false, not, ◌&&◌, nat_le}
-use Rattle.std.specs.List.{list_all, list_any}
+use Rattle.std.specs.List.{flat_map, list_all, list_any}
 use Rattle.std.specs.Ordering.{int_eq}
 use Rattle.std.specs.Option.{option_map_or}
 use Rattle.toml.specs.Data.{Members}
@@ -9,8 +9,9 @@ use Rattle.election_tables.specs.declared.document.OfficeEntry.{OfficeEntry}
 use Rattle.election_tables.specs.declared.document.PartyEntry.{PartyEntry}
 use Rattle.election_tables.specs.declared.document.CandidateEntry.{CandidateEntry}
 use Rattle.election_tables.specs.declared.document.SectionEntry.{SectionEntry}
+use Rattle.election_tables.specs.declared.document.FederationEntry.{FederationEntry}
 use Rattle.election_tables.specs.declared.shape.ShapeRule.TheVariants as shape
-use Rattle.election_tables.specs.Limits.{most_offices, most_parties, most_candidates, most_sections, most_voters, greatest_section, greatest_process}
+use Rattle.election_tables.specs.Limits.{most_offices, most_parties, most_candidates, most_sections, most_voters, most_federations, fewest_members, most_members, greatest_section, greatest_process}
 use Rattle.election_tables.specs.Fields.{natural, is_within, is_valid_date, is_name, has_digits, first_two}
 use Rattle.election_tables.specs.Offices.{code_digits, allows, most_seats}
 use Rattle.election_tables.specs.DocumentData.{DocumentData}
@@ -53,20 +54,22 @@ has_party parties c = option_map_or (λ digits. option_map_or
 abbrev pub section_in_range : SectionEntry → Bool
 section_in_range s = is_within 1 greatest_section s.zone && (is_within 1 greatest_section s.number && is_within 1 most_voters s.voters)
 
--- 1 to `most_offices` offices, 1 to `most_parties` parties, at most `most_candidates` candidates, 1 to `most_sections` sections
+-- 1 to `most_offices` offices, 1 to `most_parties` parties, at most `most_candidates` candidates, 1 to `most_sections` sections, at most
+-- `most_federations` federations
 abbrev pub counts_in_range : DocumentData → Bool
 counts_in_range d =
     (nat_le 1 (length d.offices) && nat_le (length d.offices) most_offices)
     && ((nat_le 1 (length d.parties) && nat_le (length d.parties) most_parties)
-    && (nat_le (length d.candidates) most_candidates && (nat_le 1 (length d.sections) && nat_le (length d.sections) most_sections)))
+    && (nat_le (length d.candidates) most_candidates && ((nat_le 1 (length d.sections) && nat_le (length d.sections) most_sections)
+    && nat_le (length d.federations) most_federations)))
 
 -- the election has a number from 1 to `greatest_process`, a valid date, and is the first or the second turn
 abbrev pub head_in_range : DocumentData → Bool
 head_in_range d = is_within 1 greatest_process d.process && (is_valid_date d.date && is_within 1 2 d.turn)
 
--- each party and each candidate has a name
+-- each party, each candidate and each federation has a name
 abbrev pub names_in_range : DocumentData → Bool
-names_in_range d = list_all (λ p. is_name p.name) d.parties && list_all (λ c. is_name c.name) d.candidates
+names_in_range d = list_all (λ p. is_name p.name) d.parties && (list_all (λ c. is_name c.name) d.candidates && list_all (λ f. is_name f.name) d.federations)
 
 -- 4. counts and ranges
 abbrev pub rule_4 : DocumentData → Bool
@@ -116,17 +119,39 @@ seats_in_range o = option_map_or (λ code. is_within 1 (most_seats code) o.seats
 abbrev pub rule_14 : DocumentData → Bool
 rule_14 d = list_all seats_in_range d.offices
 
+-- the numbers of all federations together
+abbrev pub all_members : List FederationEntry → List ℤ
+all_members federations = flat_map (λ f. f.parties) federations
+
+-- a federation has `fewest_members` to `most_members` parties
+abbrev pub members_in_range : FederationEntry → Bool
+members_in_range f = nat_le fewest_members (length f.parties) && nat_le (length f.parties) most_members
+
+-- 15. each federation has 2 to 40 parties
+abbrev pub rule_15 : DocumentData → Bool
+rule_15 d = list_all members_in_range d.federations
+
+-- 16. each of their numbers is a party of the document
+abbrev pub rule_16 : DocumentData → Bool
+rule_16 d = list_all (λ n. list_any (λ p. int_eq p.number n) d.parties) (all_members d.federations)
+
+-- 17. no number stands twice in all federations together
+abbrev pub rule_17 : DocumentData → Bool
+rule_17 d = are_distinct int_eq (all_members d.federations)
+
 -- ---- the first broken rule
 
--- whether each of rules 4 to 14 holds, in order
+-- whether each of the rules from 4 on holds, in order
 unfoldable pub typed_rules : DocumentData → List Bool
-typed_rules d = rule_4 d ∷ rule_5 d ∷ rule_6 d ∷ rule_7 d ∷ rule_8 d ∷ rule_9 d ∷ rule_10 d ∷ rule_11 d ∷ rule_12 d ∷ rule_13 d ∷ rule_14 d ∷ []
+typed_rules d =
+    rule_4 d ∷ rule_5 d ∷ rule_6 d ∷ rule_7 d ∷ rule_8 d ∷ rule_9 d ∷ rule_10 d ∷ rule_11 d ∷ rule_12 d ∷ rule_13 d ∷ rule_14 d
+    ∷ rule_15 d ∷ rule_16 d ∷ rule_17 d ∷ []
 
 -- whether each of rules 1 to 3 holds: the keys are there, have their types, and there are no others
 unfoldable pub shape_rules : Members → List Bool
 shape_rules ms = document_keeps shape.Keys ms ∷ document_keeps shape.Types ms ∷ document_keeps shape.NoOther ms ∷ []
 
--- all fourteen, each over the whole document
+-- all rules, each over the whole document
 unfoldable pub rules : Members → List Bool
 rules ms = shape_rules ms ++ typed_rules (document_of ms)
 

@@ -9,11 +9,13 @@ use Rattle.election_tables.specs.declared.document.OfficeEntry.{OfficeEntry}
 use Rattle.election_tables.specs.declared.document.PartyEntry.{PartyEntry}
 use Rattle.election_tables.specs.declared.document.CandidateEntry.{CandidateEntry}
 use Rattle.election_tables.specs.declared.document.SectionEntry.{SectionEntry}
+use Rattle.election_tables.specs.declared.document.FederationEntry.{FederationEntry}
 use Rattle.election_tables.specs.declared.office.Office.{Office}
 use Rattle.election_tables.specs.declared.tables.candidates.NamedCandidate.{NamedCandidate}
 use Rattle.election_tables.specs.declared.tables.parties.Party.{Party}
 use Rattle.election_tables.specs.declared.tables.sections.Section.{Section}
 use Rattle.election_tables.specs.declared.tables.panels.Panel.{Panel}
+use Rattle.election_tables.specs.declared.tables.federations.Federation.{Federation}
 use Rattle.election_tables.specs.DocumentData.{DocumentData}
 use Rattle.election_tables.specs.Entries.{document_of}
 use Rattle.election_tables.specs.Offices.{code_digits}
@@ -38,6 +40,10 @@ entry_of_candidate code c = record { office = pos code; number = pos c.number; b
 abbrev pub entry_of_section : Section → SectionEntry
 entry_of_section s = record { zone = pos s.zone; number = pos s.number; voters = pos s.voters }
 
+-- the entry of a federation
+abbrev pub entry_of_federation : Federation → FederationEntry
+entry_of_federation f = record { name = f.name; parties = map pos f.parties }
+
 -- the document's candidates of an office
 abbrev pub candidates_of : ℕ → List CandidateEntry → List CandidateEntry
 candidates_of code entries = filter (λ c. int_eq c.office (pos code)) entries
@@ -50,7 +56,7 @@ pub record IsPanelOf (entries : List CandidateEntry) (p : Panel) : Type 0 where
   pub candidates : IsPermutation (candidates_of p.office.code entries) (map (entry_of_candidate p.office.code) p.candidates)
   pub rise : CandidatesRise p.candidates
 
--- the tables are those of the document: its numbers, its offices in their order, and its other lists rising
+-- the tables are those of the document: its numbers, its offices and its federations in their order, and its other lists rising
 pub record AreTablesOf (d : DocumentData) (t : TablesData) : Type 0 where
   pub process : pos t.process ≡ d.process
   pub date : pos t.date ≡ d.date
@@ -61,6 +67,7 @@ pub record AreTablesOf (d : DocumentData) (t : TablesData) : Type 0 where
   pub parties_rise : PartiesRise t.parties
   pub sections : IsPermutation d.sections (map entry_of_section t.sections)
   pub sections_rise : SectionsRise t.sections
+  pub federations : map entry_of_federation t.federations ≡ d.federations
 
 -- ---- what an answer says of the bytes
 
@@ -78,13 +85,13 @@ pub record BreaksFirst (bytes : List ℕ) (rule : ℕ) : Type 0 where
   pub parsed : IsDocument bytes members
   pub broken : broken_rule members ≡ Some rule
 
--- the bytes are a document that keeps all fourteen rules
+-- the bytes are a document that keeps all rules
 pub record KeepsRules (bytes : List ℕ) : Type 0 where
   pub members : Members
   pub parsed : IsDocument bytes members
   pub kept : broken_rule members ≡ None
 
--- the bytes are a document that keeps all fourteen rules, and these are its tables, with the SHA-256 of the bytes
+-- the bytes are a document that keeps all rules, and these are its tables, with the SHA-256 of the bytes
 pub record IsReadAs (bytes : List ℕ) (t : TablesData) : Type 0 where
   pub members : Members
   pub parsed : IsDocument bytes members

@@ -1,5 +1,5 @@
 -- What contracts see of the tables, and what is so of all tables that were read.
-use Rattle.std.specs.Prelude.{◌≡◌, ◌≢◌, ℕ, ◌≤◌, List, [], length, map, replicate, slice_get, slice_index, Option, Some, option_map, IsTrue, ◌==◌, ◌&&◌}
+use Rattle.std.specs.Prelude.{◌≡◌, ◌≢◌, ℕ, ◌≤◌, List, [], ◌∷◌, fold, length, min, map, replicate, slice_get, slice_index, Option, Some, option_map, Bool, IsTrue, ◌==◌, ◌&&◌}
 use Rattle.std.specs.List.{All, AllPairs, find, flat_map, list_any, position, range_with_len, sum_by}
 use Rattle.std.specs.List.Sorted.{IsStrictlyIncreasing, IsStrictlySortedBy}
 use Rattle.std.specs.Option.{option_map_or}
@@ -12,11 +12,12 @@ use Rattle.election_tables.specs.declared.tables.candidates.NamedCandidate.{Name
 use Rattle.election_tables.specs.declared.tables.parties.Party.{Party}
 use Rattle.election_tables.specs.declared.tables.sections.Section.{Section}
 use Rattle.election_tables.specs.declared.tables.panels.Panel.{Panel}
-use Rattle.election_tables.specs.Limits.{most_offices, most_parties, most_candidates, most_sections, most_voters, greatest_section, greatest_process}
+use Rattle.election_tables.specs.declared.tables.federations.Federation.{Federation}
+use Rattle.election_tables.specs.Limits.{most_offices, most_parties, most_candidates, most_sections, most_voters, most_federations, fewest_members, most_members, greatest_section, greatest_process}
 use Rattle.election_tables.specs.Offices.{code_digits, allows, most_seats, places_by}
 use Rattle.election_tables.specs.Fields.{is_name, has_digits, first_two}
 
--- the tables of an election: the panels in the order of the ballot, the other lists rising
+-- the tables of an election: the panels in the order of the ballot, the federations in that of the document, the other lists rising
 pub record TablesData : Type 0 where
   pub process : ℕ
   pub date : ℕ
@@ -24,6 +25,7 @@ pub record TablesData : Type 0 where
   pub panels : List Panel
   pub parties : List Party
   pub sections : List Section
+  pub federations : List Federation
   pub digest : List ℕ
 
 -- ---- look-ups
@@ -67,6 +69,33 @@ section_with zone number sections = find (λ s. (s.zone == zone) && (s.number ==
 -- the place where it stands
 abbrev pub place_with : ℕ → ℕ → List Section → Option ℕ
 place_with zone number sections = position (λ s. (s.zone == zone) && (s.number == number)) sections
+
+-- ---- blocs: a federation, or a party that is in none, counts as one party (Lei 9.096/1995, art. 11-A)
+
+-- the lowest of some numbers; 0 of none
+abbrev pub lowest : List ℕ → ℕ
+lowest [] = 0
+lowest (n ∷ ns) = fold min n ns
+
+-- the party is one of the federation
+abbrev pub has_member : ℕ → Federation → Bool
+has_member party f = list_any (λ n. n == party) f.parties
+
+-- the number of the bloc of a party: the lowest of its federation, or its own where it is in none
+abbrev pub bloc_of : List Federation → ℕ → ℕ
+bloc_of federations party = option_map_or (λ f. lowest f.parties) (find (has_member party) federations) party
+
+-- that of a party of the tables
+abbrev pub bloc_in : TablesData → ℕ → Option ℕ
+bloc_in t party = option_map (λ q. bloc_of t.federations q.number) (find (λ q. q.number == party) t.parties)
+
+-- the number is that of a federation
+abbrev pub is_federation : List Federation → ℕ → Bool
+is_federation federations bloc = list_any (λ f. lowest f.parties == bloc) federations
+
+-- the parties of all federations together
+abbrev pub members_of : List Federation → List ℕ
+members_of federations = flat_map (λ f. f.parties) federations
 
 -- ---- order
 
@@ -119,8 +148,14 @@ pub record IsSection (s : Section) : Type 0 where
   pub number : (1 ≤ s.number) × (s.number ≤ greatest_section)
   pub voters : (1 ≤ s.voters) × (s.voters ≤ most_voters)
 
--- What is so of all tables, by the rules of their document: the ranges, the orders and the parties of candidates. All panels together
--- have at most `most_candidates` candidates.
+-- a federation has a name, and parties of the tables
+pub record IsFederation (parties : List Party) (f : Federation) : Type 0 where
+  pub name : IsTrue (is_name f.name)
+  pub count : (fewest_members ≤ length f.parties) × (length f.parties ≤ most_members)
+  pub members : All (λ n. IsTrue (list_any (λ q. q.number == n) parties)) f.parties
+
+-- What is so of all tables, by the rules of their document: the ranges, the orders, the parties of candidates, and those of federations,
+-- none of which is in two. All panels together have at most `most_candidates` candidates.
 pub record IsTables (t : TablesData) : Type 0 where
   pub process : (1 ≤ t.process) × (t.process ≤ greatest_process)
   pub date : IsTrue (is_date t.date)
@@ -135,4 +170,7 @@ pub record IsTables (t : TablesData) : Type 0 where
   pub section_count : (1 ≤ length t.sections) × (length t.sections ≤ most_sections)
   pub sections : All IsSection t.sections
   pub sections_rise : SectionsRise t.sections
+  pub federation_count : length t.federations ≤ most_federations
+  pub federations : All (IsFederation t.parties) t.federations
+  pub members : AllPairs (λ a b. a ≢ b) (members_of t.federations)
   pub digest : length t.digest ≡ 32

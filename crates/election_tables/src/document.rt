@@ -1,9 +1,10 @@
 //! The document's typed lists: what its tables say, in the order of the document.
 ghost use Rattle.std.specs.Prelude.{◌≡◌, ◌++◌, map, IfOk, unwrap_or, option_and_then, pos, [], codes};
+ghost use Rattle.std.specs.List.{filter_map};
 ghost use Rattle.toml.specs.Data.{as_integer, as_str, as_table, get_member, Members};
 ghost use Rattle.toml.specs.View.{view, table_view, array_view};
-ghost use Rattle.election_tables.specs.Shape.{tables_in, tables_at};
-ghost use Rattle.election_tables.specs.Entries.{number_at, text_at, kind_named, office_of, party_of, candidate_of, section_of, document_of};
+ghost use Rattle.election_tables.specs.Shape.{data_of, tables_in, tables_at};
+ghost use Rattle.election_tables.specs.Entries.{number_at, text_at, numbers_at, kind_named, office_of, party_of, candidate_of, section_of, federation_of, document_of};
 
 use crate::office::Kind;
 use crate::shape::{array_at, find, is_same_key};
@@ -24,6 +25,20 @@ impl Model for Name {
     ghost Value = { List ℕ };
 
     ghost view = { λ n. string_bytes n.text };
+}
+
+/// The numbers of an array of the document, which contracts see as their list.
+#[derive(Drop)]
+pub struct Numbers {
+    items: Vec<i64>,
+}
+
+impl Model for Numbers {
+    ghost use Rattle.std.specs.Prelude.{List, ℤ};
+
+    ghost Value = { List ℤ };
+
+    ghost view = { λ n. n.items.items };
 }
 
 /// A table of `cargo`. The kind is that of `regra`, if it names one.
@@ -58,6 +73,13 @@ pub struct SectionEntry {
     pub voters: i64,
 }
 
+/// A table of `federacao`.
+#[derive(Drop)]
+pub struct FederationEntry {
+    pub name: Name,
+    pub parties: Numbers,
+}
+
 /// The document as typed lists.
 #[derive(Drop)]
 pub struct Document {
@@ -68,6 +90,7 @@ pub struct Document {
     pub(crate) parties: Vec<PartyEntry>,
     pub(crate) candidates: Vec<CandidateEntry>,
     pub(crate) sections: Vec<SectionEntry>,
+    pub(crate) federations: Vec<FederationEntry>,
 }
 
 impl Model for Document {
@@ -83,6 +106,7 @@ impl Model for Document {
       parties = d.parties.items;
       candidates = d.candidates.items;
       sections = d.sections.items;
+      federations = d.federations.items;
     } };
 }
 
@@ -103,6 +127,14 @@ impl Name {
     }
 }
 
+impl Numbers {
+    pub fn as_slice(&self) -> &[i64]
+        ensures { result.now ≡ self.now }
+    {
+        self.items.as_slice()
+    }
+}
+
 fn number_at(table: &Table, key: &str) -> i64
     ensures { result ≡ number_at key.now (table_view table.now) }
 {
@@ -119,6 +151,28 @@ fn text_at<'a>(table: &'a Table, key: &str) -> &'a str
         Some(value) => value.as_str().unwrap_or(""),
         None => "",
     }
+}
+
+fn numbers_in(alloc: Global, items: &Array) -> Result<Vec<i64>, AllocError>
+    ensures { IfOk result (λ v. v.items ≡ filter_map as_integer (data_of (array_view items.now))) }
+{
+    let mut numbers = Vec::new(alloc);
+    for item in items {
+        if let Some(number) = item.as_integer() {
+            numbers.push(number)?;
+        }
+    }
+    Ok(numbers)
+}
+
+fn numbers_at(alloc: Global, table: &Table, key: &str) -> Result<Numbers, AllocError>
+    ensures { IfOk result (λ n. n ≡ numbers_at key.now (table_view table.now)) }
+{
+    let items = match array_at(table, key) {
+        Some(items) => numbers_in(alloc, items)?,
+        None => Vec::new(alloc),
+    };
+    Ok(Numbers { items })
 }
 
 fn kind_named(text: &str) -> Option<Kind>
@@ -195,6 +249,17 @@ impl Entry for SectionEntry {
     }
 }
 
+impl Entry for FederationEntry {
+    ghost entry_of = { federation_of };
+
+    fn read(alloc: Global, table: &Table) -> Result<Self, AllocError> {
+        Ok(FederationEntry {
+            name: Name::copied(alloc, text_at(table, "nome"))?,
+            parties: numbers_at(alloc, table, "partidos")?,
+        })
+    }
+}
+
 fn entries_in<E: Entry>(alloc: Global, rows: &Array) -> Result<Vec<E>, AllocError>
     ensures { IfOk result (λ v. v.items ≡ map E.entry_of (tables_in (array_view rows.now))) }
 {
@@ -229,6 +294,7 @@ impl Document {
             parties: entries_at(alloc, table, "partido")?,
             candidates: entries_at(alloc, table, "candidato")?,
             sections: entries_at(alloc, table, "secao")?,
+            federations: entries_at(alloc, table, "federacao")?,
         })
     }
 }

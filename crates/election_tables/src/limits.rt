@@ -6,6 +6,15 @@ pub const MOST_OFFICES: usize = 8;
 /// The most parties.
 pub(crate) const MOST_PARTIES: usize = 40;
 
+/// The most federations.
+pub(crate) const MOST_FEDERATIONS: usize = 20;
+
+/// The fewest parties of a federation.
+pub(crate) const FEWEST_MEMBERS: usize = 2;
+
+/// The most parties of a federation.
+pub(crate) const MOST_MEMBERS: usize = 40;
+
 /// The most candidates, of all offices together.
 pub(crate) const MOST_CANDIDATES: usize = 4_096;
 

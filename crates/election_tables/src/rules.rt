@@ -1,19 +1,21 @@
-//! Rules 4 to 14, over the typed lists of a document (docs/FORMATS.md, "Election tables").
+//! The rules from 4 on, over the typed lists of a document (docs/FORMATS.md, "Election tables").
 ghost use Rattle.std.specs.Prelude.{◌≡◌, IfOk};
 ghost use Rattle.election_tables.specs.Rules.{first_broken, typed_rules};
 
 mod candidates;
 mod distinct;
+mod federations;
 mod fields;
 mod offices;
 mod ranges;
 
 use crate::document::Document;
+use federations::all_members;
 use std::alloc::{AllocError, Global};
 
 impl Document {
-    /// The number of the first of rules 4 to 14 that doesn't hold. Each rule is tested over the whole document before
-    /// the next, so the lists are short where rules 9 and 10 look through them.
+    /// The number of the first of the rules from 4 on that doesn't hold. Each rule is tested over the whole document
+    /// before the next, so the lists are short where rules 9, 10 and 16 look through them.
     #[tactic(auto, unfolding(crate::specs::Rules::typed_rules))]
     pub(crate) fn broken_rule(&self, alloc: Global) -> Result<Option<u8>, AllocError>
         ensures { IfOk result (λ k. k ≡ first_broken 4 (typed_rules self.now)) }
@@ -50,6 +52,16 @@ impl Document {
         }
         if !self.keeps_rule_14() {
             return Ok(Some(14));
+        }
+        if !self.keeps_rule_15() {
+            return Ok(Some(15));
+        }
+        let members = all_members(alloc, &self.federations)?;
+        if !self.keeps_rule_16(&members) {
+            return Ok(Some(16));
+        }
+        if !self.keeps_rule_17(members) {
+            return Ok(Some(17));
         }
         Ok(None)
     }

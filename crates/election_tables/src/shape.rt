@@ -1,10 +1,10 @@
-//! Rules 1 to 3: which keys stand in the document and in the tables of its four arrays, and of which types they are.
-ghost use Rattle.std.specs.Prelude.{◌≡◌, true, is_some, option_map, option_and_then, codes};
+//! Rules 1 to 3: which keys stand in the document and in the tables of its arrays, and of which types they are.
+ghost use Rattle.std.specs.Prelude.{◌≡◌, ◌||◌, true, is_some, option_map, option_and_then, codes};
 ghost use Rattle.std.specs.List.{list_all, list_any};
 ghost use Rattle.std.specs.Option.{option_map_or};
 ghost use Rattle.toml.specs.Data.{as_integer, as_str, as_array, get_member, as_table};
 ghost use Rattle.toml.specs.View.{view, table_view, array_view};
-ghost use Rattle.election_tables.specs.Shape.{a_number, a_text, some_tables, has_type, data_of, tables_in, tables_at, is_key, keys_in, keeps, document_keeps};
+ghost use Rattle.election_tables.specs.Shape.{a_number, a_text, some_numbers, some_tables, tables_if_there, may_miss, has_type, data_of, tables_in, tables_at, is_key, keys_in, keeps, document_keeps};
 ghost use Rattle.election_tables.specs.Rules.{first_broken, shape_rules};
 
 use std::cmp::Ordering;
@@ -19,6 +19,7 @@ pub(crate) enum Group {
     Parties,
     Candidates,
     Sections,
+    Federations,
 }
 
 /// The three rules on keys.
@@ -92,6 +93,33 @@ fn all_tables(rows: &Array) -> bool
     true
 }
 
+fn has_numbers(table: &Table, key: &str) -> bool
+    ensures { result ≡ has_type some_numbers (get_member key.now (table_view table.now)) }
+{
+    match array_at(table, key) {
+        Some(rows) => all_numbers(rows),
+        None => false,
+    }
+}
+
+#[tactic(auto, using(crate::proofs::Walks::list_all_data_of, std::proofs::lemmas::Grind::common_steps))]
+fn all_numbers(rows: &Array) -> bool
+    ensures { result ≡ list_all (λ d. is_some (as_integer d)) (data_of (array_view rows.now)) }
+{
+    for row in rows {
+        if !row.is_integer() {
+            return false;
+        }
+    }
+    true
+}
+
+fn has_tables_if_there(table: &Table, key: &str) -> bool
+    ensures { result ≡ has_type tables_if_there (get_member key.now (table_view table.now)) }
+{
+    !has_key(table, key) || has_tables(table, key)
+}
+
 /// Whether two keys have the same bytes.
 #[tactic(auto, unfolding(crate::specs::Shape::is_key))]
 pub(crate) fn is_same_key(a: &str, b: &str) -> bool
@@ -101,7 +129,7 @@ pub(crate) fn is_same_key(a: &str, b: &str) -> bool
 }
 
 fn has_keys(group: Group, table: &Table) -> bool
-    ensures { result ≡ list_all (λ k. is_some (get_member k.0 (table_view table.now))) (keys_in group) }
+    ensures { result ≡ list_all (λ k. may_miss k.1 || is_some (get_member k.0 (table_view table.now))) (keys_in group) }
 {
     match group {
         Group::Document => {
@@ -126,6 +154,7 @@ fn has_keys(group: Group, table: &Table) -> bool
         Group::Sections => has_key(table, "zona")
             && has_key(table, "secao")
             && has_key(table, "eleitores"),
+        Group::Federations => has_key(table, "nome") && has_key(table, "partidos"),
     }
 }
 
@@ -141,6 +170,7 @@ fn has_types(group: Group, table: &Table) -> bool
                 && has_tables(table, "partido")
                 && has_tables(table, "candidato")
                 && has_tables(table, "secao")
+                && has_tables_if_there(table, "federacao")
         }
         Group::Offices => has_number(table, "codigo")
             && has_text(table, "regra")
@@ -155,22 +185,29 @@ fn has_types(group: Group, table: &Table) -> bool
         Group::Sections => has_number(table, "zona")
             && has_number(table, "secao")
             && has_number(table, "eleitores"),
+        Group::Federations => has_text(table, "nome") && has_numbers(table, "partidos"),
     }
+}
+
+/// Whether a key is one of the document's own.
+fn is_document_key(key: &str) -> bool
+    ensures { result ≡ list_any (λ k. is_key key.now k.0) (keys_in Group.Document) }
+{
+    is_same_key(key, "processo")
+        || is_same_key(key, "data")
+        || is_same_key(key, "turno")
+        || is_same_key(key, "cargo")
+        || is_same_key(key, "partido")
+        || is_same_key(key, "candidato")
+        || is_same_key(key, "secao")
+        || is_same_key(key, "federacao")
 }
 
 fn is_known(group: Group, key: &str) -> bool
     ensures { result ≡ list_any (λ k. is_key key.now k.0) (keys_in group) }
 {
     match group {
-        Group::Document => {
-            is_same_key(key, "processo")
-                || is_same_key(key, "data")
-                || is_same_key(key, "turno")
-                || is_same_key(key, "cargo")
-                || is_same_key(key, "partido")
-                || is_same_key(key, "candidato")
-                || is_same_key(key, "secao")
-        }
+        Group::Document => is_document_key(key),
         Group::Offices => is_same_key(key, "codigo")
             || is_same_key(key, "regra")
             || is_same_key(key, "cadeiras"),
@@ -184,6 +221,7 @@ fn is_known(group: Group, key: &str) -> bool
         Group::Sections => is_same_key(key, "zona")
             || is_same_key(key, "secao")
             || is_same_key(key, "eleitores"),
+        Group::Federations => is_same_key(key, "nome") || is_same_key(key, "partidos"),
     }
 }
 
@@ -239,7 +277,7 @@ fn rows_keep(rule: ShapeRule, group: Group, table: &Table, key: &str) -> bool
     }
 }
 
-/// Whether the document and each table of its four arrays keep a rule.
+/// Whether the document and each table of its arrays keep a rule.
 pub(crate) fn document_keeps(rule: ShapeRule, table: &Table) -> bool
     ensures { result ≡ document_keeps rule (table_view table.now) }
 {
@@ -248,6 +286,7 @@ pub(crate) fn document_keeps(rule: ShapeRule, table: &Table) -> bool
         && rows_keep(rule, Group::Parties, table, "partido")
         && rows_keep(rule, Group::Candidates, table, "candidato")
         && rows_keep(rule, Group::Sections, table, "secao")
+        && rows_keep(rule, Group::Federations, table, "federacao")
 }
 
 /// The number of the first of rules 1 to 3 that doesn't hold.

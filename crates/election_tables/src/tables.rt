@@ -7,9 +7,10 @@ ghost use Rattle.election_tables.specs.Limits.{longest_name, most_candidates, mo
 ghost use Rattle.election_tables.specs.Rules.{broken_rule, first_broken, typed_rules};
 ghost use Rattle.election_tables.specs.Tables.{AreTablesOf, BreaksFirst, IsNoDocument, IsReadAs, KeepsRules};
 ghost use Rattle.election_tables.specs.Verdict.{IsAnswerFor};
-ghost use Rattle.election_tables.specs.TablesData.{TablesData, IsOffice, IsTables, candidate_name, candidates_at, line_panels, party_name, place_with, places_at, section_with, without_name};
+ghost use Rattle.election_tables.specs.TablesData.{TablesData, IsOffice, IsTables, bloc_in, candidate_name, candidates_at, is_federation, line_panels, party_name, place_with, places_at, section_with, without_name};
 
 mod candidates;
+mod federations;
 mod panels;
 mod parties;
 mod sections;
@@ -18,6 +19,7 @@ use crate::document::Document;
 use crate::office::{Office, places_by};
 use crate::shape::broken_shape;
 pub use candidates::Candidate;
+use federations::{Federation, bloc_of, federations_of, is_federation};
 use panels::{Panel, panels_of};
 use parties::Parties;
 pub use sections::Section;
@@ -37,6 +39,7 @@ pub struct Tables {
     panels: Vec<Panel>,
     parties: Parties,
     sections: Sections,
+    federations: Vec<Federation>,
     digest: [u8; 32],
 }
 
@@ -52,6 +55,7 @@ impl Model for Tables {
       panels = t.panels.items;
       parties = t.parties;
       sections = t.sections;
+      federations = t.federations.items;
       digest = t.digest;
     } };
 
@@ -62,6 +66,7 @@ impl Model for Tables {
       panels = t.panels.items;
       parties = t.parties;
       sections = t.sections;
+      federations = t.federations.items;
       digest = t.digest;
     }) };
 }
@@ -84,13 +89,13 @@ pub enum TablesError {
     /// The bytes are no TOML document.
     #[error("the tables are no TOML document")]
     NotToml,
-    /// The first rule of docs/FORMATS.md, "Election tables", that the document breaks, 1 to 14.
+    /// The first rule of docs/FORMATS.md, "Election tables", that the document breaks.
     #[error("the tables break rule {0}")]
     Rule(u8),
 }
 
 impl Tables {
-    /// The tables of a document that keeps rules 4 to 14.
+    /// The tables of a document that keeps the rules from 4 on.
     fn of(alloc: Global, document: &Document, digest: [u8; 32]) -> Result<Tables, AllocError>
         requires { first_broken 4 (typed_rules document.now) ≡ None }
         ensures ok { IfOk result (AreTablesOf document.now) }
@@ -103,6 +108,7 @@ impl Tables {
             panels: panels_of(alloc, &document.offices, &document.candidates)?,
             parties: Parties::of(alloc, &document.parties)?,
             sections: Sections::of(alloc, &document.sections)?,
+            federations: federations_of(alloc, &document.federations)?,
             digest,
         })
     }
@@ -142,7 +148,7 @@ impl Tables {
 
         ensures not_toml { result ≡ Err TablesError.NotToml → IsNoDocument bytes.now }
         ensures rule { (k : ℕ) → result ≡ Err (TablesError.Rule k) → BreaksFirst bytes.now k }
-        ensures rule_number { (k : ℕ) → result ≡ Err (TablesError.Rule k) → (1 ≤ k) × (k ≤ 14) }
+        ensures rule_number { (k : ℕ) → result ≡ Err (TablesError.Rule k) → (1 ≤ k) × (k ≤ 17) }
 
         // and exactly there, unless memory ran out
         ensures not_toml_there { result ≢ Err TablesError.Memory → IsNoDocument bytes.now → result ≡ Err TablesError.NotToml }
@@ -190,7 +196,7 @@ impl Tables {
         places_by(office.code, u64::from(office.seats)) as u32
     }
 
-    /// How many lines the ballot has: in each panel one for each vote that a voter has there.
+    /// How many lines the ballot has: one line for each vote that a voter has in a panel, each that of its panel.
     pub fn ballot_lines(&self) -> u32
         ensures count { result ≡ length (line_panels self.now) }
         ensures few { result ≤ most_lines }
@@ -244,6 +250,25 @@ impl Tables {
         ensures short { IfSome result (λ name. (1 ≤ length name.now) × (length name.now ≤ longest_name)) }
     {
         self.parties.name_of(number)
+    }
+
+    /// The number of the bloc of a party: a federation counts as one party, by the lowest number of its parties, and a party
+    /// that is in none is a bloc by itself (Lei 9.096/1995, art. 11-A). `None` exactly where the tables have no such party.
+    pub fn bloc(&self, party: u8) -> Option<u8>
+        ensures bloc { result ≡ bloc_in self.now party }
+        ensures two_digits { IfSome result (λ b. (10 ≤ b) × (b ≤ 99)) }
+    {
+        if !self.parties.has(party) {
+            return None;
+        }
+        Some(bloc_of(&self.federations, party))
+    }
+
+    /// Whether a number is that of a federation, the lowest of its parties (Lei 9.096/1995, art. 11-A).
+    pub fn is_federation(&self, bloc: u8) -> bool
+        ensures { result ≡ is_federation self.now.federations bloc }
+    {
+        is_federation(&self.federations, bloc)
     }
 
     /// How many candidates the office of a panel has.

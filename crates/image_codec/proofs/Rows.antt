@@ -140,6 +140,7 @@ tables_b = record {
   } ∷ [];
   parties = record { number = 13; name = 80 ∷ 65 ∷ [] } ∷ record { number = 45; name = 80 ∷ 66 ∷ [] } ∷ [];
   sections = record { zone = 1; number = 42; voters = 1 } ∷ [];
+  federations = [];
   digest = [];
 }
 

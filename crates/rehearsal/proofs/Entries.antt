@@ -70,6 +70,7 @@ entries voters = record {
   parties = map party_entry parties;
   candidates = candidate_entries;
   sections = record { zone = pos 1; number = pos 1; voters = pos voters } ∷ [];
+  federations = [];
 }
 
 candidates_read : map candidate_of (tables_in (items_of candidate_tables)) ≡ candidate_entries

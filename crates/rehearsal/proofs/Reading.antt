@@ -86,6 +86,7 @@ entries_read voters digest = record {
   parties_rise = generated_parties_rise;
   sections = IsPermutation-refl _;
   sections_rise = (tt, tt);
+  federations = refl;
 }
 
 pub document_read : (voters : ℕ) (bytes : List ℕ) → 1 ≤ voters → voters ≤ most_voters → IsUtf8 bytes → parse_document bytes ≡ Some (document voters)

@@ -1,4 +1,4 @@
--- The rehearsal's document keeps the fourteen rules.
+-- The rehearsal's document keeps the rules.
 use Rattle.std.proofs.Common.{◌≡◌, ℕ, ℤ, ◌≤◌, ◌∙◌, ap, true, [], ◌∷◌, None, refl}
 use Rattle.std.specs.Fmt.{digits}
 use Rattle.std.proofs.lemmas.Bool.{le-leb}

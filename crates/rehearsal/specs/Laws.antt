@@ -10,7 +10,7 @@ use Rattle.rehearsal.specs.Roll.{generated_roll, roll_text}
 use Rattle.rehearsal.specs.Script.{generated_events, script_text}
 use Rattle.rehearsal.specs.Tables.{generated_tables}
 
--- each text of the rehearsal's document keeps all fourteen rules of the tables, and is read as the rehearsal's tables
+-- each text of the rehearsal's document keeps all rules of the tables, and is read as the rehearsal's tables
 abbrev pub TablesAreAccepted : Type 0
 TablesAreAccepted =
     (voters : ℕ) (text : List ℕ) → 1 ≤ voters → voters ≤ most_voters → IsDocument text (document voters)

@@ -43,5 +43,6 @@ generated_tables voters digest = record {
   panels = councillor_panel ∷ mayor_panel ∷ [];
   parties = map generated_party parties;
   sections = generated_section voters ∷ [];
+  federations = [];
   digest = digest;
 }

@@ -1,5 +1,7 @@
 //! What the law is applied to: a contest of parties for seats. Contracts see each list as its list.
-ghost use Rattle.std.specs.Prelude.{◌≡◌, ◌+◌, ◌<◌, ◌^◌, [], ◌∷◌, ◌++◌, length, OnErr, OnOk, Some, slice_get};
+ghost use Rattle.std.specs.Prelude.{◌≡◌, ◌+◌, ◌<◌, ◌^◌, [], ◌∷◌, ◌++◌, length, IfSome, OnErr, OnOk, Some, slice_get, slice_set};
+ghost use Rattle.seat_remainders.specs.Contest.{joined_by};
+ghost use Rattle.seat_remainders.specs.declared.contest.Contestant.{Contestant};
 ghost use Rattle.std.proofs.Common.{rules};
 ghost use Rattle.std.specs.Cmp.{partial_order_from_own_ties};
 ghost use Rattle.std.specs.Cmp.Rules.{comparing};
@@ -156,6 +158,18 @@ impl Contestants {
     {
         self.items.push(item)?;
         Ok(())
+    }
+
+    /// One candidate more of the i-th party, counted from 0, behind its others. The caller owes that there is such a party, and that it has
+    /// fewer than 2^32 - 1 candidates. `Memory` comes only where an allocation failed, and then nothing has changed.
+    pub fn push_candidate(&mut self, i: u32, item: Entry) -> Result<(), Memory>
+        requires party { i < length self.old }
+        requires room { IfSome (slice_get self.old i) (λ party. length party.candidates + 1 < 2 ^ 32) }
+        ensures pushed { OnOk result ((party : Contestant) → slice_get self.old i ≡ Some party
+            → self.new ≡ slice_set self.old i (joined_by item party)) }
+        ensures kept { OnErr result (self.new ≡ self.old) }
+    {
+        self.items[i as usize].candidates.push(item)
     }
 
     /// How many there are.

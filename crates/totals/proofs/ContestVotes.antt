@@ -1,20 +1,20 @@
--- The votes of a contest: those of its parties, and of the candidates, each of one party
+-- The votes of a contest: those of its parties and of its candidates, each of one bloc
 use Rattle.std.proofs.Common.{◌≡◌, ◌==◌, ◌+◌, ◌≤◌, ℕ, true, List, [], ◌∷◌, map, filter, sum_by, refl, inl, inr, ◌∙◌, arith}
 use Rattle.std.specs.List.{AllByRecursion, list_any}
 use Rattle.std.specs.List.Sorted.{IsStrictlyIncreasing}
 use Rattle.std.specs.Prelude.{nat_eq}
 use Rattle.std.proofs.lemmas.Bool.{cases_Bool}
 use Rattle.std.proofs.lemmas.List.Sums.{sum_by-cons}
-use Rattle.election_tables.specs.Fields.{first_two}
+use Rattle.election_tables.specs.TablesData.{TablesData, bloc_of}
 use Rattle.election_tables.specs.declared.tables.candidates.NamedCandidate.{NamedCandidate}
 use Rattle.election_tables.specs.declared.tables.panels.Panel.{Panel}
-use Rattle.election_tables.specs.declared.tables.parties.Party.{Party}
 use Rattle.poll_report.specs.declared.report.Report.{Report}
 use Rattle.section_intake.specs.Sums.{nominal_sum, party_sum}
 use Rattle.section_intake.proofs.NumberSums.{sum_both, sum_same, sum_zero, value_at, value_at_most, value_once}
 use Rattle.seat_remainders.specs.Parties.{nominal_votes, valid_votes, votes_of}
 use Rattle.seat_remainders.specs.declared.contest.Entry.{Entry}
-use Rattle.totals.specs.Contest.{contestant_in, entries_in, entry_of, is_of_party}
+use Rattle.totals.specs.Contest.{bloc_of_candidate, contestant_in, entries_in, entry_of, party_numbers}
+use Rattle.totals.specs.Giving.{candidates_of, party_votes_for}
 
 pub sum_mapped : {X Y : Type 0} (f : Y → ℕ) (g : X → Y) (xs : List X) → sum_by f (map g xs) ≡ sum_by (λ x. f (g x)) xs
 sum_mapped f g [] = refl
@@ -32,60 +32,60 @@ entries_sum reports panel cs =
     let right = sum_mapped (λ n. nominal_sum panel n reports) (λ (c : NamedCandidate). c.number) cs in
     omega (arith, left, right)
 
--- ---- party by party
+-- ---- number by number
 
--- what those of the entries count that are of a party with one of these numbers
-abbrev pub of_all : (Entry → ℕ) → ℕ → List ℕ → List Entry → ℕ
-of_all f digits ns entries = sum_by (λ n. sum_by f (filter (is_of_party digits n) entries)) ns
+-- what those of the elements count whose key is one of these numbers
+abbrev pub of_all : {X : Type 0} → (X → ℕ) → (X → ℕ) → List ℕ → List X → ℕ
+of_all f key ns xs = sum_by (λ n. sum_by f (filter (λ x. key x == n) xs)) ns
 
-none_of_all : (f : Entry → ℕ) (digits : ℕ) (ns : List ℕ) → of_all f digits ns [] ≡ 0
-none_of_all f digits ns = sum_zero (λ (n : ℕ). sum_by f []) ns (λ n. refl)
+none_of_all : {X : Type 0} (f key : X → ℕ) (ns : List ℕ) → of_all f key ns [] ≡ 0
+none_of_all f key ns = sum_zero (λ (n : ℕ). sum_by f []) ns (λ n. refl)
 
-split_one : (f : Entry → ℕ) (digits : ℕ) (e : Entry) (entries : List Entry) (n : ℕ)
-    → sum_by f (filter (is_of_party digits n) (e ∷ entries)) ≡ value_at (first_two digits e.number) (f e) n + sum_by f (filter (is_of_party digits n) entries)
-split_one f digits e entries n = elim (cases_Bool (first_two digits e.number == n)) [
-  | inl is ↦ let cons = sum_by-cons f e (filter (is_of_party digits n) entries) in rw is cons
+split_one : {X : Type 0} (f key : X → ℕ) (x : X) (xs : List X) (n : ℕ)
+    → sum_by f (filter (λ y. key y == n) (x ∷ xs)) ≡ value_at (key x) (f x) n + sum_by f (filter (λ y. key y == n) xs)
+split_one {X} f key x xs n = elim (cases_Bool (key x == n)) [
+  | inl is ↦ let cons = sum_by-cons f x (filter (λ (y : X). key y == n) xs) in rw is cons
   | inr other ↦ rw other (omega arith)
 ]
 
-one_of_all : (f : Entry → ℕ) (digits : ℕ) (e : Entry) (ns : List ℕ) (entries : List Entry)
-    → of_all f digits ns (e ∷ entries) ≡ sum_by (value_at (first_two digits e.number) (f e)) ns + of_all f digits ns entries
-one_of_all f digits e ns entries =
-    sum_same (λ n. sum_by f (filter (is_of_party digits n) (e ∷ entries)))
-    (λ n. value_at (first_two digits e.number) (f e) n + sum_by f (filter (is_of_party digits n) entries)) ns (split_one f digits e entries)
-    ∙ sum_both (value_at (first_two digits e.number) (f e)) (λ n. sum_by f (filter (is_of_party digits n) entries)) ns
+one_of_all : {X : Type 0} (f key : X → ℕ) (x : X) (ns : List ℕ) (xs : List X)
+    → of_all f key ns (x ∷ xs) ≡ sum_by (value_at (key x) (f x)) ns + of_all f key ns xs
+one_of_all {X} f key x ns xs =
+    sum_same (λ n. sum_by f (filter (λ (y : X). key y == n) (x ∷ xs))) (λ n. value_at (key x) (f x) n + sum_by f (filter (λ (y : X). key y == n) xs)) ns
+    (split_one f key x xs)
+    ∙ sum_both (value_at (key x) (f x)) (λ n. sum_by f (filter (λ (y : X). key y == n) xs)) ns
 
--- each candidate is of one party at most,
-pub once_at_most : (f : Entry → ℕ) (digits : ℕ) (ns : List ℕ) (entries : List Entry) → IsStrictlyIncreasing ns → of_all f digits ns entries ≤ sum_by f entries
-once_at_most f digits ns [] rise = let none = none_of_all f digits ns in omega arith
-once_at_most f digits ns (e ∷ entries) rise =
-    let split = one_of_all f digits e ns entries in
-    let this = value_at_most (first_two digits e.number) (f e) ns rise in
-    let rest = once_at_most f digits ns entries rise in
-    let cons = sum_by-cons f e entries in
+-- each element has one number at most,
+pub once_at_most : {X : Type 0} (f key : X → ℕ) (ns : List ℕ) (xs : List X) → IsStrictlyIncreasing ns → of_all f key ns xs ≤ sum_by f xs
+once_at_most f key ns [] rise = let none = none_of_all f key ns in omega arith
+once_at_most f key ns (x ∷ xs) rise =
+    let split = one_of_all f key x ns xs in
+    let this = value_at_most (key x) (f x) ns rise in
+    let rest = once_at_most f key ns xs rise in
+    let cons = sum_by-cons f x xs in
     omega (arith, split, this, rest, cons)
 
--- and of one where the first two digits are those of one
-pub each_once : (f : Entry → ℕ) (digits : ℕ) (ns : List ℕ) (entries : List Entry) → IsStrictlyIncreasing ns
-    → AllByRecursion (λ e. list_any (nat_eq (first_two digits e.number)) ns ≡ true) entries → of_all f digits ns entries ≡ sum_by f entries
-each_once f digits ns [] rise all = none_of_all f digits ns
-each_once f digits ns (e ∷ entries) rise all =
-    let split = one_of_all f digits e ns entries in
-    let this = value_once (first_two digits e.number) (f e) ns rise all.0 in
-    let rest = each_once f digits ns entries rise all.1 in
-    let cons = sum_by-cons f e entries in
+-- and one where its key is among them
+pub each_once : {X : Type 0} (f key : X → ℕ) (ns : List ℕ) (xs : List X) → IsStrictlyIncreasing ns
+    → AllByRecursion (λ x. list_any (nat_eq (key x)) ns ≡ true) xs → of_all f key ns xs ≡ sum_by f xs
+each_once f key ns [] rise all = none_of_all f key ns
+each_once f key ns (x ∷ xs) rise all =
+    let split = one_of_all f key x ns xs in
+    let this = value_once (key x) (f x) ns rise all.0 in
+    let rest = each_once f key ns xs rise all.1 in
+    let cons = sum_by-cons f x xs in
     omega (arith, split, this, rest, cons)
 
--- the valid votes of the parties are their party votes and the votes of those that are of them
-pub parties_sum : (reports : List Report) (panel : ℕ) (p : Panel) (parties : List Party)
-    → valid_votes (map (contestant_in reports panel p) parties)
-    ≡ sum_by (λ n. party_sum panel n reports) (map (λ q. q.number) parties)
-    + of_all (λ e. e.votes) p.office.digits (map (λ q. q.number) parties) (entries_in reports panel p)
-parties_sum reports panel p [] = refl
-parties_sum reports panel p (q ∷ parties) =
+-- the valid votes of blocs are the party votes of their parties and the votes of their candidates
+pub blocs_sum : (t : TablesData) (reports : List Report) (panel : ℕ) (p : Panel) (blocs : List ℕ)
+    → valid_votes (map (contestant_in t reports panel p) blocs)
+    ≡ of_all (λ q. party_sum panel q reports) (bloc_of t.federations) blocs (party_numbers t)
+    + of_all (λ c. c.votes) (bloc_of_candidate t p.office.digits) blocs (entries_in reports panel p)
+blocs_sum t reports panel p [] = refl
+blocs_sum t reports panel p (b ∷ blocs) =
     let es = entries_in reports panel p in
-    let all = sum_by-cons votes_of (contestant_in reports panel p q) (map (contestant_in reports panel p) parties) in
-    let party = sum_by-cons (λ n. party_sum panel n reports) q.number (map (λ q. q.number) parties) in
-    let own = sum_by-cons (λ n. nominal_votes (filter (is_of_party p.office.digits n) es)) q.number (map (λ q. q.number) parties) in
-    let more = parties_sum reports panel p parties in
+    let all = sum_by-cons votes_of (contestant_in t reports panel p b) (map (contestant_in t reports panel p) blocs) in
+    let party = sum_by-cons (λ n. party_votes_for t reports panel n) b blocs in
+    let own = sum_by-cons (λ n. nominal_votes (candidates_of t p.office.digits n es)) b blocs in
+    let more = blocs_sum t reports panel p blocs in
     omega (arith, all, party, own, more)

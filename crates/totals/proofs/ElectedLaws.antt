@@ -1,16 +1,16 @@
 -- Whoever is elected is a candidate of the office, and has one seat
-use Rattle.std.proofs.Common.{◌≡◌, ◌==◌, ◌<◌, ◌*◌, ◌≤◌, ◌&&◌, leb, ℕ, Bool, nat_lt, List, [], ◌∷◌, length, map, filter, take, get_or, sum_by, cond, refl, sym, ap, subst, inl, inr, arith}
-use Rattle.std.specs.List.{All, Any, Contains}
+use Rattle.std.proofs.Common.{◌≡◌, ◌==◌, ◌<◌, ◌*◌, ◌≤◌, ◌&&◌, leb, ℕ, Bool, nat_lt, List, [], ◌∷◌, ◌++◌, length, map, filter, take, get_or, sum_by, cond, refl, sym, ap, subst, ◌∙◌, inl, inr, arith}
+use Rattle.std.specs.List.{All, Any, Contains, flat_map}
 use Rattle.std.specs.List.Sorted.{IsStrictlyIncreasing}
-use Rattle.std.proofs.lemmas.Bool.{cases_Bool, ltb-true}
+use Rattle.std.proofs.lemmas.Bool.{cases_Bool, eqb-true, ltb-true}
 use Rattle.std.proofs.lemmas.List.Elements.{All-append, All-cons, All-contains_itself, All-filter, All-head, All-map, All-nil, All-tail, All-take, filter_passes}
 use Rattle.std.proofs.lemmas.List.{length-map, length-take}
 use Rattle.std.proofs.lemmas.List.Sorted.{All-permutation}
 use Rattle.std.proofs.lemmas.List.Sums.{length-filter, sum_by-append, sum_by-cons, sum_by-take-le}
-use Rattle.election_tables.specs.TablesData.{IsTables, TablesData}
+use Rattle.election_tables.specs.Fields.{first_two}
+use Rattle.election_tables.specs.TablesData.{IsTables, TablesData, bloc_of}
 use Rattle.election_tables.specs.declared.tables.candidates.NamedCandidate.{NamedCandidate}
 use Rattle.election_tables.specs.declared.tables.panels.Panel.{Panel}
-use Rattle.election_tables.specs.declared.tables.parties.Party.{Party}
 use Rattle.poll_report.specs.declared.report.Report.{Report}
 use Rattle.vote_kinds.specs.Ballot.{line_of, panel_at}
 use Rattle.section_intake.proofs.NumberSums.{value_at, value_at_most}
@@ -24,8 +24,10 @@ use Rattle.seat_remainders.specs.declared.contest.Contestant.{Contestant}
 use Rattle.seat_remainders.specs.declared.contest.Entry.{Entry}
 use Rattle.seat_remainders.specs.declared.outcome.Award.{Award}
 use Rattle.seat_remainders.proofs.Ordered.{in_order-permutation, in_order-sum}
-use Rattle.totals.specs.Contest.{contestant_in, entries_in, entry_of, is_of_party}
-use Rattle.totals.specs.Laws.{ElectedAreCandidates, ElectedHaveVotes, MajorityIsOfCandidates, NobodyHasTwoSeats, NobodyIsElectedTwice, SeatsAreOfCandidates, SeatsAreTaken, named_by}
+use Rattle.totals.specs.Contest.{bloc_of_candidate, blocs_of, contestant_in, entries_in, entry_of}
+use Rattle.totals.specs.Giving.{candidates_of}
+use Rattle.totals.specs.Laws.{ElectedAreCandidates, ElectedHaveVotes, MajorityIsOfCandidates, NobodyHasTwoSeats, NobodyIsElectedTwice, SeatsAreOfBlocs, SeatsAreOfCandidates, SeatsAreTaken, named_by}
+use Rattle.totals.proofs.BlocLaws.{blocs_rise}
 use Rattle.totals.proofs.ContestVotes.{of_all, once_at_most, sum_mapped}
 use Rattle.totals.proofs.SimpleRule.{own_numbers, sum_by-filter-le}
 
@@ -44,17 +46,17 @@ in_order_too : (Q : Entry → Type 0) (entries : List Entry) → All Q entries �
 in_order_too Q entries all = All-permutation Q entries (in_order entries) (in_order-permutation entries) all
 
 -- and of the elected
-of_elected : (P : ℕ → Type 0) (qe : ℕ) (awards : List Award) (reports : List Report) (panel : ℕ) (p : Panel) (parties : List Party)
-    → All (λ (e : Entry). P e.number) (entries_in reports panel p) → All P (elected_by qe awards (map (contestant_in reports panel p) parties))
-of_elected P qe awards reports panel p [] all = All-nil P
-of_elected P qe awards reports panel p (q ∷ parties) all =
+of_elected : (P : ℕ → Type 0) (qe : ℕ) (awards : List Award) (t : TablesData) (reports : List Report) (panel : ℕ) (p : Panel) (blocs : List ℕ)
+    → All (λ (e : Entry). P e.number) (entries_in reports panel p) → All P (elected_by qe awards (map (contestant_in t reports panel p) blocs))
+of_elected P qe awards t reports panel p [] all = All-nil P
+of_elected P qe awards t reports panel p (b ∷ blocs) all =
     let Q : Entry → Type 0 = λ e. P e.number in
-    let c : Contestant = contestant_in reports panel p q in
-    let own = All-filter (is_of_party p.office.digits q.number) Q (entries_in reports panel p) all in
+    let c : Contestant = contestant_in t reports panel p b in
+    let own = All-filter (λ (e : Entry). bloc_of_candidate t p.office.digits e == b) Q (entries_in reports panel p) all in
     let first = All-take Q (seats_after qe awards c) (in_order c.candidates) (in_order_too Q c.candidates own) in
-    All-append P (elected_of qe awards c) (elected_by qe awards (map (contestant_in reports panel p) parties))
+    All-append P (elected_of qe awards c) (elected_by qe awards (map (contestant_in t reports panel p) blocs))
     (All-map P (λ (e : Entry). e.number) (take (seats_after qe awards c) (in_order c.candidates)) first)
-    (of_elected P qe awards reports panel p parties all)
+    (of_elected P qe awards t reports panel p blocs all)
 
 -- the entries are of the office's candidates
 are_candidates : (t : TablesData) (reports : List Report) (panel : ℕ)
@@ -66,7 +68,32 @@ are_candidates t reports panel =
 pub seats_are_of_candidates : SeatsAreOfCandidates
 seats_are_of_candidates t reports panel s given =
     let P : ℕ → Type 0 = Contains (line_of t panel).candidates in
-    subst (All P) (sym given.elected) (of_elected P s.quotient s.awards reports panel (panel_at t panel) t.parties (are_candidates t reports panel))
+    subst (All P) (sym given.elected) (of_elected P s.quotient s.awards t reports panel (panel_at t panel) (blocs_of t) (are_candidates t reports panel))
+
+bloc_by_bloc : (qe : ℕ) (awards : List Award) (of_bloc : ℕ → Contestant) (blocs : List ℕ)
+    → elected_by qe awards (map of_bloc blocs) ≡ flat_map (λ bloc. elected_of qe awards (of_bloc bloc)) blocs
+bloc_by_bloc qe awards of_bloc [] = refl
+bloc_by_bloc qe awards of_bloc (b ∷ blocs) = ap (λ (l : List ℕ). elected_of qe awards (of_bloc b) ++ l) (bloc_by_bloc qe awards of_bloc blocs)
+
+own_elected : (t : TablesData) (reports : List Report) (panel qe bloc : ℕ) (awards : List Award)
+    → All (λ number. bloc_of t.federations (first_two (panel_at t panel).office.digits number) ≡ bloc)
+    (elected_of qe awards (contestant_in t reports panel (panel_at t panel) bloc))
+own_elected t reports panel qe bloc awards =
+    let p = panel_at t panel in
+    let P : ℕ → Type 0 = λ n. bloc_of t.federations (first_two p.office.digits n) ≡ bloc in
+    let Q : Entry → Type 0 = λ e. P e.number in
+    let c : Contestant = contestant_in t reports panel p bloc in
+    let own : All Q c.candidates = λ i d lt. eqb-true _ _ (filter_passes (λ (e : Entry). bloc_of_candidate t p.office.digits e == bloc) (entries_in reports panel p) i d lt) in
+    All-map P (λ (e : Entry). e.number) (take (seats_after qe awards c) (in_order c.candidates))
+    (All-take Q (seats_after qe awards c) (in_order c.candidates) (in_order_too Q c.candidates own))
+
+pub seats_are_of_blocs : SeatsAreOfBlocs
+seats_are_of_blocs t reports panel s given =
+    let make = contestant_in t reports panel (panel_at t panel) in (
+      λ bloc. elected_of s.quotient s.awards (make bloc),
+      given.elected ∙ bloc_by_bloc s.quotient s.awards make (blocs_of t),
+      λ bloc. (refl, own_elected t reports panel s.quotient bloc s.awards),
+    )
 
 -- ---- of a majority office
 
@@ -101,7 +128,7 @@ majority_is_of_candidates t reports panel absolute =
 
 -- ---- one seat
 
--- the elected of a party count no more than its candidates
+-- the elected of a bloc count no more than its candidates
 few_of : (f : ℕ → ℕ) (qe : ℕ) (awards : List Award) (c : Contestant) → sum_by f (elected_of qe awards c) ≤ sum_by (λ e. f e.number) c.candidates
 few_of f qe awards c =
     let g : Entry → ℕ = λ e. f e.number in
@@ -111,26 +138,26 @@ few_of f qe awards c =
     let whole = in_order-sum g c.candidates in
     omega (arith, numbers, part, whole)
 
--- nor those of all parties
-few_by : (f : ℕ → ℕ) (qe : ℕ) (awards : List Award) (reports : List Report) (panel : ℕ) (p : Panel) (parties : List Party)
-    → sum_by f (elected_by qe awards (map (contestant_in reports panel p) parties))
-    ≤ of_all (λ e. f e.number) p.office.digits (map (λ q. q.number) parties) (entries_in reports panel p)
-few_by f qe awards reports panel p [] = omega arith
-few_by f qe awards reports panel p (q ∷ parties) =
-    let c : Contestant = contestant_in reports panel p q in
+-- nor those of all blocs
+few_by : (f : ℕ → ℕ) (qe : ℕ) (awards : List Award) (t : TablesData) (reports : List Report) (panel : ℕ) (p : Panel) (blocs : List ℕ)
+    → sum_by f (elected_by qe awards (map (contestant_in t reports panel p) blocs))
+    ≤ of_all (λ e. f e.number) (bloc_of_candidate t p.office.digits) blocs (entries_in reports panel p)
+few_by f qe awards t reports panel p [] = omega arith
+few_by f qe awards t reports panel p (b ∷ blocs) =
+    let c : Contestant = contestant_in t reports panel p b in
     let es = entries_in reports panel p in
-    let both = sum_by-append f (elected_of qe awards c) (elected_by qe awards (map (contestant_in reports panel p) parties)) in
+    let both = sum_by-append f (elected_of qe awards c) (elected_by qe awards (map (contestant_in t reports panel p) blocs)) in
     let own = few_of f qe awards c in
-    let others = few_by f qe awards reports panel p parties in
-    let all = sum_by-cons (λ n. sum_by (λ (e : Entry). f e.number) (filter (is_of_party p.office.digits n) es)) q.number (map (λ q. q.number) parties) in
+    let others = few_by f qe awards t reports panel p blocs in
+    let all = sum_by-cons (λ n. sum_by (λ (e : Entry). f e.number) (candidates_of t p.office.digits n es)) b blocs in
     omega (arith, both, own, others, all)
 
 pub nobody_has_two : NobodyHasTwoSeats
 nobody_has_two t reports panel number s is lt given =
     let p = panel_at t panel in
     let f : ℕ → ℕ = λ n. value_at number 1 n in
-    let few = few_by f s.quotient s.awards reports panel p t.parties in
-    let once = once_at_most (λ e. f e.number) p.office.digits (map (λ q. q.number) t.parties) (entries_in reports panel p) is.parties_rise in
+    let few = few_by f s.quotient s.awards t reports panel p (blocs_of t) in
+    let once = once_at_most (λ (e : Entry). f e.number) (bloc_of_candidate t p.office.digits) (blocs_of t) (entries_in reports panel p) (blocs_rise t is) in
     let entries = sum_mapped (λ (e : Entry). f e.number) (entry_of reports panel) p.candidates in
     let numbers = sum_mapped f (λ (c : NamedCandidate). c.number) p.candidates in
     let one = value_at_most number 1 (line_of t panel).candidates (candidates_rise t is panel lt) in

@@ -1,18 +1,18 @@
 -- The contest of a panel is one that the law of seats is for
-use Rattle.std.proofs.Common.{◌≡◌, ◌==◌, ◌<◌, ◌≤◌, ◌^◌, ℕ, Bool, List, [], ◌∷◌, length, map, find, refl, sym, ap, subst, inl, inr, arith}
+use Rattle.std.proofs.Common.{◌≡◌, ◌==◌, ◌<◌, ◌≤◌, ◌^◌, ℕ, Bool, List, [], ◌∷◌, length, map, find, refl, sym, ap, subst, ◌∙◌, inl, inr, arith}
 use Rattle.std.specs.List.{AllByRecursion}
 use Rattle.std.specs.List.Sorted.{IsStrictlyIncreasing}
 use Rattle.std.specs.Option.{option_map_or}
 use Rattle.std.proofs.lemmas.Bool.{cases_Bool}
 use Rattle.election_tables.specs.Offices.{most_seats, office_rows, row_of}
 use Rattle.election_tables.specs.TablesData.{IsTables, TablesData}
-use Rattle.election_tables.specs.declared.tables.panels.Panel.{Panel}
-use Rattle.election_tables.specs.declared.tables.parties.Party.{Party}
 use Rattle.poll_report.specs.declared.report.Report.{Report}
 use Rattle.vote_kinds.specs.Ballot.{panel_at}
 use Rattle.seat_remainders.specs.Contest.{IsContest}
 use Rattle.seat_remainders.specs.Parties.{valid_votes}
-use Rattle.totals.specs.Contest.{contest_in, contestant_in}
+use Rattle.seat_remainders.specs.declared.contest.Contestant.{Contestant}
+use Rattle.totals.specs.Contest.{blocs_of, contest_in, contestant_in}
+use Rattle.totals.proofs.BlocLaws.{blocs_rise}
 use Rattle.totals.proofs.VoteLaws.{panel_is}
 
 -- ---- seats
@@ -33,10 +33,9 @@ few_seats code =
 
 -- ---- the contest
 
-numbers_are : (reports : List Report) (panel : ℕ) (p : Panel) (parties : List Party)
-    → map (λ c. c.number) (map (contestant_in reports panel p) parties) ≡ map (λ q. q.number) parties
-numbers_are reports panel p [] = refl
-numbers_are reports panel p (q ∷ parties) = ap (λ (l : List ℕ). q.number ∷ l) (numbers_are reports panel p parties)
+pub numbers_are : (of_bloc : ℕ → Contestant) → ((bloc : ℕ) → (of_bloc bloc).number ≡ bloc) → (blocs : List ℕ) → map (λ c. c.number) (map of_bloc blocs) ≡ blocs
+numbers_are of_bloc is [] = refl
+numbers_are of_bloc is (b ∷ blocs) = ap (λ (n : ℕ). n ∷ map (λ c. c.number) (map of_bloc blocs)) (is b) ∙ ap (λ (l : List ℕ). b ∷ l) (numbers_are of_bloc is blocs)
 
 pub lawful : (t : TablesData) → IsTables t → (reports : List Report) (panel : ℕ) → panel < length t.panels
     → valid_votes (contest_in t reports panel).parties ≤ 10 ^ 12 → IsContest (contest_in t reports panel)
@@ -46,6 +45,6 @@ lawful t is reports panel lt votes =
     record {
       some = fits.seats.0;
       few = let most = few_seats p.office.code in let seats = fits.seats.1 in omega arith;
-      rising = subst IsStrictlyIncreasing (sym (numbers_are reports panel p t.parties)) is.parties_rise;
+      rising = subst IsStrictlyIncreasing (sym (numbers_are (contestant_in t reports panel p) (λ bloc. refl) (blocs_of t))) (blocs_rise t is);
       votes = votes;
     }

@@ -1,9 +1,11 @@
+pub mod BlocLaws
 pub mod Bounds
 pub mod ContestVotes
 pub mod ElectedLaws
 pub mod Lawful
 pub mod LineLaws
-mod Rows
+pub mod OwnCandidates
+pub mod Rows
 pub mod SimpleRule
 pub mod Told
 pub mod TotalsLaws

@@ -3,6 +3,7 @@ use Rattle.std.proofs.Common.{◌≡◌, ◌+◌, ◌<◌, ◌≤◌, ◌^◌, �
 use Rattle.std.specs.Fmt.{decimal}
 use Rattle.std.proofs.Common.{length-append}
 use Rattle.std.proofs.lemmas.Fmt.{length-decimal-le}
+use Rattle.election_tables.specs.TablesData.{TablesData}
 use Rattle.seat_remainders.specs.declared.outcome.Award.{Award}
 use Rattle.totals.specs.Lines.{award_line, award_lines}
 
@@ -20,22 +21,22 @@ line_behind now before line told push is = push ∙ ap (λ x. before ++ x ∷ []
 pub behind : {X : Type 0} (now before fn told own : List X) → now ≡ before ++ own → before ≡ fn ++ told → now ≡ fn ++ (told ++ own)
 behind now before fn told own more so_far = more ∙ (ap (λ ls. ls ++ own) so_far ∙ append_assoc fn told own)
 
-awards_then : (first : ℕ) (ws : List Award) (i : ℕ) (w : Award) → slice_get ws i ≡ Some w
-    → award_lines first (take (suc i) ws) ≡ award_lines first (take i ws) ++ award_line (first + i) w ∷ []
-awards_then first [] i w at = absurd (cc)
-awards_then first (v ∷ ws) zero w at =
+awards_then : (t : TablesData) (first : ℕ) (ws : List Award) (i : ℕ) (w : Award) → slice_get ws i ≡ Some w
+    → award_lines t first (take (suc i) ws) ≡ award_lines t first (take i ws) ++ award_line t (first + i) w ∷ []
+awards_then t first [] i w at = absurd (cc)
+awards_then t first (v ∷ ws) zero w at =
     let same : v ≡ w = cc in
-    ap (λ (x : Award). award_line first x ∷ []) same ∙ ap (λ (k : ℕ). award_line k w ∷ []) (omega arith)
-awards_then first (v ∷ ws) (suc i) w at =
-    ap (λ (ls : List (List ℕ)). award_line first v ∷ ls) (awards_then (first + 1) ws i w at)
-    ∙ ap (λ (k : ℕ). award_line first v ∷ (award_lines (first + 1) (take i ws) ++ award_line k w ∷ [])) (omega arith)
+    ap (λ (x : Award). award_line t first x ∷ []) same ∙ ap (λ (k : ℕ). award_line t k w ∷ []) (omega arith)
+awards_then t first (v ∷ ws) (suc i) w at =
+    ap (λ (ls : List (List ℕ)). award_line t first v ∷ ls) (awards_then t (first + 1) ws i w at)
+    ∙ ap (λ (k : ℕ). award_line t first v ∷ (award_lines t (first + 1) (take i ws) ++ award_line t k w ∷ [])) (omega arith)
 
 -- one round more
-pub awards_more : (ws : List Award) (i round : ℕ) (w : Award) → slice_get ws i ≡ Some w → round ≡ i + 1
-    → award_lines 1 (take (i + 1) ws) ≡ award_lines 1 (take i ws) ++ award_line round w ∷ []
-awards_more ws i round w at is =
-    ap (λ (k : ℕ). award_lines 1 (take k ws)) (add-one i)
-    ∙ (awards_then 1 ws i w at ∙ ap (λ (k : ℕ). award_lines 1 (take i ws) ++ award_line k w ∷ []) (omega (arith, is)))
+pub awards_more : (t : TablesData) (ws : List Award) (i round : ℕ) (w : Award) → slice_get ws i ≡ Some w → round ≡ i + 1
+    → award_lines t 1 (take (i + 1) ws) ≡ award_lines t 1 (take i ws) ++ award_line t round w ∷ []
+awards_more t ws i round w at is =
+    ap (λ (k : ℕ). award_lines t 1 (take k ws)) (add-one i)
+    ∙ (awards_then t 1 ws i w at ∙ ap (λ (k : ℕ). award_lines t 1 (take i ws) ++ award_line t k w ∷ []) (omega (arith, is)))
 
 -- a number below 10^8 has at most 8 digits
 pub length-decimal-le_8 : (v : ℕ) → v < 10 ^ 8 → length (decimal v) ≤ 8

@@ -47,6 +47,7 @@ tables = record {
   panels = councillors ∷ mayor ∷ [];
   parties = party 10 ∷ party 11 ∷ [];
   sections = section 1 ∷ section 2 ∷ section 3 ∷ [];
+  federations = [];
   digest = [];
 }
 
@@ -107,6 +108,47 @@ two_offices : AreTotals tables (first ∷ second ∷ []) (
 unfolding digits
 two_offices = are_totals tables (first ∷ second ∷ [])
 
+abbrev three_seats : Panel
+three_seats = record {
+  office = record { code = 13; digits = 5; kind = kind.Proportional; seats = 3 };
+  candidates = candidate 10001 19600101 ∷ candidate 10002 19600101 ∷ candidate 20001 19600101 ∷ candidate 30001 19600101 ∷ candidate 30002 19600101 ∷ [];
+}
+
+abbrev federated : TablesData
+federated = record {
+  process = 1;
+  date = 20241006;
+  turn = 1;
+  panels = three_seats ∷ [];
+  parties = party 10 ∷ party 20 ∷ party 30 ∷ [];
+  sections = section 1 ∷ [];
+  federations = record { name = codes "NOME"; parties = 30 ∷ 20 ∷ [] } ∷ [];
+  digest = [];
+}
+
+-- parties 20 and 30 are one federation, whose number is 20, and its candidates stand in one order
+of_a_federation : AreTotals federated (
+    report 1 180 (office 13 (count 10001 60 ∷ count 10002 20 ∷ count 20001 35 ∷ count 30001 40 ∷ count 30002 25 ∷ []) [] 0 0 ∷ []) ∷ []) (
+    line (codes "SECOES 1 DE 1")
+    ∷ line (codes "CARGO 13 VALIDOS 180 NOMINAIS 180 LEGENDA 0 BRANCOS 0 NULOS 0 TOTAL 180")
+    ∷ line (codes "CANDIDATO 10001 VOTOS 60")
+    ∷ line (codes "CANDIDATO 10002 VOTOS 20")
+    ∷ line (codes "CANDIDATO 20001 VOTOS 35")
+    ∷ line (codes "CANDIDATO 30001 VOTOS 40")
+    ∷ line (codes "CANDIDATO 30002 VOTOS 25")
+    ∷ line (codes "QUOCIENTE 60")
+    ∷ line (codes "PARTIDO 10 VOTOS 80 QP 1 VAGAS 1")
+    ∷ line (codes "FEDERACAO 20 VOTOS 100 QP 1 VAGAS 2")
+    ∷ line (codes "SOBRA 1 FASE 2 FEDERACAO 20")
+    ∷ line (codes "ELEITO 10001 VOTOS 60")
+    ∷ line (codes "ELEITO 30001 VOTOS 40")
+    ∷ line (codes "ELEITO 20001 VOTOS 35")
+    ∷ line (codes "VAGAS VAZIAS 0")
+    ∷ [])
+unfolding digits
+of_a_federation = are_totals federated (
+    report 1 180 (office 13 (count 10001 60 ∷ count 10002 20 ∷ count 20001 35 ∷ count 30001 40 ∷ count 30002 25 ∷ []) [] 0 0 ∷ []) ∷ [])
+
 -- in the second turn half of them is enough
 in_turn_two : AreTotals (record {
   process = 1;
@@ -115,6 +157,7 @@ in_turn_two : AreTotals (record {
   panels = mayor ∷ [];
   parties = party 10 ∷ party 11 ∷ [];
   sections = section 1 ∷ [];
+  federations = [];
   digest = [];
 }) (report 1 50 (office 11 (count 10 20 ∷ count 11 20 ∷ []) [] 5 5 ∷ []) ∷ []) (
     line (codes "SECOES 1 DE 1")
@@ -157,6 +200,7 @@ two_senators : AreTotals (record {
   panels = senators ∷ [];
   parties = party 10 ∷ party 20 ∷ [];
   sections = section 1 ∷ [];
+  federations = [];
   digest = [];
 }) (report 1 2 (record { code = 5; places = 2; nominal = count 101 2 ∷ count 201 1 ∷ []; parties = []; blank = 1; null_votes = 0 } ∷ []) ∷ []) (
     line (codes "SECOES 1 DE 1")
@@ -190,6 +234,6 @@ elected : majority_line (Elected 11) ≡ line (codes "ELEITO 11")
 unfolding digits
 elected = refl
 
-over : outcome_lines (λ number. 0) (outcome.Over 4 3) ≡ line (codes "QUOCIENTE EXCEDIDO 4 3") ∷ []
+over : outcome_lines tables (λ number. 0) (outcome.Over 4 3) ≡ line (codes "QUOCIENTE EXCEDIDO 4 3") ∷ []
 unfolding digits
 over = refl

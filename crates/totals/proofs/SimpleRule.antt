@@ -59,9 +59,9 @@ in_order-filter f (c ∷ cs) = elim (cases_Bool (f c)) [
   | inr out ↦ rw out (in_order-filter f cs ∙ sym (left_out f c (in_order cs) out))
 ]
 
--- some of the candidates have no more votes, nor anything else, than all
-pub sum_by-filter-le : (f : Entry → Bool) (g : Entry → ℕ) (cs : List Entry) → sum_by g (filter f cs) ≤ sum_by g cs
-sum_by-filter-le f g cs = let both = sum_by-filter_both f (λ c. not (f c)) (λ c. refl) g cs in omega arith
+-- some have no more votes, nor anything else, than all
+pub sum_by-filter-le : {X : Type 0} (f : X → Bool) (g : X → ℕ) (xs : List X) → sum_by g (filter f xs) ≤ sum_by g xs
+sum_by-filter-le f g xs = let both = sum_by-filter_both f (λ x. not (f x)) (λ x. refl) g xs in omega arith
 
 -- ---- the others than the first
 

@@ -28,15 +28,15 @@ use Rattle.totals.proofs.LineLaws.{behind}
 -- ---- there are such lines
 
 -- what comes of an office, as it is computed
-abbrev result_of : Kind → ℕ → Contest → List Entry → (ℕ → ℕ) → List (List ℕ)
-result_of kind.Proportional turn contest candidates votes = outcome_lines votes (outcome_of contest)
-result_of kind.Absolute turn contest candidates votes = majority_line (majority_outcome candidates (turn == 1)) ∷ []
-result_of kind.Simple turn contest candidates votes = simple_lines (elected_simply contest.seats candidates)
+abbrev result_of : Kind → TablesData → Contest → List Entry → (ℕ → ℕ) → List (List ℕ)
+result_of kind.Proportional t contest candidates votes = outcome_lines t votes (outcome_of contest)
+result_of kind.Absolute t contest candidates votes = majority_line (majority_outcome candidates (t.turn == 1)) ∷ []
+result_of kind.Simple t contest candidates votes = simple_lines (elected_simply contest.seats candidates)
 
 abbrev lines_of_panel : TablesData → List Report → ℕ → Panel → List (List ℕ)
 lines_of_panel t reports panel p =
     office_line p.office.code (votes_in reports panel) ∷ (map candidate_line (entries_in reports panel p)
-    ++ result_of p.office.kind t.turn (contest_for t reports panel p) (entries_in reports panel p) (λ number. nominal_sum panel number reports))
+    ++ result_of p.office.kind t (contest_for t reports panel p) (entries_in reports panel p) (λ number. nominal_sum panel number reports))
 
 abbrev lines_of_panels : TablesData → List Report → ℕ → List Panel → List (List ℕ)
 lines_of_panels t reports first [] = []
@@ -45,15 +45,15 @@ lines_of_panels t reports first (p ∷ panels) = lines_of_panel t reports first 
 abbrev pub lines_of_totals : TablesData → List Report → List (List ℕ)
 lines_of_totals t reports = section_line (length reports) (length t.sections) ∷ lines_of_panels t reports 0 t.panels
 
-tell_result : (k : Kind) (turn : ℕ) (contest : Contest) (candidates : List Entry) (votes : ℕ → ℕ) → TellResult k turn contest candidates votes (result_of k turn contest candidates votes)
-tell_result kind.Proportional turn contest candidates votes = (outcome_of contest, outcome_is contest, refl)
-tell_result kind.Absolute turn contest candidates votes = refl
-tell_result kind.Simple turn contest candidates votes = refl
+tell_result : (k : Kind) (t : TablesData) (contest : Contest) (candidates : List Entry) (votes : ℕ → ℕ) → TellResult k t contest candidates votes (result_of k t contest candidates votes)
+tell_result kind.Proportional t contest candidates votes = (outcome_of contest, outcome_is contest, refl)
+tell_result kind.Absolute t contest candidates votes = refl
+tell_result kind.Simple t contest candidates votes = refl
 
 tell_panel : (t : TablesData) (reports : List Report) (panel : ℕ) (p : Panel) → TellPanel t reports panel p (lines_of_panel t reports panel p)
 tell_panel t reports panel p = record {
-  result = result_of p.office.kind t.turn (contest_for t reports panel p) (entries_in reports panel p) (λ number. nominal_sum panel number reports);
-  told = tell_result p.office.kind t.turn (contest_for t reports panel p) (entries_in reports panel p) (λ number. nominal_sum panel number reports);
+  result = result_of p.office.kind t (contest_for t reports panel p) (entries_in reports panel p) (λ number. nominal_sum panel number reports);
+  told = tell_result p.office.kind t (contest_for t reports panel p) (entries_in reports panel p) (λ number. nominal_sum panel number reports);
   all = refl;
 }
 
@@ -70,18 +70,18 @@ some_totals t reports = (lines_of_totals t reports, are_totals t reports)
 
 -- ---- and no others
 
-one_result : (k : Kind) (turn : ℕ) (contest : Contest) (candidates : List Entry) (votes : ℕ → ℕ) (lines others : List (List ℕ))
-    → TellResult k turn contest candidates votes lines → TellResult k turn contest candidates votes others → lines ≡ others
-one_result kind.Proportional turn contest candidates votes lines others (o, is, all) (u, are, also) =
+one_result : (k : Kind) (t : TablesData) (contest : Contest) (candidates : List Entry) (votes : ℕ → ℕ) (lines others : List (List ℕ))
+    → TellResult k t contest candidates votes lines → TellResult k t contest candidates votes others → lines ≡ others
+one_result kind.Proportional t contest candidates votes lines others (o, is, all) (u, are, also) =
     let same : o ≡ u = only_outcome contest o is ∙ sym (only_outcome contest u are) in
-    all ∙ (ap (outcome_lines votes) same ∙ sym also)
-one_result kind.Absolute turn contest candidates votes lines others all also = all ∙ sym also
-one_result kind.Simple turn contest candidates votes lines others all also = all ∙ sym also
+    all ∙ (ap (outcome_lines t votes) same ∙ sym also)
+one_result kind.Absolute t contest candidates votes lines others all also = all ∙ sym also
+one_result kind.Simple t contest candidates votes lines others all also = all ∙ sym also
 
 one_panel : (t : TablesData) (reports : List Report) (panel : ℕ) (p : Panel) (lines others : List (List ℕ)) → TellPanel t reports panel p lines
     → TellPanel t reports panel p others → lines ≡ others
 one_panel t reports panel p lines others h i =
-    let same = one_result p.office.kind t.turn (contest_for t reports panel p) (entries_in reports panel p) (λ number. nominal_sum panel number reports) h.result i.result h.told i.told in
+    let same = one_result p.office.kind t (contest_for t reports panel p) (entries_in reports panel p) (λ number. nominal_sum panel number reports) h.result i.result h.told i.told in
     h.all
     ∙ (ap (λ (ls : List (List ℕ)). office_line p.office.code (votes_in reports panel) ∷ (map candidate_line (entries_in reports panel p) ++ ls)) same
     ∙ sym i.all)
@@ -130,32 +130,32 @@ panels_more t reports i lines own lt told is =
 -- what comes of a proportional office
 pub tells_contest : (t : TablesData) (reports : List Report) (panel : ℕ) (office : Office) → office ≡ (panel_at t panel).office → office.kind ≡ kind.Proportional
     → (o : Outcome) → IsOutcome (contest_for t reports panel (panel_at t panel)) o
-    → TellResult (panel_at t panel).office.kind t.turn (contest_for t reports panel (panel_at t panel)) (entries_in reports panel (panel_at t panel))
-    (λ number. nominal_sum panel number reports) (outcome_lines (λ number. nominal_sum panel number reports) o)
+    → TellResult (panel_at t panel).office.kind t (contest_for t reports panel (panel_at t panel)) (entries_in reports panel (panel_at t panel))
+    (λ number. nominal_sum panel number reports) (outcome_lines t (λ number. nominal_sum panel number reports) o)
 tells_contest t reports panel office known is o outcome =
     let same : kind.Proportional ≡ (panel_at t panel).office.kind = sym is ∙ ap (λ (w : Office). w.kind) known in
-    subst (λ (k : Kind). TellResult k t.turn (contest_for t reports panel (panel_at t panel)) (entries_in reports panel (panel_at t panel))
-    (λ number. nominal_sum panel number reports) (outcome_lines (λ number. nominal_sum panel number reports) o)) same (o, outcome, refl)
+    subst (λ (k : Kind). TellResult k t (contest_for t reports panel (panel_at t panel)) (entries_in reports panel (panel_at t panel))
+    (λ number. nominal_sum panel number reports) (outcome_lines t (λ number. nominal_sum panel number reports) o)) same (o, outcome, refl)
 
 -- and of a majority office
 pub tells_absolute : (t : TablesData) (reports : List Report) (panel : ℕ) (office : Office) → office ≡ (panel_at t panel).office → office.kind ≡ kind.Absolute
     → (entries : List Entry) → entries ≡ entries_in reports panel (panel_at t panel)
-    → TellResult (panel_at t panel).office.kind t.turn (contest_for t reports panel (panel_at t panel)) (entries_in reports panel (panel_at t panel))
+    → TellResult (panel_at t panel).office.kind t (contest_for t reports panel (panel_at t panel)) (entries_in reports panel (panel_at t panel))
     (λ number. nominal_sum panel number reports) (majority_line (majority_outcome entries (t.turn == 1)) ∷ [])
 tells_absolute t reports panel office known is entries all =
     let same : kind.Absolute ≡ (panel_at t panel).office.kind = sym is ∙ ap (λ (w : Office). w.kind) known in
-    subst (λ (k : Kind). TellResult k t.turn (contest_for t reports panel (panel_at t panel)) (entries_in reports panel (panel_at t panel))
+    subst (λ (k : Kind). TellResult k t (contest_for t reports panel (panel_at t panel)) (entries_in reports panel (panel_at t panel))
     (λ number. nominal_sum panel number reports) (majority_line (majority_outcome entries (t.turn == 1)) ∷ [])) same
     (ap (λ (es : List Entry). majority_line (majority_outcome es (t.turn == 1)) ∷ []) all)
 
 pub tells_simple : (t : TablesData) (reports : List Report) (panel : ℕ) (office : Office) → office ≡ (panel_at t panel).office → office.kind ≡ kind.Simple
     → (entries : List Entry) → entries ≡ entries_in reports panel (panel_at t panel)
-    → TellResult (panel_at t panel).office.kind t.turn (contest_for t reports panel (panel_at t panel)) (entries_in reports panel (panel_at t panel))
+    → TellResult (panel_at t panel).office.kind t (contest_for t reports panel (panel_at t panel)) (entries_in reports panel (panel_at t panel))
     (λ number. nominal_sum panel number reports) (simple_lines (elected_simply office.seats entries))
 tells_simple t reports panel office known is entries all =
     let same : kind.Simple ≡ (panel_at t panel).office.kind = sym is ∙ ap (λ (w : Office). w.kind) known in
     let seats : office.seats ≡ (panel_at t panel).office.seats = ap (λ (w : Office). w.seats) known in
-    subst (λ (k : Kind). TellResult k t.turn (contest_for t reports panel (panel_at t panel)) (entries_in reports panel (panel_at t panel))
+    subst (λ (k : Kind). TellResult k t (contest_for t reports panel (panel_at t panel)) (entries_in reports panel (panel_at t panel))
     (λ number. nominal_sum panel number reports) (simple_lines (elected_simply office.seats entries))) same
     (ap (λ (n : ℕ). simple_lines (elected_simply n entries)) seats ∙ ap (λ (es : List Entry). simple_lines (elected_simply (panel_at t panel).office.seats es)) all)
 
@@ -163,7 +163,7 @@ tells_simple t reports panel office known is entries all =
 pub panel_told : (t : TablesData) (reports : List Report) (panel : ℕ) (office : Office) (votes : PanelVotes) (entries : List Entry)
     (fn a b d result : List (List ℕ)) → office ≡ (panel_at t panel).office → votes ≡ votes_in reports panel → entries ≡ entries_in reports panel (panel_at t panel)
     → a ≡ fn ++ office_line office.code votes ∷ [] → b ≡ a ++ map candidate_line entries → d ≡ b ++ result
-    → TellResult (panel_at t panel).office.kind t.turn (contest_for t reports panel (panel_at t panel)) (entries_in reports panel (panel_at t panel))
+    → TellResult (panel_at t panel).office.kind t (contest_for t reports panel (panel_at t panel)) (entries_in reports panel (panel_at t panel))
     (λ number. nominal_sum panel number reports) result
     → (own : List (List ℕ)) × TellPanel t reports panel (panel_at t panel) own × (d ≡ fn ++ own)
 panel_told t reports panel office votes entries fn a b d result known counted all first candidates last told =

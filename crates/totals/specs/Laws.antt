@@ -1,19 +1,23 @@
 -- What is so of all totals
-use Rattle.std.specs.Prelude.{◌≡◌, ◌==◌, ℕ, ◌<◌, ◌≤◌, Bool, false, List, [], ◌∷◌, count_by, length, min, nat_lt}
-use Rattle.std.specs.List.{All, AllByRecursion, Any, Contains}
-use Rattle.election_tables.specs.TablesData.{IsTables, TablesData}
+use Rattle.std.specs.Prelude.{◌≡◌, ◌==◌, ℕ, ◌<◌, ◌≤◌, Bool, false, IsTrue, List, [], ◌∷◌, count_by, filter, length, map, min, nat_eq, nat_lt}
+use Rattle.std.specs.List.{All, AllByRecursion, Any, Contains, flat_map, list_any}
+use Rattle.election_tables.specs.TablesData.{IsTables, TablesData, bloc_of}
+use Rattle.election_tables.specs.Fields.{first_two}
+use Rattle.election_tables.specs.declared.tables.panels.Panel.{Panel}
+use Rattle.election_tables.specs.declared.tables.parties.Party.{Party}
 use Rattle.poll_report.specs.declared.report.Report.{Report}
 use Rattle.vote_kinds.specs.Ballot.{is_proportional, line_of, panel_at}
 use Rattle.section_intake.specs.Fits.{Fits}
-use Rattle.section_intake.specs.Sums.{all_sum}
+use Rattle.section_intake.specs.Sums.{all_sum, party_sum}
 use Rattle.seat_remainders.specs.Majority.{majority_outcome}
-use Rattle.seat_remainders.specs.Outcome.{AreSeats}
+use Rattle.seat_remainders.specs.Outcome.{AreSeats, elected_of}
 use Rattle.seat_remainders.specs.Parties.{nominal_votes, valid_votes}
+use Rattle.seat_remainders.specs.declared.contest.Contestant.{Contestant}
 use Rattle.seat_remainders.specs.declared.contest.Entry.{Entry}
 use Rattle.seat_remainders.specs.declared.outcome.MajorityOutcome.{MajorityOutcome}
 use Rattle.seat_remainders.specs.declared.outcome.MajorityOutcome.TheVariants as majority
 use Rattle.seat_remainders.specs.declared.outcome.Seats.{Seats as SeatsData}
-use Rattle.totals.specs.Contest.{contest_in, entries_in, votes_in}
+use Rattle.totals.specs.Contest.{blocs_of, contest_in, contestant_in, entries_in, parties_of, votes_in}
 use Rattle.totals.specs.Lines.{total_of, valid_of}
 use Rattle.totals.specs.Simple.{elected_simply}
 use Rattle.totals.specs.Totals.{AreTotals}
@@ -37,7 +41,7 @@ abbrev pub CandidatesHaveNominalVotes : Type 0
 CandidatesHaveNominalVotes = (t : TablesData) (reports : List Report) (panel : ℕ) → IsTables t → AllByRecursion (Fits t) reports → panel < length t.panels
     → nominal_votes (entries_in reports panel (panel_at t panel)) ≡ (votes_in reports panel).nominal
 
--- the valid votes are those of the contest, so that each candidate is counted for one of its parties,
+-- the valid votes are those of the contest, so that each candidate and each party is counted for one bloc alone,
 abbrev pub ContestHasValidVotes : Type 0
 ContestHasValidVotes = (t : TablesData) (reports : List Report) (panel : ℕ) → IsTables t → AllByRecursion (Fits t) reports → panel < length t.panels
     → valid_votes (contest_in t reports panel).parties ≡ valid_of (votes_in reports panel)
@@ -47,12 +51,39 @@ abbrev pub MajorityHasNoPartyVotes : Type 0
 MajorityHasNoPartyVotes = (t : TablesData) (reports : List Report) (panel : ℕ) → AllByRecursion (Fits t) reports
     → is_proportional (panel_at t panel).office.kind ≡ false → (votes_in reports panel).party ≡ 0
 
+-- ---- the blocs
+
+-- each party of the tables is of exactly one bloc;
+abbrev pub EachPartyHasOneBloc : Type 0
+EachPartyHasOneBloc = (t : TablesData) (party : ℕ) → IsTables t → IsTrue (list_any (λ q. q.number == party) t.parties)
+    → count_by (λ bloc. list_any (nat_eq party) (parties_of t bloc)) (blocs_of t) ≡ 1
+
+-- a party with its party votes and its candidates in the panel
+abbrev pub party_in : List Report → ℕ → Panel → Party → Contestant
+party_in reports panel p q = record {
+  number = q.number;
+  party_votes = party_sum panel q.number reports;
+  candidates = filter (λ c. first_two p.office.digits c.number == q.number) (entries_in reports panel p);
+}
+
+-- without federations the contest is that of the parties
+abbrev pub WithoutFederations : Type 0
+WithoutFederations = (t : TablesData) (reports : List Report) (panel : ℕ) → IsTables t → t.federations ≡ []
+    → (contest_in t reports panel).parties ≡ map (party_in reports panel (panel_at t panel)) t.parties
+
 -- ---- the elected
 
 -- whoever has a seat is a candidate of the office,
 abbrev pub SeatsAreOfCandidates : Type 0
 SeatsAreOfCandidates = (t : TablesData) (reports : List Report) (panel : ℕ) (s : SeatsData) → AreSeats (contest_in t reports panel) s
     → All (Contains (line_of t panel).candidates) s.elected
+
+-- and of a party of the bloc that has it: the elected stand bloc by bloc,
+abbrev pub SeatsAreOfBlocs : Type 0
+SeatsAreOfBlocs = (t : TablesData) (reports : List Report) (panel : ℕ) (s : SeatsData) → AreSeats (contest_in t reports panel) s
+    → (own : ℕ → List ℕ) × (s.elected ≡ flat_map own (blocs_of t))
+    × ((bloc : ℕ) → (own bloc ≡ elected_of s.quotient s.awards (contestant_in t reports panel (panel_at t panel) bloc))
+    × All (λ number. bloc_of t.federations (first_two (panel_at t panel).office.digits number) ≡ bloc) (own bloc))
 
 -- and nobody has two
 abbrev pub NobodyHasTwoSeats : Type 0

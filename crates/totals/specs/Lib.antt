@@ -1,4 +1,5 @@
 pub mod Contest
+pub mod Giving
 pub mod Laws
 pub mod Lines
 pub mod Simple

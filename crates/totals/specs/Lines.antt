@@ -1,6 +1,7 @@
 -- The lines of the totals (docs/FORMATS.md, "Totals"), each with its line feed
-use Rattle.std.specs.Prelude.{ℕ, ◌+◌, List, [], ◌∷◌, ◌++◌, codes, map}
+use Rattle.std.specs.Prelude.{ℕ, ◌+◌, List, [], ◌∷◌, ◌++◌, codes, map, if◌then◌else◌}
 use Rattle.std.specs.Fmt.{decimal}
+use Rattle.election_tables.specs.TablesData.{TablesData, is_federation}
 use Rattle.seat_remainders.specs.declared.contest.Entry.{Entry}
 use Rattle.seat_remainders.specs.declared.outcome.Award.{Award}
 use Rattle.seat_remainders.specs.declared.outcome.MajorityOutcome.{MajorityOutcome}
@@ -57,20 +58,26 @@ simple_lines (n ∷ ns) = map (number_line (codes "ELEITO ")) (n ∷ ns)
 
 -- ---- a proportional office
 
--- what a party has: its valid votes, its quotient and its seats
-abbrev pub party_line : PartySeats → List ℕ
-party_line p =
-    codes "PARTIDO " ++ decimal p.number ++ codes " VOTOS " ++ decimal p.votes ++ codes " QP " ++ decimal p.quotient
+-- the word for a bloc: a federation, or a party
+abbrev pub bloc_word : TablesData → ℕ → List ℕ
+bloc_word t bloc = if is_federation t.federations bloc then codes "FEDERACAO " else codes "PARTIDO "
+
+-- what a bloc has: its valid votes, its quotient and its seats
+abbrev pub bloc_line : TablesData → PartySeats → List ℕ
+bloc_line t p =
+    bloc_word t p.number ++ decimal p.number ++ codes " VOTOS " ++ decimal p.votes ++ codes " QP " ++ decimal p.quotient
     ++ codes " VAGAS " ++ decimal p.seats ++ 10 ∷ []
 
 -- the seat of a round, by its number
-abbrev pub award_line : ℕ → Award → List ℕ
-award_line round award = codes "SOBRA " ++ decimal round ++ codes " FASE " ++ decimal award.phase ++ codes " PARTIDO " ++ decimal award.party ++ 10 ∷ []
+abbrev pub award_line : TablesData → ℕ → Award → List ℕ
+award_line t round award =
+    codes "SOBRA " ++ decimal round ++ codes " FASE " ++ decimal award.phase ++ codes " " ++ bloc_word t award.party ++ decimal award.party
+    ++ 10 ∷ []
 
 -- of rounds, the first of which has this number
-abbrev pub award_lines : ℕ → List Award → List (List ℕ)
-award_lines round [] = []
-award_lines round (award ∷ awards) = award_line round award ∷ award_lines (round + 1) awards
+abbrev pub award_lines : TablesData → ℕ → List Award → List (List ℕ)
+award_lines t round [] = []
+award_lines t round (award ∷ awards) = award_line t round award ∷ award_lines t (round + 1) awards
 
 -- one who is elected, and the nominal votes
 abbrev pub elected_line : ℕ → ℕ → List ℕ
@@ -80,14 +87,14 @@ elected_line number votes = codes "ELEITO " ++ decimal number ++ codes " VOTOS "
 abbrev pub elected_lines : (ℕ → ℕ) → List ℕ → List (List ℕ)
 elected_lines votes numbers = map (λ number. elected_line number (votes number)) numbers
 
--- the seats that were given: the electoral quotient, the parties, the rounds, the elected and the vacant seats
-abbrev pub seats_lines : (ℕ → ℕ) → SeatsData → List (List ℕ)
-seats_lines votes s =
+-- the seats that were given: the electoral quotient, the blocs, the rounds, the elected and the vacant seats
+abbrev pub seats_lines : TablesData → (ℕ → ℕ) → SeatsData → List (List ℕ)
+seats_lines t votes s =
     number_line (codes "QUOCIENTE ") s.quotient
-    ∷ (map party_line s.parties ++ (award_lines 1 s.awards ++ (elected_lines votes s.elected ++ number_line (codes "VAGAS VAZIAS ") s.vacant ∷ [])))
+    ∷ (map (bloc_line t) s.parties ++ (award_lines t 1 s.awards ++ (elected_lines votes s.elected ++ number_line (codes "VAGAS VAZIAS ") s.vacant ∷ [])))
 
 -- what comes of its contest, where each number has so many votes
-abbrev pub outcome_lines : (ℕ → ℕ) → Outcome → List (List ℕ)
-outcome_lines votes (outcome.Seats s) = seats_lines votes s
-outcome_lines votes (outcome.NoQuotient valid seats) = pair_line (codes "SEM QUOCIENTE ") valid seats ∷ []
-outcome_lines votes (outcome.Over first seats) = pair_line (codes "QUOCIENTE EXCEDIDO ") first seats ∷ []
+abbrev pub outcome_lines : TablesData → (ℕ → ℕ) → Outcome → List (List ℕ)
+outcome_lines t votes (outcome.Seats s) = seats_lines t votes s
+outcome_lines t votes (outcome.NoQuotient valid seats) = pair_line (codes "SEM QUOCIENTE ") valid seats ∷ []
+outcome_lines t votes (outcome.Over first seats) = pair_line (codes "QUOCIENTE EXCEDIDO ") first seats ∷ []

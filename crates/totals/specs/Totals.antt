@@ -19,15 +19,15 @@ use Rattle.totals.specs.Simple.{elected_simply}
 -- that of its candidates by the absolute rule in the first turn, and by the simple one in the second (Constitution art. 77, paragraph 3);
 -- where it is decided by the simple majority, the first so many in the order of candidates as it has seats, of those who have a vote, are
 -- elected. Each number of a candidate has so many votes.
-abbrev pub TellResult : Kind → ℕ → Contest → List Entry → (ℕ → ℕ) → List (List ℕ) → Type 0
-TellResult kind.Proportional turn contest candidates votes lines = (o : Outcome) × IsOutcome contest o × (lines ≡ outcome_lines votes o)
-TellResult kind.Absolute turn contest candidates votes lines = lines ≡ majority_line (majority_outcome candidates (turn == 1)) ∷ []
-TellResult kind.Simple turn contest candidates votes lines = lines ≡ simple_lines (elected_simply contest.seats candidates)
+abbrev pub TellResult : Kind → TablesData → Contest → List Entry → (ℕ → ℕ) → List (List ℕ) → Type 0
+TellResult kind.Proportional t contest candidates votes lines = (o : Outcome) × IsOutcome contest o × (lines ≡ outcome_lines t votes o)
+TellResult kind.Absolute t contest candidates votes lines = lines ≡ majority_line (majority_outcome candidates (t.turn == 1)) ∷ []
+TellResult kind.Simple t contest candidates votes lines = lines ≡ simple_lines (elected_simply contest.seats candidates)
 
 -- These lines tell of the panel of a number: its votes, those of each candidate, and what comes of them.
 pub record TellPanel (t : TablesData) (reports : List Report) (panel : ℕ) (p : Panel) (lines : List (List ℕ)) : Type 0 where
   pub result : List (List ℕ)
-  pub told : TellResult p.office.kind t.turn (contest_for t reports panel p) (entries_in reports panel p) (λ number. nominal_sum panel number reports) result
+  pub told : TellResult p.office.kind t (contest_for t reports panel p) (entries_in reports panel p) (λ number. nominal_sum panel number reports) result
   pub all : lines ≡ office_line p.office.code (votes_in reports panel) ∷ (map candidate_line (entries_in reports panel p) ++ result)
 
 -- these lines tell of these panels, the first of which has this number

@@ -1,5 +1,5 @@
 //! The candidates of a panel with their votes.
-ghost use Rattle.std.specs.Prelude.{◌≡◌, ◌==◌, ◌+◌, ◌<◌, ◌≤◌, ◌^◌, List, filter, length, not, IfOk};
+ghost use Rattle.std.specs.Prelude.{◌≡◌, ◌==◌, ◌<◌, ◌≤◌, ◌^◌, List, filter, length, not, IfOk};
 ghost use Rattle.election_tables.specs.Fields.{first_two};
 ghost use Rattle.election_tables.specs.Limits.{most_candidates};
 ghost use Rattle.poll_report.specs.declared.report.Report.{Report};
@@ -7,7 +7,7 @@ ghost use Rattle.section_intake.specs.Intake.{IsIntakeFor, accepted_files};
 ghost use Rattle.section_intake.specs.Sums.{AreReportsOf};
 ghost use Rattle.seat_remainders.specs.Parties.{nominal_votes};
 ghost use Rattle.vote_kinds.specs.Ballot.{panel_at};
-ghost use Rattle.totals.specs.Contest.{entries_in, is_of_party};
+ghost use Rattle.totals.specs.Contest.{entries_in};
 
 use election_tables::Tables;
 use seat_remainders::{Entries, Entry};
@@ -44,27 +44,6 @@ pub fn entries_of(
     Ok(entries)
 }
 
-/// Those of one party, in the same order, where the candidates' numbers have so many digits.
-pub(crate) fn of_party(
-    alloc: Global,
-    entries: &[Entry],
-    digits: u8,
-    party: u8,
-) -> Result<Entries, Memory>
-    requires some { 2 ≤ digits }
-    requires few_digits { digits ≤ 5 }
-    requires few { length entries.now ≤ most_candidates }
-    ensures { IfOk result (λ own. own ≡ filter (is_of_party digits party) entries.now) }
-{
-    let mut own = Entries::new(alloc);
-    for entry in entries {
-        if first_two(digits, entry.number) == u32::from(party) {
-            own.push(*entry)?;
-        }
-    }
-    Ok(own)
-}
-
 /// Those with another number, in the same order.
 pub(crate) fn without(alloc: Global, entries: &[Entry], number: u32) -> Result<Entries, Memory>
     requires { length entries.now < 2 ^ 32 }
@@ -80,7 +59,7 @@ pub(crate) fn without(alloc: Global, entries: &[Entry], number: u32) -> Result<E
 }
 
 /// The first two of so many digits.
-fn first_two(digits: u8, number: u32) -> u32
+pub(crate) fn first_two(digits: u8, number: u32) -> u32
     requires some { 2 ≤ digits }
     requires few { digits ≤ 5 }
     ensures { result ≡ first_two digits number }

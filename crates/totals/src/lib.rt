@@ -4,9 +4,11 @@
 //! `specs/Contest.antt` says over the reports of the accepted files, and `total_lines` for the lines that tell all totals
 //! (`specs/Totals.antt`, by `specs/Lines.antt`, and by `specs/Simple.antt` for an office of the simple majority; docs/FORMATS.md,
 //! "Totals"). `laws` says that each list of reports has one list of such lines, that the votes of an office's line are all votes of the
-//! reports and those of its candidates and parties, and that whoever is elected is a candidate of the office.
+//! reports and those of its candidates and parties, that each party is of one bloc, and that whoever is elected is a candidate of the
+//! office and of a party of the bloc whose seat it is.
 #![tactic(auto)]
 
+mod blocs;
 mod contest;
 mod entries;
 pub mod laws;

@@ -1,9 +1,11 @@
 //! The lines of the totals (docs/FORMATS.md, "Totals").
 ghost use Rattle.std.specs.Prelude.{◌≡◌, ◌+◌, ◌<◌, ◌≤◌, ◌^◌, ◌++◌, length};
 ghost use Rattle.std.specs.Fmt.{decimal};
-ghost use Rattle.totals.specs.Lines.{award_line, candidate_line, elected_line, majority_line, number_line, office_line, pair_line, party_line, section_line, total_of};
+ghost use Rattle.totals.specs.Lines.{award_line, bloc_line, candidate_line, elected_line, majority_line, number_line, office_line, pair_line, section_line, total_of};
 
+use crate::blocs::bloc_word;
 use crate::votes::PanelVotes;
+use election_tables::Tables;
 use seat_remainders::{Award, Entry, MajorityOutcome, PartySeats};
 use urna_base::LineBuffer;
 
@@ -110,27 +112,36 @@ pub(crate) fn majority_line(outcome: MajorityOutcome) -> LineBuffer
     }
 }
 
-/// What a party has.
-pub(crate) fn party_line(party: PartySeats) -> LineBuffer
-    ensures { result ≡ party_line party }
+/// What a bloc has.
+pub(crate) fn bloc_line(tables: &Tables, bloc: PartySeats) -> LineBuffer
+    ensures { result ≡ bloc_line tables.now bloc }
 {
     let mut line = LineBuffer::new();
-    push_numbered(&mut line, b"PARTIDO ", u64::from(party.number));
-    push_numbered(&mut line, b" VOTOS ", party.votes);
-    push_numbered(&mut line, b" QP ", party.quotient);
-    push_numbered(&mut line, b" VAGAS ", u64::from(party.seats));
+    push_numbered(
+        &mut line,
+        bloc_word(tables, bloc.number),
+        u64::from(bloc.number),
+    );
+    push_numbered(&mut line, b" VOTOS ", bloc.votes);
+    push_numbered(&mut line, b" QP ", bloc.quotient);
+    push_numbered(&mut line, b" VAGAS ", u64::from(bloc.seats));
     line.push_text(b"\n");
     line
 }
 
 /// The seat of a round.
-pub(crate) fn award_line(round: u32, award: Award) -> LineBuffer
-    ensures { result ≡ award_line round award }
+pub(crate) fn award_line(tables: &Tables, round: u32, award: Award) -> LineBuffer
+    ensures { result ≡ award_line tables.now round award }
 {
     let mut line = LineBuffer::new();
     push_numbered(&mut line, b"SOBRA ", u64::from(round));
     push_numbered(&mut line, b" FASE ", u64::from(award.phase));
-    push_numbered(&mut line, b" PARTIDO ", u64::from(award.party));
+    line.push_text(b" ");
+    push_numbered(
+        &mut line,
+        bloc_word(tables, award.party),
+        u64::from(award.party),
+    );
     line.push_text(b"\n");
     line
 }

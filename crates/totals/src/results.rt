@@ -11,15 +11,15 @@ ghost use Rattle.seat_remainders.specs.Outcome.{IsOutcome};
 ghost use Rattle.seat_remainders.specs.Parties.{nominal_votes};
 ghost use Rattle.seat_remainders.specs.declared.outcome.Outcome.{Outcome};
 ghost use Rattle.totals.specs.Contest.{contest_in};
-ghost use Rattle.totals.specs.Lines.{award_lines, candidate_line, elected_lines, majority_line, outcome_lines, party_line, seats_lines, simple_lines};
+ghost use Rattle.totals.specs.Lines.{award_lines, bloc_line, candidate_line, elected_lines, majority_line, outcome_lines, seats_lines, simple_lines};
 ghost use Rattle.totals.specs.Simple.{elected_simply};
 ghost use Rattle.totals.specs.Totals.{AreTotals, TellPanel};
 
 use crate::contest::contest_of;
 use crate::entries::entries_of;
 use crate::lines::{
-    award_line, candidate_line, elected_line, majority_line, number_line, office_line, pair_line,
-    party_line, section_line,
+    award_line, bloc_line, candidate_line, elected_line, majority_line, number_line, office_line,
+    pair_line, section_line,
 };
 use crate::simple_rule::elected_simply;
 use crate::votes::PanelVotes;
@@ -142,26 +142,28 @@ fn push_contest(
     requires made { IsIntakeFor tables.now intake.now }
     ensures { OnOk result ((reports : List Report) → AreReportsOf (accepted_files intake.now) reports
         → (o : Outcome) × IsOutcome (contest_in tables.now reports panel) o
-        × (lines.new.items ≡ lines.old.items ++ outcome_lines (λ number. nominal_sum panel number reports) o)) }
+        × (lines.new.items ≡ lines.old.items ++ outcome_lines tables.now (λ number. nominal_sum panel number reports) o)) }
 {
     let contest = contest_of(alloc, tables, intake, panel)?;
     let outcome = distribute(alloc, &contest)?;
-    push_outcome(lines, intake, panel, &outcome)
+    push_outcome(lines, tables, intake, panel, &outcome)
 }
 
 /// What comes of a contest.
 fn push_outcome(
     lines: &mut Vec<LineBuffer>,
+    tables: &Tables,
     intake: &Intake,
     panel: u32,
     outcome: &Outcome,
 ) -> Result<(), Memory>
-    requires { panel < panels_of intake.now }
-    ensures { OnOk result ((t : TablesData) (reports : List Report) → IsIntakeFor t intake.now → AreReportsOf (accepted_files intake.now) reports
-        → lines.new.items ≡ lines.old.items ++ outcome_lines (λ number. nominal_sum panel number reports) outcome.now) }
+    requires panel { panel < panels_of intake.now }
+    requires made { IsIntakeFor tables.now intake.now }
+    ensures { OnOk result ((reports : List Report) → AreReportsOf (accepted_files intake.now) reports
+        → lines.new.items ≡ lines.old.items ++ outcome_lines tables.now (λ number. nominal_sum panel number reports) outcome.now) }
 {
     match outcome {
-        Outcome::Seats(seats) => push_seats(lines, intake, panel, seats),
+        Outcome::Seats(seats) => push_seats(lines, tables, intake, panel, seats),
         Outcome::NoQuotient { valid, seats } => {
             lines.push(pair_line(b"SEM QUOCIENTE ", *valid, u64::from(*seats)))?;
             Ok(())
@@ -176,38 +178,44 @@ fn push_outcome(
 /// The seats that were given.
 fn push_seats(
     lines: &mut Vec<LineBuffer>,
+    tables: &Tables,
     intake: &Intake,
     panel: u32,
     seats: &Seats,
 ) -> Result<(), Memory>
-    requires { panel < panels_of intake.now }
-    ensures { OnOk result ((t : TablesData) (reports : List Report) → IsIntakeFor t intake.now → AreReportsOf (accepted_files intake.now) reports
-        → lines.new.items ≡ lines.old.items ++ seats_lines (λ number. nominal_sum panel number reports) seats.now) }
+    requires panel { panel < panels_of intake.now }
+    requires made { IsIntakeFor tables.now intake.now }
+    ensures { OnOk result ((reports : List Report) → AreReportsOf (accepted_files intake.now) reports
+        → lines.new.items ≡ lines.old.items ++ seats_lines tables.now (λ number. nominal_sum panel number reports) seats.now) }
 {
     lines.push(number_line(b"QUOCIENTE ", seats.quotient))?;
-    push_parties(lines, &seats.parties)?;
-    push_awards(lines, &seats.awards)?;
+    push_blocs(lines, tables, &seats.parties)?;
+    push_awards(lines, tables, &seats.awards)?;
     push_elected(lines, intake, panel, &seats.elected)?;
     lines.push(number_line(b"VAGAS VAZIAS ", u64::from(seats.vacant)))?;
     Ok(())
 }
 
-/// One line for each party.
-fn push_parties(lines: &mut Vec<LineBuffer>, parties: &PartySeatList) -> Result<(), Memory>
-    ensures { OnOk result (lines.new.items ≡ lines.old.items ++ map party_line parties.now) }
+/// One line for each bloc.
+fn push_blocs(
+    lines: &mut Vec<LineBuffer>,
+    tables: &Tables,
+    blocs: &PartySeatList,
+) -> Result<(), Memory>
+    ensures { OnOk result (lines.new.items ≡ lines.old.items ++ map (bloc_line tables.now) blocs.now) }
 {
-    for i in 0..parties.len() {
-        lines.push(party_line(*parties.get(i)))?;
+    for i in 0..blocs.len() {
+        lines.push(bloc_line(tables, *blocs.get(i)))?;
     }
     Ok(())
 }
 
 /// One line for each round.
-fn push_awards(lines: &mut Vec<LineBuffer>, awards: &Awards) -> Result<(), Memory>
-    ensures { OnOk result (lines.new.items ≡ lines.old.items ++ award_lines 1 awards.now) }
+fn push_awards(lines: &mut Vec<LineBuffer>, tables: &Tables, awards: &Awards) -> Result<(), Memory>
+    ensures { OnOk result (lines.new.items ≡ lines.old.items ++ award_lines tables.now 1 awards.now) }
 {
     for i in 0..awards.len() {
-        lines.push(award_line(i + 1, *awards.get(i)))?;
+        lines.push(award_line(tables, i + 1, *awards.get(i)))?;
     }
     Ok(())
 }

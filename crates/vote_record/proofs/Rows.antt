@@ -68,7 +68,7 @@ abbrev mayor : Panel
 mayor = record { office = record { code = 11; digits = 2; kind = kind.Absolute; seats = 1 }; candidates = [] }
 
 abbrev tables_of : List Panel → TablesData
-tables_of panels = record { process = 7; date = 20261004; turn = 1; panels = panels; parties = []; sections = []; digest = [] }
+tables_of panels = record { process = 7; date = 20261004; turn = 1; panels = panels; parties = []; sections = []; federations = []; digest = [] }
 
 abbrev section_of : ℕ → Section
 section_of voters = record { zone = 1; number = 42; voters = voters }

@@ -6,10 +6,10 @@ ghost use Rattle.election_tables.specs.Rules.{section_in_range, counts_in_range,
 
 use super::distinct::pairs_differ;
 use super::fields::{is_name, is_valid_date, is_within};
-use crate::document::{CandidateEntry, Document, PartyEntry, SectionEntry};
+use crate::document::{CandidateEntry, Document, FederationEntry, PartyEntry, SectionEntry};
 use crate::limits::{
-    GREATEST_PROCESS, GREATEST_SECTION, MOST_CANDIDATES, MOST_OFFICES, MOST_PARTIES, MOST_SECTIONS,
-    MOST_VOTERS,
+    GREATEST_PROCESS, GREATEST_SECTION, MOST_CANDIDATES, MOST_FEDERATIONS, MOST_OFFICES,
+    MOST_PARTIES, MOST_SECTIONS, MOST_VOTERS,
 };
 use std::alloc::{AllocError, Global};
 
@@ -45,6 +45,12 @@ fn candidates_have_names(candidates: &[CandidateEntry]) -> bool
     candidates.iter().all(|c| is_name(&c.name))
 }
 
+fn federations_have_names(federations: &[FederationEntry]) -> bool
+    ensures { result ≡ list_all (λ f. is_name f.name) federations.now }
+{
+    federations.iter().all(|f| is_name(&f.name))
+}
+
 impl Document {
     fn counts_in_range(&self) -> bool
         ensures { result ≡ counts_in_range self.now }
@@ -55,7 +61,8 @@ impl Document {
         (1 <= offices && offices <= MOST_OFFICES)
             && ((1 <= parties && parties <= MOST_PARTIES)
                 && (self.candidates.len() <= MOST_CANDIDATES
-                    && (1 <= sections && sections <= MOST_SECTIONS)))
+                    && ((1 <= sections && sections <= MOST_SECTIONS)
+                        && self.federations.len() <= MOST_FEDERATIONS)))
     }
 
     fn head_in_range(&self) -> bool
@@ -68,7 +75,9 @@ impl Document {
     fn names_in_range(&self) -> bool
         ensures { result ≡ names_in_range self.now }
     {
-        parties_have_names(&self.parties) && candidates_have_names(&self.candidates)
+        parties_have_names(&self.parties)
+            && (candidates_have_names(&self.candidates)
+                && federations_have_names(&self.federations))
     }
 
     /// Whether the counts, the numbers of the document and of its sections, and the names are in their ranges.

@@ -1,6 +1,6 @@
 //! The parties, rising by number.
-ghost use Rattle.std.specs.Prelude.{◌≡◌, ◌<◌, true, Some, length, map, slice_get, IfOk, IsPermutation, option_copied, option_map};
-ghost use Rattle.std.specs.List.{list_all};
+ghost use Rattle.std.specs.Prelude.{◌≡◌, ◌<◌, ◌==◌, true, Some, length, map, slice_get, IfOk, IsPermutation, option_copied, option_map};
+ghost use Rattle.std.specs.List.{list_all, list_any};
 ghost use Rattle.election_tables.specs.Rules.{are_distinct};
 ghost use Rattle.election_tables.specs.Fitting.{party_fits};
 ghost use Rattle.std.specs.Ordering.{int_eq};
@@ -96,5 +96,12 @@ impl Parties {
             Ok(i) => Some(self.items[i].name.as_str()),
             Err(_) => None,
         }
+    }
+
+    /// Whether there is a party of a number.
+    pub(crate) fn has(&self, number: u8) -> bool
+        ensures { result ≡ list_any (λ q. q.number == number) self.now }
+    {
+        self.name_of(number).is_some()
     }
 }

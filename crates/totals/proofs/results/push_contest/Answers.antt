@@ -10,6 +10,6 @@ returns c =
     (λ lines reports read. (
       c.in_ok-outcome.outcome,
       subst (λ (k : Contest). IsOutcome k c.in_ok-outcome.outcome) (c.in_ok-contest.ensures.contest reports read) c.in_ok-outcome.ensures,
-      lines c.args.tables.now reports c.requires.made read,
+      lines reports read,
     ))
     c.push_outcome.ensures

@@ -1,7 +1,6 @@
 use Rattle.std.proofs.Common.{◌≡◌, ◌++◌, ℕ, List, OnOk, codes, sym, ap, subst, ◌∙◌}
-use Rattle.election_tables.specs.TablesData.{TablesData}
 use Rattle.poll_report.specs.declared.report.Report.{Report}
-use Rattle.section_intake.specs.Intake.{IsIntakeFor, accepted_files}
+use Rattle.section_intake.specs.Intake.{accepted_files}
 use Rattle.section_intake.specs.Sums.{AreReportsOf, nominal_sum}
 use Rattle.seat_remainders.specs.declared.outcome.Outcome.{Outcome}
 use Rattle.totals.specs.Lines.{outcome_lines, pair_line}
@@ -12,19 +11,19 @@ pub returns-in-Seats : goal.returns-in-Seats
 returns-in-Seats c =
     let intake = c.args.intake.now in
     let fn = c.args.lines.now.items in
-    subst (λ (o : Outcome). OnOk c.push_seats.result ((t : TablesData) (reports : List Report) → IsIntakeFor t intake → AreReportsOf (accepted_files intake) reports
-    → c.push_seats.new.lines.items ≡ fn ++ outcome_lines (λ number. nominal_sum c.args.panel number reports) o)) (sym c.in-Seats.is) c.push_seats.ensures
+    subst (λ (o : Outcome). OnOk c.push_seats.result ((reports : List Report) → AreReportsOf (accepted_files intake) reports
+    → c.push_seats.new.lines.items ≡ fn ++ outcome_lines c.args.tables.now (λ number. nominal_sum c.args.panel number reports) o)) (sym c.in-Seats.is) c.push_seats.ensures
 
 pub returns-in_ok-push-in-NoQuotient : goal.returns-in_ok-push-in-NoQuotient
-returns-in_ok-push-in-NoQuotient c t reports made read =
+returns-in_ok-push-in-NoQuotient c reports read =
     let fn = c.args.lines.now.items in
     let votes : ℕ → ℕ = λ number. nominal_sum c.args.panel number reports in
     line_behind _ fn _ _ c.in_ok-push-in-NoQuotient.ensures.items (c.pair_line.ensures ∙ ap (pair_line (codes "SEM QUOCIENTE ") c.in-NoQuotient.valid) c.from.ensures)
-    ∙ ap (λ (o : Outcome). fn ++ outcome_lines votes o) (sym c.in-NoQuotient.is)
+    ∙ ap (λ (o : Outcome). fn ++ outcome_lines c.args.tables.now votes o) (sym c.in-NoQuotient.is)
 
 pub returns-in_ok-push-in-Over : goal.returns-in_ok-push-in-Over
-returns-in_ok-push-in-Over c t reports made read =
+returns-in_ok-push-in-Over c reports read =
     let fn = c.args.lines.now.items in
     let votes : ℕ → ℕ = λ number. nominal_sum c.args.panel number reports in
     line_behind _ fn _ _ c.in_ok-push-in-Over.ensures.items (c.pair_line-in-Over.ensures ∙ ap (pair_line (codes "QUOCIENTE EXCEDIDO ") c.in-Over.first) c.from-in-Over.ensures)
-    ∙ ap (λ (o : Outcome). fn ++ outcome_lines votes o) (sym c.in-Over.is)
+    ∙ ap (λ (o : Outcome). fn ++ outcome_lines c.args.tables.now votes o) (sym c.in-Over.is)

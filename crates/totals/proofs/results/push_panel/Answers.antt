@@ -36,7 +36,7 @@ returns-in-Proportional c =
     (λ all reports read.
     let made = all reports read in
     panel_told t reports panel office c.of-votes.result c.in_ok-entries.entries fn c.push.new.self.items c.push_candidates.new.lines.items
-    c.push_contest.new.lines.items (outcome_lines (λ number. nominal_sum panel number reports) made.0) known
+    c.push_contest.new.lines.items (outcome_lines t (λ number. nominal_sum panel number reports) made.0) known
     (c.of-votes.ensures.votes reports read) (c.in_ok-entries.ensures.entries reports read)
     (line_behind _ fn _ _ c.in_ok-push.ensures.items c.office_line.ensures)
     (c.in_ok-push_candidates.ensures ∙ ap (λ (es : List Entry). c.push.new.self.items ++ map candidate_line es) c.as_slice-2.ensures.items)

@@ -2,7 +2,7 @@ use Rattle.std.proofs.Common.{sym, subst, length, ◌≡◌, arith, rules}
 use Rattle.std.proofs.lemmas.Int.{ints}
 use Rattle.election_tables.specs.Limits.{greatest_process}
 use Rattle.election_tables.specs.Tables.{AreTablesOf}
-use Rattle.election_tables.proofs.Kept.{Kept, kept, process_in_range, date_fits, turn_in_range, offices_fit, candidates_fit, parties_fit, sections_in_range}
+use Rattle.election_tables.proofs.Kept.{Kept, kept, process_in_range, date_fits, turn_in_range, offices_fit, candidates_fit, parties_fit, sections_in_range, federations_fit}
 use Rattle.election_tables.proofs.Signs.{within_low, within_high}
 use Rattle.election_tables.proofs.Valid.{tables_valid}
 use Rattle.election_tables.proofs.tables.Tables.of.Goals as goal
@@ -85,8 +85,13 @@ of-requires-2-clause-distinct c =
     let k = subst Kept (sym c.document.view_is) (kept _ c.requires) in
     rw c.deref-4.ensures.value k.sections_differ
 
+pub federations_of-requires : goal.federations_of-requires
+federations_of-requires c =
+    let k = subst Kept (sym c.document.view_is) (kept _ c.requires) in
+    rw c.deref-5.ensures.value (federations_fit _ k)
+
 pub invariant_of-result : goal.invariant_of-result
 invariant_of-result c =
-    let are : AreTablesOf c.args.document.now (record { process = c.to_u32.result; date = c.to_u32-2.result; turn = c.to_u32-3.result; panels = c.in_ok-panels_of.field-0.items; parties = c.in_ok-of.field-0; sections = c.in_ok-of-2.field-0; digest = c.args.digest }) = search rules in
+    let are : AreTablesOf c.args.document.now (record { process = c.to_u32.result; date = c.to_u32-2.result; turn = c.to_u32-3.result; panels = c.in_ok-panels_of.field-0.items; parties = c.in_ok-of.field-0; sections = c.in_ok-of-2.field-0; federations = c.in_ok-federations_of.field-0.items; digest = c.args.digest }) = search rules in
     let size : length c.args.digest ≡ 32 = search rules in
     tables_valid c.args.document.now _ (kept _ c.requires) are size

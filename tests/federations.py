@@ -1,0 +1,137 @@
+"""The totals of the script `federations` (crates/session_tests), worked out from its tables and its reports by docs/RULES.md, "The totals":
+a federation is one contestant, with the party votes and the candidates of all its parties.
+
+`other_totals` gives the lines of the script under which other totals stand.
+"""
+
+import re
+import tomllib
+from collections import Counter
+
+import house
+import seats
+
+CRATE = "crates/session_tests"
+
+
+def script():
+    """Each line of the script with the lines that come of it, and its number in the expected text."""
+    steps, is_ours = [], False
+    for number, line in enumerate(house.read(f"{CRATE}/stdout").splitlines(), 1):
+        if re.match(r"# [a-z]+: ", line):
+            is_ours = line.startswith("# federations: ")
+        if is_ours and line.startswith("    "):
+            steps[-1][2].append(line[4:])
+        elif is_ours:
+            steps.append((number, line, []))
+    return steps
+
+
+def piece(text):
+    return text.replace("¶", "\n").replace("␣", " ").replace("∅", "")
+
+
+def edited(text, changes):
+    """A text with the changes of a line of the script (docs/FORMATS.md, "Scripts of cases")."""
+    for change in changes.split(" | "):
+        old, new = change.split(" => ")
+        if " .. " in old:
+            first, last = map(piece, old.split(" .. "))
+            at = text.index(first)
+            old = text[at : text.index(last, at + len(first)) + len(last)]
+        text = text.replace(piece(old), piece(new))
+    return text
+
+
+def sums_of(reports):
+    """The votes of each office: of each candidate and of each party by its number, blank and null."""
+    sums = Counter()
+    for report in reports:
+        for key, value in (field.split(":", 1) for field in report.split()):
+            if key == "CARG":
+                office = int(value)
+            elif key == "PART":
+                party = int(value)
+            elif key == "LEGP":
+                sums[office, party] += int(value)
+            elif key in ("BRAN", "NULO"):
+                sums[office, key] += int(value)
+            elif key.isdigit():
+                sums[office, int(key)] += int(value)
+    return sums
+
+
+def blocs_of(tables):
+    """Each bloc, rising: its number, its word, and its parties."""
+    federations = [federation["partidos"] for federation in tables.get("federacao", [])]
+    alone = {party["numero"] for party in tables["partido"]}.difference(*federations)
+    return sorted([(min(them), "FEDERACAO", them) for them in federations] + [(party, "PARTIDO", [party]) for party in alone])
+
+
+def result_lines(blocs, contestants, places, votes):
+    quotient = seats.first_phase(places, contestants)
+    first = sum(it.seats for it in contestants)
+    if quotient == 0:
+        return [f"SEM QUOCIENTE {sum(it.votes for it in contestants)} {places}"]
+    if first > places:
+        return [f"QUOCIENTE EXCEDIDO {first} {places}"]
+    rounds = seats.give_rest(places, contestants, quotient)
+    word = {number: f"{word} {number}" for number, word, _ in blocs}
+    lines = [f"QUOCIENTE {quotient}"]
+    lines += [f"{word[it.number]} VOTOS {it.votes} QP {it.votes // quotient} VAGAS {it.seats}" for it in contestants]
+    lines += [f"SOBRA {k} FASE {phase} {word[number]}" for k, (phase, number) in enumerate(rounds, 1)]
+    lines += [f"ELEITO {number} VOTOS {votes[number]}" for it in contestants for number in it.elected()]
+    return [*lines, f"VAGAS VAZIAS {places - first - len(rounds)}"]
+
+
+def office_lines(tables, office, sums):
+    """The lines of an office that is decided in proportion."""
+    code, parties = office["codigo"], [party["numero"] for party in tables["partido"]]
+    people = sorted((it["numero"], it["nascimento"]) for it in tables["candidato"] if it["cargo"] == code)
+    votes = {number: sums[code, number] for number, _ in people}
+    nominal, legend = sum(votes.values()), sum(sums[code, party] for party in parties)
+    blank, null = sums[code, "BRAN"], sums[code, "NULO"]
+    contestants, blocs = [], blocs_of(tables)
+    for number, _, them in blocs:
+        own = [(votes[n], birth, n) for n, birth in people if int(str(n)[:2]) in them]
+        contestants.append(seats.Party(number, sum(sums[code, party] for party in them), own))
+    valid = f"VALIDOS {nominal + legend} NOMINAIS {nominal} LEGENDA {legend}"
+    lines = [f"CARGO {code} {valid} BRANCOS {blank} NULOS {null} TOTAL {nominal + legend + blank + null}"]
+    lines += [f"CANDIDATO {number} VOTOS {votes[number]}" for number, _ in people]
+    return lines + result_lines(blocs, contestants, office["cadeiras"], votes)
+
+
+def totals(text, reports):
+    """What `totaliza` shows of reports that are all accepted, each of another section."""
+    tables = tomllib.loads(text)
+    lines = []
+    for k, report in enumerate(reports, 1):
+        zone, section = re.search(r"ZONA:(\d+) SECA:(\d+)", report).groups()
+        lines.append(f"{k} ACEITO {zone} {section}")
+    lines.append(f"SECOES {len(reports)} DE {len(tables['secao'])}")
+    for office in tables["cargo"]:
+        lines += office_lines(tables, office, sums_of(reports))
+    return lines
+
+
+def other_totals():
+    files, last, count = {}, [], 0
+    for number, line, came in script():
+        word, name, rest = (line.split(" ", 2) + ["", ""])[:3]
+        if word == "file":
+            files[name] = house.read(f"{CRATE}/data/{rest}")
+        elif word == "text":
+            files[name] = "".join(it + "\n" for it in rest.split(" / "))
+        elif word == "print":
+            files[name] = "".join(it + "\n" for it in came)
+        elif word == "edit":
+            files[name] = edited(files[name], rest)
+        elif word == "urna":
+            last = line.split()[1:]
+        if last[:1] == ["totaliza"] and word in ("urna", "again"):
+            given = {**files, name: edited(files[name], rest)} if word == "again" else files
+            count += 1
+            if came != totals(given[last[1]], [given[it] for it in given[last[2]].splitlines()]):
+                yield f"{CRATE}/stdout:{number}: the law gives other totals than those under `{line}`"
+    if not count:
+        yield f"{CRATE}/stdout: the script federations has no totals"
