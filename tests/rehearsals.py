@@ -1,6 +1,6 @@
 """The rehearsal of docs/FORMATS.md, "The rehearsal", worked out by the rules: who comes, what is typed, the report's text, the seats and the lines.
 
-`other_rows` gives the numbers of voters for which crates/part_tests/src/rehearsals.rt has other lines.
+`other_rows` gives the numbers of voters for which crates/report_tests/src/rehearsals.rt has other lines.
 """
 
 import re

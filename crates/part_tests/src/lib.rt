@@ -1,17 +1,10 @@
-//! The tests of fourteen parts: each public call once on its happy path, and what a part answers to values from outside where no command
-//! tells it. What a command tells stands in the scripts of `session_tests`. They stand in a crate of their own because a crate with tests is
-//! proved twice, with them and without them.
+//! The tests of the parts below the state of a poll: each public call once on its happy path, and what a part answers to values from outside
+//! where no command tells it. What a command tells stands in the scripts of `session_tests`. They stand in crates of their own, these and
+//! `report_tests`, because a crate with tests is proved twice, with them and without them.
 //!
-//! One module has the tests of one crate, and `reports`, `files`, `intake` and `rehearsals` have those of two each. `lines` is no test itself: it
-//! has a line that is pushed in five pieces, which `numbers` tests.
+//! One module has the tests of one crate. `lines` is no test itself: it has a line that is pushed in five pieces, which `numbers` tests.
 #![tactic(auto)]
 
-#[cfg(test)]
-mod codec;
-#[cfg(test)]
-mod files;
-#[cfg(test)]
-mod intake;
 pub mod lines;
 #[cfg(test)]
 mod marks;
@@ -21,10 +14,6 @@ mod names;
 mod numbers;
 #[cfg(test)]
 mod panel;
-#[cfg(test)]
-mod rehearsals;
-#[cfg(test)]
-mod reports;
 #[cfg(test)]
 mod script;
 #[cfg(test)]

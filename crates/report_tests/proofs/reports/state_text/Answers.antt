@@ -8,7 +8,7 @@ use Rattle.turnout.specs.Turnout.{number_came}
 use Rattle.turnout.specs.declared.phase.Phase.TheVariants as phase
 use Rattle.image_codec.specs.Valid.{HasMoments}
 use Rattle.image_codec.proofs.Counting.{only_votes}
-use Rattle.part_tests.proofs.reports.state_text.Goals as goal
+use Rattle.report_tests.proofs.reports.state_text.Goals as goal
 
 pub of-requires : goal.of-requires
 of-requires c =

@@ -2,6 +2,7 @@
 ghost use Rattle.std.specs.Prelude.{◌≡◌, ◌+◌, ◌<◌, ◌≤◌, length, vec_len, IfOk};
 ghost use Rattle.election_tables.specs.Limits.{most_voters};
 
+use crate::bodies::body_of;
 use election_tables::Tables;
 use image_codec::{State, decode, encode_into, rank_of};
 use std::alloc::Global;
@@ -80,18 +81,6 @@ const SEALED: [u8; 23] = [
 
 /// One panel: a vote for candidate 45 and a blank one.
 const VOTES: [u8; 15] = [1, 0, 0, 0, 2, 1, 0, 0, 0, 45, 3, 0, 0, 0, 0];
-
-/// A body of version 1: zeros but for its front and the bytes from the number of panels on.
-pub(super) fn body_of(alloc: Global, front: &[u8], bags: &[u8]) -> Result<Vec<u8>, Memory>
-    requires front { length front.now ≤ 97 }
-    requires bags { length bags.now ≤ 1000 }
-    ensures { IfOk result (λ body. vec_len body ≡ 65536) }
-{
-    let mut body = vec![in alloc; 0; 65_536]?;
-    body[..front.len()].copy_from_slice(front);
-    body[97..97 + bags.len()].copy_from_slice(bags);
-    Ok(body)
-}
 
 /// The counters of the same votes: candidates 13 and 45, blank, null.
 const COUNTERS: [u8; 16] = [0, 0, 0, 0, 0, 0, 0, 1, 0, 0, 0, 1, 0, 0, 0, 0];

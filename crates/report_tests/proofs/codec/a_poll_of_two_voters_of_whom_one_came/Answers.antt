@@ -6,7 +6,7 @@ use Rattle.vote_kinds.specs.Ballot.{BallotLine, ballot_lines}
 use Rattle.vote_kinds.proofs.Lookups.{lines_length}
 use Rattle.image_codec.specs.State.{State, AreFirst}
 use Rattle.image_codec.proofs.Ballots.{length-with_votes}
-use Rattle.part_tests.proofs.codec.a_poll_of_two_voters_of_whom_one_came.Goals as goal
+use Rattle.report_tests.proofs.codec.a_poll_of_two_voters_of_whom_one_came.Goals as goal
 
 first_blank : (lines : List BallotLine) → length lines ≡ 1 → AreFirst lines (choice.Blank ∷ [])
 first_blank [] n = absurd (omega arith)

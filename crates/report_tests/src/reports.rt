@@ -2,7 +2,7 @@
 ghost use Rattle.std.specs.List.{Contains};
 ghost use Rattle.image_codec.specs.Encoding.{IsStateOf};
 
-use crate::codec::body_of;
+use crate::bodies::body_of;
 use election_tables::{Section, Tables};
 use image_codec::{State, decode};
 use poll_report::{Count, OfficeCount, Report};
