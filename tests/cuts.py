@@ -140,7 +140,8 @@ def drawn_fault(draw, commits):
 
 
 def cut_session(runs, day, draw, flashes, state, what):
-    """A session from this state, cut at a drawn stop, in some cases behind a fault. Answers the images and the state that they hold."""
+    """A session from this state, cut at a drawn stop, in some cases behind a fault. Answers the images, the state that both hold, the states
+    of which each alone holds one, where something was shown, and what was done."""
     last = draw.randint(state, min(day.last, state + draw.randint(1, 3)))
     fail = drawn_fault(draw, last - state)
     what = f"{what}, vota from {day.states[state]!r} to {day.states[last]!r}" + (f" with URNA_FAIL='{fail}'" if fail else "")
@@ -152,8 +153,9 @@ def cut_session(runs, day, draw, flashes, state, what):
         want(ended.status == 0 and at_rest, f"{what}: {ended.told()}, or left another state")
     told, images, shown = cut(draw, flashes, ended.calls, greater(day, draw, state))
     what = f"{what}, {told} and {len(shown)} shown bytes"
-    state = want_held(runs, day, images, allowed(ended.shown, shown, state, last), bool(shown), what)
-    return images, state, what
+    states = allowed(ended.shown, shown, state, last)
+    state = want_held(runs, day, images, states, bool(shown), what)
+    return images, state, states if shown else None, what
 
 
 def want_end(runs, day, flashes, state, what):
@@ -174,7 +176,7 @@ def sessions(runs, draw):
     for _ in range(draw.randint(1, 4)):
         if draw.random() < 0.4:
             want_emite(runs, day, flashes, state, what)
-        flashes, state, what = cut_session(runs, day, draw, flashes, state, what)
+        flashes, state, _, what = cut_session(runs, day, draw, flashes, state, what)
         yield "cut sessions"
     want_end(runs, day, flashes, state, what)
 

@@ -5,7 +5,7 @@ import itertools
 from errno import ENOMEM
 
 import polls
-from commands import CARGA, EMITE, VOTA, want
+from commands import CARGA, EMITE, REPOE, VOTA, want
 from parts import parts_file
 from polls import FLASHES, LENGTH
 
@@ -74,7 +74,8 @@ def cases(runs):
     *_, (_, sealed) = life(runs)
     day = polls.Day(3)
     opened = {**day.documents(day.keys(3)), **dict(zip(FLASHES, day.flashes(1, 3)))}
-    return [(TOTALIZA, listed), (ENSAIO, {}), (CONFERE, listed), (VOTA, sealed), (VOTA, opened), (CARGA, day.documents(""))]
+    found = [(TOTALIZA, listed), (ENSAIO, {}), (CONFERE, listed), (VOTA, sealed), (VOTA, opened), (CARGA, day.documents(""))]
+    return found + [(words, {**opened, name: bytes(LENGTH)}) for words, name in zip(REPOE, FLASHES)]
 
 
 def has_ended_short(words, files, usual, ended):

@@ -75,6 +75,19 @@ CHOICES = [[(1, 13001), (2, 13), (2, 45), (3, 0), (4, 0)], [(1, 45), (3, 0), (4,
 COMMIT_LINES = ("ABERTA ", "FIM", "ENCERRADA ")
 
 
+MAGIC = b"URNAU1\0\0"
+
+
+def open_bodies(flash):
+    """The bodies of the open slots."""
+    return [flash[gate + 512 : gate + 512 + BODY] for gate in GATES if flash[gate] == 0xA5]
+
+
+def is_in_use(flash):
+    """Whether it has the poll of some load that was opened or sealed."""
+    return flash.startswith(MAGIC) and any(body[1] in (1, 2) for body in open_bodies(flash))
+
+
 def title(voter):
     return f"{voter + 1:012}"
 
@@ -115,11 +128,24 @@ class Day:
         """A flash that is loaded for this day, 0 the internal one, with no slot open."""
         numbers = b"".join(number.to_bytes(4, "big") for number in (1, 42, self.voters))
         hashes = b"".join(hashlib.sha256(text.encode()).digest() for text in (self.tables, self.roll))
-        return (b"URNAU1\0\0" + bytes([device + 1]) + numbers + hashes).ljust(LENGTH, b"\0")
+        return (MAGIC + bytes([device + 1]) + numbers + hashes).ljust(LENGTH, b"\0")
+
+    def is_loaded(self, flash, device):
+        """Whether it has the frame of this day's load."""
+        return flash[:512] == self.frame(device)[:512] and not any(any(flash[gate + 1 : gate + 512]) for gate in GATES)
+
+    def stands(self, flash):
+        """Whether a slot of it is open with a state of this day, in either version."""
+        bodies = {self.body(version, state) for version in (1, 2) for state in range(self.last + 1)}
+        return not bodies.isdisjoint(open_bodies(flash))
+
+    def came(self, state):
+        """How many came."""
+        return min(max(state - 1, 0), self.voters)
 
     def body(self, version, state):
         """The body of a slot in a state of the poll ("The body")."""
-        came = min(max(state - 1, 0), self.voters)
+        came = self.came(state)
         phase = 0 if state == 0 else 1 if state < self.last else 2
         marks = bytearray(75)
         for place in range(came):

@@ -1,5 +1,6 @@
 """The rule of docs/CRASH.md over what the scripts of cases tell of stops: behind each operation of a session both flashes, and each alone,
-hold the state whose line the display had begun last, or the next; before its first line both hold the state that it found.
+hold the state whose line the display had begun last, or the next; before its first line both hold the state that it found. Behind each
+operation of a replacement the flash that stands holds the one poll, and nothing tells of another one.
 
 `violations` gives the lines of the expected text of `session_tests` that tell something else.
 """
@@ -87,15 +88,27 @@ def check_runs(word, runs, session, first):
                 yield f"{done} of {low} to {high}: {text}"
 
 
+def check_replacement(runs, line):
+    """The lines of one look over a replacement that tell of another poll than this line and the first of them do."""
+    standing, seen = "INTERNA" in line, {"REPOSTA": line}
+    for low, high, text in runs:
+        found = re.findall(r"(?:URNA|REPOSTA) [A-Z]+(?: \d+)+", text)
+        greatest = [f"rank {max(ranks[standing], default='-')}" for _, ranks in told_in(text) if ranks]
+        if any(seen.setdefault(told.split(" ")[0], told) != told for told in [*found, *greatest]) or "rank -" in greatest:
+            yield f"{low} to {high}: {text}"
+
+
 def violations(expected):
-    """What the expected text tells of the stops of sessions and may not be."""
+    """What the expected text tells of the stops of sessions and of replacements and may not be."""
     session, look, runs, rank = [], "", [], {"PRONTA": 0}
     for line in [*expected.splitlines(), ""]:
         run = RUN.fullmatch(line)
         if run and look:
             runs.append(run.groups())
             continue
-        if runs and session and session[0].startswith("URNA "):
+        if runs and session and session[0].startswith("REPOSTA "):
+            yield from check_replacement(runs, session[0])
+        if runs and session and session[0].startswith("URNA ") and look != "others":
             opening = session[0].split(" ")
             yield from check_runs(look, runs, session, 0 if opening[1] == "PRONTA" else 1 + int(opening[2]))
         if line.startswith("    "):
@@ -103,6 +116,7 @@ def violations(expected):
                 session.append(line[4:])
             continue
         runs, words = [], line.split(" ")
-        look = words[0] if words[0] in ("ranks", "pieces", "calls") or (words[0] == "stops" and len(words) == 2) else ""
+        look = words[0] if words[0] in ("ranks", "pieces", "calls", "stops") else ""
+        look = "others" if look == "stops" and len(words) > 2 else look
         if words[0] in ("urna", "hush", "session"):
             session = []

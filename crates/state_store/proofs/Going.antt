@@ -26,24 +26,24 @@ use Rattle.state_store.proofs.Named.{named_there}
 use Rattle.state_store.proofs.Resting.{at_end}
 use Rattle.urna_outside.proofs.Keeping.{synced_clean}
 
--- the internal frame is that of one section
-one_section : (t : TablesData) (r : RollData) (section other : Section) (internal : List ℕ) → IsTables t → IsSectionOf t r section → IsSectionOf t r other
-    → HasFrameOf t r section Internal internal → HasFrameOf t r other Internal internal → section ≡ other
-one_section t r section other internal tables fits other_fits frame other_frame =
-    let this = named_there t r section internal (part internal 9 8) tables fits frame refl in
-    let that = named_there t r other internal (part internal 9 8) tables other_fits other_frame refl in
+-- the frame of a device is that of one section
+pub one_section : (t : TablesData) (r : RollData) (section other : Section) (d : Dev) (content : List ℕ) → IsTables t → IsSectionOf t r section → IsSectionOf t r other
+    → HasFrameOf t r section d content → HasFrameOf t r other d content → section ≡ other
+one_section t r section other d content tables fits other_fits frame other_frame =
+    let this = named_there t r section d content (part content 9 8) tables fits frame refl in
+    let that = named_there t r other d content (part content 9 8) tables other_fits other_frame refl in
     let both : Some section ≡ Some other = sym this ∙ that in
     let same : section ≡ other = cc in
     same
 
 pub loaded_once : LoadedOnce
 loaded_once t r section other internal external tables loaded also =
-    one_section t r section other internal tables loaded.section_fits also.section_fits loaded.internal_frame also.internal_frame
+    one_section t r section other Internal internal tables loaded.section_fits also.section_fits loaded.internal_frame also.internal_frame
 
 pub loaded_or_foreign : LoadedOrForeign
 loaded_or_foreign t r section Internal internal external tables loaded none = none section loaded.section_fits loaded.internal_frame
 loaded_or_foreign t r section External internal external tables loaded (other, fits, frame, differs) =
-    let same = one_section t r section other internal tables loaded.section_fits fits loaded.internal_frame frame in
+    let same = one_section t r section other Internal internal tables loaded.section_fits fits loaded.internal_frame frame in
     differs (subst (λ (u : Section). HasFrameOf t r u External external) same loaded.external_frame)
 
 pub foreign_once : ForeignOnce

@@ -6,7 +6,7 @@ use Rattle.std.proofs.lemmas.List.{drop-take, take-take}
 use Rattle.std.proofs.lemmas.List.Elements.{All-contains}
 use Rattle.std.proofs.lemmas.Nat.{from_be_bytes-to_be_bytes_4}
 use Rattle.urna_outside.specs.Flash.{part}
-use Rattle.urna_outside.specs.declared.device.Dev.TheVariants.{Internal}
+use Rattle.urna_outside.specs.declared.device.Dev.{Dev}
 use Rattle.election_tables.specs.Roll.{RollData}
 use Rattle.election_tables.specs.TablesData.{TablesData, IsSection, IsTables, section_with}
 use Rattle.election_tables.specs.declared.tables.sections.Section.{Section}
@@ -16,10 +16,10 @@ use Rattle.state_store.specs.Load.{IsSectionOf, header, load_of}
 use Rattle.state_store.proofs.Sections.{found_section}
 
 -- A header has the zone and the section from its ninth byte on.
-names_place : (t : TablesData) (r : RollData) (s : Section)
-    → drop 9 (header (load_of t r s) Internal) ≡ to_be_bytes w32 s.zone ++ (to_be_bytes w32 s.number ++ (to_be_bytes w32 s.voters ++ t.digest ++ r.digest ++ replicate 427 0))
+names_place : (t : TablesData) (r : RollData) (s : Section) (d : Dev)
+    → drop 9 (header (load_of t r s) d) ≡ to_be_bytes w32 s.zone ++ (to_be_bytes w32 s.number ++ (to_be_bytes w32 s.voters ++ t.digest ++ r.digest ++ replicate 427 0))
 unfolding header
-names_place t r s = refl
+names_place t r s d = refl
 
 module _ (c h : List ℕ) (zone number : ℕ) (rest : List ℕ) (there : part c 0 header_size ≡ h) (is : drop 9 h ≡ to_be_bytes w32 zone ++ (to_be_bytes w32 number ++ rest)) where
   behind : take 503 (drop 9 c) ≡ to_be_bytes w32 zone ++ (to_be_bytes w32 number ++ rest)
@@ -36,13 +36,13 @@ small : (n : ℕ) → n ≤ 9999 → n < 2 ^ 32
 small n below = omega (arith, below)
 
 -- A device with the frame of a section names that section, and the tables have it.
-pub named_there : (t : TablesData) (r : RollData) (s : Section) (c place : List ℕ) → IsTables t → IsSectionOf t r s → HasFrameOf t r s Internal c → place ≡ part c 9 8
+pub named_there : (t : TablesData) (r : RollData) (s : Section) (d : Dev) (c place : List ℕ) → IsTables t → IsSectionOf t r s → HasFrameOf t r s d c → place ≡ part c 9 8
     → section_with (from_be_bytes w32 (take 4 place)) (from_be_bytes w32 (drop 4 place)) t.sections ≡ Some s
-named_there t r s c place tables fits frame is =
+named_there t r s d c place tables fits frame is =
     let zone : from_be_bytes w32 (take 4 place) ≡ s.zone =
-    ap (λ (p : List ℕ). from_be_bytes w32 (take 4 p)) is ∙ ap (from_be_bytes w32) (zone_there c _ s.zone s.number _ frame.at_front (names_place t r s)) ∙ from_be_bytes-to_be_bytes_4 s.zone (small s.zone (section_is.zone.1)) in
+    ap (λ (p : List ℕ). from_be_bytes w32 (take 4 p)) is ∙ ap (from_be_bytes w32) (zone_there c _ s.zone s.number _ frame.at_front (names_place t r s d)) ∙ from_be_bytes-to_be_bytes_4 s.zone (small s.zone (section_is.zone.1)) in
     let number : from_be_bytes w32 (drop 4 place) ≡ s.number =
-    ap (λ (p : List ℕ). from_be_bytes w32 (drop 4 p)) is ∙ ap (from_be_bytes w32) (number_there c _ s.zone s.number _ frame.at_front (names_place t r s)) ∙ from_be_bytes-to_be_bytes_4 s.number (small s.number (section_is.number.1)) in
+    ap (λ (p : List ℕ). from_be_bytes w32 (drop 4 p)) is ∙ ap (from_be_bytes w32) (number_there c _ s.zone s.number _ frame.at_front (names_place t r s d)) ∙ from_be_bytes-to_be_bytes_4 s.number (small s.number (section_is.number.1)) in
     ap (λ (z : ℕ). section_with z (from_be_bytes w32 (drop 4 place)) t.sections) zone ∙ ap (λ (n : ℕ). section_with s.zone n t.sections) number
     ∙ found_section t.sections s tables.sections_rise fits.listed
   where

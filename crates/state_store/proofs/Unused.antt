@@ -19,7 +19,7 @@ used_before index before image was used =
     moved is (inr two) = inr (is ∙ two)
 
 -- while a device has its old header and slots, it is in use as before
-early_before : (before image : List ℕ) → IsEarly body_size before image → IsInUse image → IsInUse before
+pub early_before : (before image : List ℕ) → IsEarly body_size before image → IsInUse image → IsInUse before
 early_before before image early busy =
     record {
       begins = sym (take-take 8 header_size before (lit≤ tt)) ∙ ap (take 8) (sym early.header) ∙ take-take 8 header_size image (lit≤ tt) ∙ busy.begins;

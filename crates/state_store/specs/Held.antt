@@ -23,13 +23,13 @@ pub record AreLoaded (t : TablesData) (r : RollData) (section : Section) (intern
   pub internal_frame : HasFrameOf t r section Internal internal
   pub external_frame : HasFrameOf t r section External external
 
--- the internal device has the frame of no such section
-abbrev pub HasNoFrame : TablesData → RollData → List ℕ → Type 0
-HasNoFrame t r internal = (section : Section) → IsSectionOf t r section → ¬ HasFrameOf t r section Internal internal
+-- the device has the frame of no such section
+abbrev pub HasNoFrame : TablesData → RollData → Dev → List ℕ → Type 0
+HasNoFrame t r d content = (section : Section) → IsSectionOf t r section → ¬ HasFrameOf t r section d content
 
 -- The internal frame is that of no such section; or it is that of one, and the external frame isn't that of the same.
 abbrev pub IsForeign : TablesData → RollData → Dev → List ℕ → List ℕ → Type 0
-IsForeign t r Internal internal external = HasNoFrame t r internal
+IsForeign t r Internal internal external = HasNoFrame t r Internal internal
 IsForeign t r External internal external =
     (section : Section) × IsSectionOf t r section × HasFrameOf t r section Internal internal × (¬ HasFrameOf t r section External external)
 

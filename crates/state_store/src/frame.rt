@@ -75,26 +75,29 @@ fn section_at(tables: &Tables, place: [u8; 8]) -> Option<Section>
     tables.find_section(be32([a, b, c, d]), be32([e, f, g, h]))
 }
 
-/// The section of the tables that the internal frame names: with as many voters as the roll, and with its load's frame. It reads
-/// and does nothing else.
-fn named_section<M: Machine>(
+/// The section of the tables that the frame of a device names: with as many voters as the roll, and with its load's frame. None where
+/// the device has the frame of no such section. It reads and does nothing else.
+///
+/// The caller owes that the device has the size of a flash. The device is answered only where its count of faults rose.
+pub fn named_section<M: Machine>(
     tables: &Tables,
     roll: &Roll,
     m: &mut M,
+    dev: Dev,
 ) -> Result<Option<Section>, Dev>
-    requires { size_of dev.Internal (M.told m.old).sizes ≡ device_size }
+    requires { size_of dev (M.told m.old).sizes ≡ device_size }
     ensures section { IfOk result (λ found. IfSome found (IsSectionOf tables.now roll.now)) }
     ensures frame { IfOk result (λ found. ForSome (M.told m.old).flashes (λ flashes.
-        IfSome found (λ section. HasFrameOf tables.now roll.now section dev.Internal flashes.internal.content))) }
+        IfSome found (λ section. HasFrameOf tables.now roll.now section dev (flash_of dev flashes).content))) }
     ensures none { IfOk result (λ found. ForSome (M.told m.old).flashes (λ flashes.
-        IfNone found (HasNoFrame tables.now roll.now flashes.internal.content))) }
-    ensures dev { IfErr result (λ failed. failed ≡ dev.Internal) }
+        IfNone found (HasNoFrame tables.now roll.now dev (flash_of dev flashes).content))) }
+    ensures dev { IfErr result (λ failed. failed ≡ dev) }
     ensures done { Does [] (M.told m.old) (M.told m.new) }
     ensures fails { FailsAt port_of result (M.told m.old) (M.told m.new) }
 {
     let mut place = [0; 8];
-    let Ok(()) = m.read(Dev::Internal, ZONE, &mut place) else {
-        return Err(Dev::Internal);
+    let Ok(()) = m.read(dev, ZONE, &mut place) else {
+        return Err(dev);
     };
     let Some(section) = section_at(tables, place) else {
         return Ok(None);
@@ -102,11 +105,7 @@ fn named_section<M: Machine>(
     if section.voters != roll.len() {
         return Ok(None);
     }
-    if !has_frame(
-        m,
-        Dev::Internal,
-        &header(tables, roll, section, Dev::Internal),
-    )? {
+    if !has_frame(m, dev, &header(tables, roll, section, dev))? {
         return Ok(None);
     }
     Ok(Some(section))
@@ -138,7 +137,7 @@ pub(crate) fn loaded_section<M: Machine>(
     ensures fails { MatchResult result (λ section. IsFaultless (M.told m.old) (M.told m.new))
         (λ error. EndsLooking error (M.told m.old) (M.told m.new)) }
 {
-    let found = match named_section(tables, roll, m) {
+    let found = match named_section(tables, roll, m, Dev::Internal) {
         Ok(found) => found,
         Err(dev) => return Err(FrameError::Flash(dev)),
     };

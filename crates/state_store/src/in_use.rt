@@ -53,8 +53,10 @@ fn is_used<M: Machine>(m: &mut M, dev: Dev, index: u8) -> Result<bool, Dev>
 }
 
 /// Whether a device is in use: it begins with the magic, and one of its slots is used. It reads and does nothing else.
+///
+/// The caller owes that the device has the size of a flash. The device is answered only where its count of faults rose.
 #[tactic(auto, using(crate::proofs::Looking::looked_twice))]
-pub(crate) fn is_in_use<M: Machine>(m: &mut M, dev: Dev) -> Result<bool, Dev>
+pub fn is_in_use<M: Machine>(m: &mut M, dev: Dev) -> Result<bool, Dev>
     requires { size_of dev (M.told m.old).sizes ≡ device_size }
     ensures used { IfOk result (λ used. ForSome (M.told m.old).flashes
         (λ flashes. IsTrue used ↔ IsInUse (flash_of dev flashes).content)) }

@@ -9,7 +9,7 @@ use twin_image::Ranked;
 
 /// Ranks a body by the state of a poll of these tables and so many voters whose encoding it is.
 #[derive(Drop)]
-pub(crate) struct Ranks<'a> {
+pub struct Ranks<'a> {
     tables: &'a Tables,
     voters: u32,
     ghost few: { voters ≤ most_voters },
@@ -17,7 +17,7 @@ pub(crate) struct Ranks<'a> {
 
 impl<'a> Ranks<'a> {
     /// The ranks for so many voters, of whom there are at most 600.
-    pub(crate) fn of(tables: &'a Tables, voters: u32) -> Ranks<'a>
+    pub fn of(tables: &'a Tables, voters: u32) -> Ranks<'a>
         requires { voters ≤ most_voters }
         ensures tables { result.tables.now ≡ tables.now }
         ensures voters { result.voters ≡ voters }

@@ -12,16 +12,17 @@ use urna_base::{Memory, zeros};
 
 /// All the memory that a store and its state take: the buffers of a survey, a state, and where a next body is written.
 #[derive(Drop)]
-pub(crate) struct Room {
-    pub(crate) twin: Twin<BODY_SIZE>,
-    pub(crate) state: State,
-    pub(crate) next: Vec<u8>,
-    pub(crate) ghost buffer: { IsBuffer next.items (vec_capacity next) },
+pub struct Room {
+    pub twin: Twin<BODY_SIZE>,
+    pub state: State,
+    pub next: Vec<u8>,
+    pub ghost buffer: { IsBuffer next.items (vec_capacity next) },
 }
 
 impl Room {
-    /// Room for a poll of these tables and so many voters, and its state before it begins.
-    pub(crate) fn new(alloc: Global, tables: &Tables, voters: u32) -> Result<Room, Memory>
+    /// Room for a poll of these tables and so many voters, of whom there are at most 600, and its state before it begins.
+    /// `Memory` comes only where an allocation failed.
+    pub fn new(alloc: Global, tables: &Tables, voters: u32) -> Result<Room, Memory>
         requires { voters ≤ most_voters }
         ensures { IfOk result (λ room. room.state ≡ ready_state tables.now voters) }
     {

@@ -7,7 +7,8 @@ ghost use Rattle.state_store.specs.Calls.{IsSynced, IsWithinSyncs};
 use urna_outside::{Dev, Machine};
 
 /// Syncs both devices, Internal first. Nothing is dirty afterwards, so what reads give stands whatever the power does.
-pub(crate) fn sync_both<M: Machine>(m: &mut M) -> Result<(), Dev>
+/// A device is answered only where its count of faults rose.
+pub fn sync_both<M: Machine>(m: &mut M) -> Result<(), Dev>
     ensures synced { OnOk result (IsSynced (M.told m.old) (M.told m.new)) }
     ensures fails { IfErr result (λ dev. EndsAt (port_of dev) (M.told m.old) (M.told m.new)) }
     ensures ran { IfErr result (λ dev. Runs IsWithinSyncs (M.told m.old) (M.told m.new)) }

@@ -164,7 +164,7 @@ suspended_roll : (v : Setting) (s : State) (place : ℕ) (choices : List Choice)
 suspended_roll v s place [] r = r
 suspended_roll v s place (c ∷ choices) r = roll_kept v s place (filled_up v.lines (c ∷ choices)) r
 
-visit_roll : {v : Setting} {s u : State} {place : ℕ} {es : List Event} {text : List Output} → Visit v s place es u text → length s.came ≡ length v.roll → length u.came ≡ length v.roll
+pub visit_roll : {v : Setting} {s u : State} {place : ℕ} {es : List Event} {text : List Output} → Visit v s place es u text → length s.came ≡ length v.roll → length u.came ≡ length v.roll
 visit_roll {v} {s} {place} (whole {choices} votes at) r = roll_kept v s place choices r
 visit_roll {v} {s} {place} (suspended {choices} on) r = suspended_roll v s place choices r
 

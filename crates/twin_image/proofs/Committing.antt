@@ -17,15 +17,10 @@ use Rattle.twin_image.specs.Held.{LeavesEither, IsNotOutranked}
 use Rattle.twin_image.specs.Level.{IsLevel, CommitsTo}
 use Rattle.twin_image.proofs.Renewing.{live_image, one_of, twin_bounded}
 use Rattle.twin_image.proofs.Framing.{framed, on_both}
-use Rattle.twin_image.specs.Slots.{HaveRoom, AreClean}
+use Rattle.twin_image.specs.Slots.{HaveRoom, AreClean, beside}
 use Rattle.twin_image.proofs.Holding.{leaves_either}
 
--- the other device
-abbrev pub other_device : Dev → Dev
-other_device Internal = External
-other_device External = Internal
-
-pub differs : (d : Dev) → other_device d ≢ d
+pub differs : (d : Dev) → beside d ≢ d
 differs Internal same = cc
 differs External same = cc
 
@@ -52,12 +47,12 @@ level_holds rank size body top is_ranked long fs level left internal external =
     (twin_holds size body body body fs.external left.external long (inl refl) (level.twins External) external)
 
 -- what is so of the other device stays so
-pub other_kept : (d : Dev) (In : ℕ → Type 0) (n : ℕ) (P : Flashes → Left → Type 0) (F : Flash → Type 0) (a b : Told) → ((k : ℕ) → In k → k < size_of d a.sizes) → ForSome a.flashes (AreSized a.sizes) → Runs (Stage a d In n P) a b → OnFlash (other_device d) F a → OnFlash (other_device d) F b
+pub other_kept : (d : Dev) (In : ℕ → Type 0) (n : ℕ) (P : Flashes → Left → Type 0) (F : Flash → Type 0) (a b : Told) → ((k : ℕ) → In k → k < size_of d a.sizes) → ForSome a.flashes (AreSized a.sizes) → Runs (Stage a d In n P) a b → OnFlash (beside d) F a → OnFlash (beside d) F b
 other_kept d In n P F a b bounded sized run was =
-    run_keeps d In (λ fs. F (flash_of (other_device d) fs)) run.0 a b run.1 run.2.within sized bounded (λ fs gs keeps. subst F (sym (keeps.other (other_device d) (differs d)))) was
+    run_keeps d In (λ fs. F (flash_of (beside d) fs)) run.0 a b run.1 run.2.within sized bounded (λ fs gs keeps. subst F (sym (keeps.other (beside d) (differs d)))) was
 
 -- what is left of one device and of the other
-of_two : (d : Dev) (size : ℕ) (old new : List ℕ) (left : Left) → HoldsEither size old new (left_on d left) → HoldsEither size old new (left_on (other_device d) left) → (e : Dev) → HoldsEither size old new (left_on e left)
+of_two : (d : Dev) (size : ℕ) (old new : List ℕ) (left : Left) → HoldsEither size old new (left_on d left) → HoldsEither size old new (left_on (beside d) left) → (e : Dev) → HoldsEither size old new (left_on e left)
 of_two Internal size old new left own other = on_both (λ e. HoldsEither size old new (left_on e left)) own other
 of_two External size old new left own other = on_both (λ e. HoldsEither size old new (left_on e left)) other own
 
@@ -67,11 +62,11 @@ module _ (rank : List ℕ → Option ℕ) (size : ℕ) (old new : List ℕ) (old
 
   -- while one flash is renewed, the other has one of the two bodies
   renewal_course : (d : Dev) (body : List ℕ) (a b : Told) → length body ≡ size → (body ≡ old) ⊎ (body ≡ new) → room size ≤ size_of d a.sizes → ForSome a.flashes (AreSized a.sizes)
-      → OnFlash (other_device d) (IsTwin size body) a → Runs (Renews a d size old new) a b → Runs (Course a (λ d k. IsOfTwin size k) 6 Either) a b
+      → OnFlash (beside d) (IsTwin size body) a → Runs (Renews a d size old new) a b → Runs (Course a (λ d k. IsOfTwin size k) 6 Either) a b
   renewal_course d body a b long one fits sized twin run =
       course_from_stage d (IsOfTwin size) 6 Either a b
       (stage_stronger d (IsOfTwin size) 6 (λ start left. HoldsEither size old new (left_on d left)) Either a b sized (twin_bounded size (size_of d a.sizes) fits) (λ start told fs left keeps is holds.
-      let e = other_device d in
+      let e = beside d in
       let image = subst (λ (f : Flash). IsImage f (left_on e left)) (keeps.other e (differs d)) (left_image e fs [] left is) in
       let all = of_two d size old new left holds (twin_holds size old new body (flash_of e start) (left_on e left) long one (twin start told) image) in
       leaves_either rank size old new ranked.lower ranked.higher ranked.old_rank ranked.new_rank left (all Internal) (all External)) run)

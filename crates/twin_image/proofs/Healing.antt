@@ -99,6 +99,19 @@ module _ (rank : List ℕ → Option ℕ) (size : ℕ) (body : List ℕ) (is_ran
       let at_3 = best_mended rank body (t0 ++ t1 ++ t2) s3 t3 [] (slot_one 1 external) (mended_slot 1 external left.external e.second) ready in
       held_from_best rank (t0 ++ t1 ++ (t2 ++ t3)) body (subst (IsBest rank body) (ap (λ (l : List (List ℕ)). t0 ++ t1 ++ t2 ++ l) (append-nil t3) ∙ append_assoc (t0 ++ t1) t2 t3) at_3)
 
+  -- and so it is with one device alone
+  pub heals_alone : (before image : List ℕ) → held_body rank (bodies_on rank size before) ≡ Some body → MendsBoth size body before image → held_body rank (bodies_on rank size image) ≡ Some body
+  heals_alone before image was mends =
+      let s0 = Slot 0 before in
+      let s1 = Slot 1 before in
+      let t0 = Slot 0 image in
+      let t1 = Slot 1 image in
+      let best = best_from_held rank (s0 ++ s1) body was in
+      let at_0 = best_mended rank body [] s0 t0 s1 (slot_one 0 before) (mended_slot 0 before image mends.first) best in
+      let ready = subst (IsBest rank body) (ap (λ (l : List (List ℕ)). t0 ++ l) (sym (append-nil s1))) at_0 in
+      let at_1 = best_mended rank body t0 s1 t1 [] (slot_one 1 before) (mended_slot 1 before image mends.second) ready in
+      held_from_best rank (t0 ++ t1) body (subst (IsBest rank body) (ap (λ (l : List (List ℕ)). t0 ++ l) (append-nil t1)) at_1)
+
 -- what is held has a rank
 module _ (rank : List ℕ → Option ℕ) (size : ℕ) where
   abbrev AreRanked : List (List ℕ) → Type 0

@@ -6,8 +6,14 @@ use Rattle.urna_outside.specs.Confined.{AreIn, count_syncs}
 use Rattle.urna_outside.specs.Stop.{Left, AtEachStop, left_on}
 use Rattle.urna_outside.specs.Told.{Told, Sizes, size_of}
 use Rattle.urna_outside.specs.declared.device.Dev.{Dev}
+use Rattle.urna_outside.specs.declared.device.Dev.TheVariants.{Internal, External}
 use Rattle.gate_slot.specs.Slot.{room}
 use Rattle.twin_image.specs.Twin.{IsOfTwin}
+
+-- the other one of the two devices
+abbrev pub beside : Dev → Dev
+beside Internal = External
+beside External = Internal
 
 -- both devices have room for two slots
 abbrev pub HaveRoom : ℕ → Sizes → Type 0

@@ -132,9 +132,13 @@ fn publish_both<M: Machine, const SIZE: usize>(
     Ok((first, second))
 }
 
-/// Loads a device: until its frame is written no slot is open that wasn't, and from then on each open slot has the
-/// body and the frame is whole.
-pub(crate) fn lay_on<M: Machine, const SIZE: usize>(
+/// Loads a device: both slots are shut, both are filled with the body, the header and the zeros behind the gates are
+/// written and synced, and both slots are published. Until its frame is written no slot is open that wasn't, and from
+/// then on each open slot has the body and the frame is whole.
+///
+/// The caller owes that the device has no dirty byte, a header of HEADER_SIZE bytes and a body of SIZE. The device is
+/// answered only where its count rose.
+pub fn lay_on<M: Machine, const SIZE: usize>(
     m: &mut M,
     dev: Dev,
     header: &[u8],

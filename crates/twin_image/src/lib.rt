@@ -23,8 +23,10 @@ mod twin;
 
 pub use found::Found;
 pub use law::{a_commit_puts_the_pages_that_change, held_is_the_first_of_greatest_rank};
+pub use lay::lay_on;
 pub use level::Level;
+pub use mend::mend_twin;
 pub use ranked::Ranked;
-pub use renewal::renew;
+pub use renewal::{renew, renew_on};
 pub use survey::SurveyError;
 pub use twin::Twin;

@@ -56,8 +56,13 @@ fn mend<M: Machine, const SIZE: usize>(
     }
 }
 
-/// Mends slot 0 and then slot 1 of a device.
-pub(crate) fn mend_twin<M: Machine, const SIZE: usize>(
+/// Brings each slot of a device that isn't live with a body to it, slot 0 and then slot 1, and touches no other: it
+/// shuts the slot, fills it and publishes it. By whatever ranks the device alone held this body, it holds it at each
+/// stop.
+///
+/// The caller owes that the device has no dirty byte, and that `body` and `buffer` have SIZE bytes. `buffer` may then
+/// hold anything. The device is answered only where its count rose.
+pub fn mend_twin<M: Machine, const SIZE: usize>(
     m: &mut M,
     dev: Dev,
     body: &[u8],

@@ -178,8 +178,8 @@ pub fn renew<M: Machine, const SIZE: usize>(
     Ok((first_new, second_new))
 }
 
-/// Renews the two slots of a device.
-pub(crate) fn renew_on<M: Machine, const SIZE: usize>(
+/// Renews the two slots of a device, as `renew` does. The device is answered only where its count rose.
+pub fn renew_on<M: Machine, const SIZE: usize>(
     m: &mut M,
     dev: Dev,
     lives: (Live<SIZE>, Live<SIZE>),

@@ -93,7 +93,7 @@ impl<const SIZE: usize> Best<SIZE> {
     }
 
     /// Looks at both slots of a device.
-    fn look_on<M: Machine, R: Ranked>(
+    pub(crate) fn look_on<M: Machine, R: Ranked>(
         self,
         m: &mut M,
         ranks: &R,

@@ -20,14 +20,16 @@ pub struct Twin<const SIZE: usize> {
 }
 
 impl<const SIZE: usize> Twin<SIZE> {
-    ghost use Rattle.std.specs.Prelude.{[], Some, IfOk, IsSome, IsErrOf, OnOk, OnErr};
+    ghost use Rattle.std.specs.Prelude.{[], ◌≤◌, Some, IfOk, IsSome, IsErrOf, OnOk, OnErr};
     ghost use Rattle.std.specs.Option.{ForSome};
     ghost use Rattle.urna_outside.specs.Faults.{FailsAt};
-    ghost use Rattle.urna_outside.specs.Told.{Does, Runs, port_of};
+    ghost use Rattle.urna_outside.specs.Flash.{IsClean};
+    ghost use Rattle.urna_outside.specs.Told.{Does, Runs, port_of, size_of};
+    ghost use Rattle.gate_slot.specs.Device.{OnFlash};
     ghost use Rattle.gate_slot.specs.Front.{IsFrontOf};
-    ghost use Rattle.gate_slot.specs.Slot.{header_size};
+    ghost use Rattle.gate_slot.specs.Slot.{header_size, room};
     ghost use Rattle.twin_image.specs.Found.{found_body};
-    ghost use Rattle.twin_image.specs.Held.{HoldsBody, NoneStands};
+    ghost use Rattle.twin_image.specs.Held.{HoldsBody, NoneStands, bodies_on, held_alone};
     ghost use Rattle.twin_image.specs.Lay.{AreFull, AreLaid, Lays, load_ops};
     ghost use Rattle.twin_image.specs.Level.{body_of, Stands};
     ghost use Rattle.twin_image.specs.Slots.{HaveRoom, AreClean};
@@ -72,6 +74,45 @@ impl<const SIZE: usize> Twin<SIZE> {
             buffer,
         };
         match nothing.look_at_all(m, ranks) {
+            Ok(best) => match best.rank {
+                Some(_) => Ok(Found::of(best.body, best.buffer)),
+                None => Err(SurveyError::NoImage),
+            },
+            Err(dev) => Err(SurveyError::Flash(dev)),
+        }
+    }
+
+    /// Finds the body that one device alone holds: of its two slots that stand, the first of greatest rank. It reads
+    /// only.
+    ///
+    /// The caller owes that the device has no dirty byte, so that what is found stands in every image. `NoImage` comes
+    /// exactly where neither slot stands, `Flash` only where that device's count rose.
+    pub fn survey_on<M: Machine, R: Ranked>(
+        self,
+        m: &mut M,
+        ranks: &R,
+        dev: Dev,
+    ) -> Result<Found<SIZE>, SurveyError>
+        requires room { room SIZE ≤ size_of dev (M.told m.old).sizes }
+        requires clean { OnFlash dev IsClean (M.told m.old) }
+
+        ensures held { IfOk result (λ found. OnFlash dev
+            (λ flash. held_alone (R.rank ranks.now) SIZE flash.content ≡ Some (found_body found)) (M.told m.old)) }
+        ensures ranked { IfOk result (λ found. IsSome (R.rank ranks.now (found_body found))) }
+        ensures whole { IfOk result (λ found. length (found_body found) ≡ SIZE) }
+        ensures none { IsErrOf result SurveyError.NoImage
+            → OnFlash dev (λ flash. bodies_on (R.rank ranks.now) SIZE flash.content ≡ []) (M.told m.old) }
+
+        ensures done { Does [] (M.told m.old) (M.told m.new) }
+        ensures fails { SurveyEnds result (M.told m.old) (M.told m.new) }
+    {
+        let Twin { body, buffer } = self;
+        let nothing: Best<SIZE> = Best {
+            rank: None,
+            body,
+            buffer,
+        };
+        match nothing.look_on(m, ranks, dev) {
             Ok(best) => match best.rank {
                 Some(_) => Ok(Found::of(best.body, best.buffer)),
                 None => Err(SurveyError::NoImage),

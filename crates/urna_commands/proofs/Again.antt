@@ -1,26 +1,25 @@
--- Any calls one after the other keep the votes of a poll
-use Rattle.state_store.specs.Held.{HeldByBoth}
-use Rattle.std.proofs.Common.{◌≡◌, ◌≢◌, ◌⊎◌, inl, inr, ℕ, ◌+◌, List, [], ◌∷◌, ◌++◌, Option, Some, None, length, refl, sym, ap, subst, ◌∙◌, arith, append_assoc, length-append}
-use Rattle.std.specs.Prelude.{false, replicate, slice_index_or}
+-- Any calls and exchanges one after the other keep the votes of a poll
+use Rattle.std.proofs.Common.{◌≡◌, ◌≢◌, ◌⊎◌, inl, inr, ℕ, ◌+◌, ◌<◌, List, [], ◌∷◌, ◌++◌, Option, Some, None, length, refl, sym, ap, subst, ◌∙◌, arith, append_assoc}
+use Rattle.std.specs.Prelude.{codes, false, replicate, slice_index_or}
 use Rattle.std.specs.Str.{bytes_eq}
 use Rattle.std.proofs.lemmas.Bool.{cases_Bool}
+use Rattle.std.proofs.lemmas.List.{append-nil, length-replicate}
 use Rattle.std.proofs.lemmas.Slice.Eq.{bytes_eq-Decides}
-use Rattle.urna_commands.proofs.PutFiles.{differ}
-use Rattle.std.proofs.lemmas.List.{append-nil, append_cancel_left, length-replicate}
-use Rattle.std.proofs.lemmas.List.Elements.{Contains-get_or}
 use Rattle.urna_outside.specs.Cabinet.{CabinetTold, Files}
-use Rattle.urna_outside.specs.Flash.{Flashes, IsClean, IsImage, Op, Sync, after, clean_flash, shown_by}
+use Rattle.urna_outside.specs.Flash.{Flash, Flashes, IsClean, IsImage, Op, Put, Show, Sync, after, clean_flash, flash_of, shown_by}
+use Rattle.urna_outside.specs.ShownLines.{shows}
 use Rattle.urna_outside.specs.Started.{clean_flashes}
-use Rattle.urna_outside.specs.Stop.{IsLeft, IsStop, Left}
-use Rattle.urna_outside.specs.Told.{Does, Runs, Told}
+use Rattle.urna_outside.specs.Stop.{AtEachStop, IsLeft, IsStop, Left, left_on}
+use Rattle.urna_outside.specs.Told.{Does, Runs, Told, port_of}
 use Rattle.urna_outside.specs.Traced.{IsTraced}
+use Rattle.urna_outside.specs.declared.device.Dev.{Dev}
 use Rattle.urna_outside.specs.declared.device.Dev.TheVariants as dev
-use Rattle.urna_outside.specs.declared.device.Port.TheVariants as port
-use Rattle.urna_outside.proofs.Doing.{does_nothing}
+use Rattle.urna_outside.proofs.Doing.{after-append, does-append, does_nothing, shown_by-append}
 use Rattle.urna_outside.proofs.Keeping.{synced_clean}
+use Rattle.urna_outside.proofs.ShowingLines.{cut_front, shows_lines}
 use Rattle.urna_outside.proofs.Stops.{stop-append, stop_whole, stops_none}
 use Rattle.urna_outside.proofs.Traced.{traced_is}
-use Rattle.election_tables.specs.Roll.{RollData}
+use Rattle.election_tables.specs.Roll.{IsRoll, RollData}
 use Rattle.election_tables.specs.TablesData.{IsTables, TablesData}
 use Rattle.election_tables.specs.declared.tables.sections.Section.{Section}
 use Rattle.key_script.specs.declared.keys.Event.{Event}
@@ -28,131 +27,41 @@ use Rattle.turnout.specs.declared.phase.Phase.{Phase}
 use Rattle.turnout.specs.declared.phase.Phase.TheVariants as phase
 use Rattle.vote_kinds.specs.Ballot.{ballot_lines}
 use Rattle.image_codec.specs.Also.{HasAlso}
-use Rattle.image_codec.specs.CodecLaws.{Ballot}
 use Rattle.image_codec.specs.State.{State}
 use Rattle.image_codec.proofs.Growing.{also_also, also_none}
-use Rattle.state_store.specs.Calls.{AreFound, FromSyncs, IsUntouched, IsWithinSyncs, KeepFrames, both_synced}
-use Rattle.state_store.specs.Laws.{AreWhole, IsPollOf}
-use Rattle.state_store.specs.Pieces.{AreFull, Piece, commits_in, commits_reached, lines_in, text_in}
-use Rattle.state_store.proofs.Counting.{reached_after}
-use Rattle.state_store.proofs.Going.{found_once, poll_left, syncs_leave_no_more}
+use Rattle.twin_image.specs.Slots.{beside}
+use Rattle.state_store.specs.Calls.{AreFound, IsFrontOfSyncs, KeepFrames, both_synced}
+use Rattle.state_store.specs.Held.{HasFrameOf}
+use Rattle.state_store.specs.Laws.{AreWhole}
+use Rattle.state_store.specs.Rest.{IsInUse, device_size}
 use Rattle.state_store.proofs.Resting.{at_end, clean_image, frames_same, frames_text, frames_then}
-use Rattle.station.specs.Cast.{ballots_of, fims_reached}
-use Rattle.station.specs.Output.{Output, commits_of}
-use Rattle.station.specs.Run.{IsRun}
+use Rattle.contingency.specs.Replaced.{IsReplaced, IsStanding, LeavesStanding}
 use Rattle.station.specs.Setting.{setting_of}
-use Rattle.station.specs.Start.{FailsToStart}
-use Rattle.station.specs.declared.station.StartError.{StartError}
-use Rattle.station.specs.declared.station.StartError.TheVariants as starting
-use Rattle.station.proofs.Casting.{opened_fims, pieces_commit}
+use Rattle.station.proofs.Casting.{run_counts}
 use Rattle.station.proofs.Performing.{tables_setting}
-use Rattle.station.proofs.Pieces.{full_opening, full_pieces}
-use Rattle.station.proofs.RunLaws.{commits_of-append, run_exists}
-use Rattle.urna_commands.specs.Again.{AreCalled, AreReady, Call, CallsKeepVotes, HasKept, IsCall, IsInterrupted, IsNext, IsSessionOf, IsToldOrOneMore, LeadTo, LeadsOn, LeadsTo, MayBeCalled, NextIsSafe, ballots_in, ballots_led, cut, cut_behind, ended, failed, leads, no_call, one_call, other, session, silent, stays, stopped}
-use Rattle.urna_commands.specs.Command.{Command, ToCheck, ToEmit, ToLoad, ToRehearse, ToTotal, ToVote, Vota, command_of, Carga}
-use Rattle.urna_commands.specs.Errors.{port_status, start_status}
-use Rattle.urna_commands.specs.FaultLines.{Tells, fault_text}
-use Rattle.urna_commands.specs.Headline.{KeepsVotes, session_of}
+use Rattle.station.proofs.RunLaws.{run_exists}
+use Rattle.urna_commands.specs.Again.{AreDone, AreNoCollision, AreReady, Call, Called, EitherMayBeExchanged, ExchangeLeavesIt, Exchanged, HasKept, HavePoll, IsCall, IsExchange, IsNext, IsSessionOf, LeadTo, LeadsTo, MayBeCalled, NextIsSafe, ReplaceNothing, RestStandsAlone, StandsAlone, Step, StepsKeepVotes, StillStandsAlone, TellsForeign, ballots_in, ballots_led, by_both, by_one, cut, cut_behind, done_call, done_exchange, done_nothing, ended, exchanges, foreign, leads, other, session, silent, stays, stopped}
+use Rattle.urna_commands.specs.Command.{Carga, Command, Repoe, ToCheck, ToEmit, ToLoad, ToRehearse, ToReplace, ToTotal, ToVote, Vota, command_of}
+use Rattle.urna_commands.specs.FaultLines.{Tells, device_word, fault_line, fault_text}
 use Rattle.urna_commands.specs.Idle.{AreIdle, GivesOthers, IsIdleEnding}
-use Rattle.urna_commands.specs.Vota.{HasVoted, HasVotedTo, IsGiven, IsRefused, VotaEnds, no_cabinet, no_memory, not_started, refused, session_held}
+use Rattle.urna_commands.specs.Replaced.{EndsForeign}
+use Rattle.urna_commands.specs.Vota.{IsGiven, IsRefused, VotaEnds, no_cabinet, no_memory, not_started, refused, session_held}
 use Rattle.urna_commands.specs.Vota.{cut as vota_cut}
 use Rattle.urna_commands.specs.declared.status.Status.{Status}
-use Rattle.urna_commands.specs.declared.status.Status.TheVariants as status
 use Rattle.urna_commands.proofs.Completion.{port_silent}
 use Rattle.urna_commands.proofs.Endings.{ends_as}
-use Rattle.urna_commands.proofs.Headline.{not_empty, not_foreign, of_given, results_silent, voted_shown, votes_are_kept, given_once}
+use Rattle.urna_commands.proofs.Headline.{given_once, votes_are_kept}
 use Rattle.urna_commands.proofs.Idle.{Idles, front_idles, idle_left, idle_stop, idle_trail, idles-append, told_idles, untouched_idles}
 use Rattle.urna_commands.proofs.Keeping.{found_roll}
-use Rattle.urna_commands.proofs.Leaving.{idle_endings, load_is_kept_out, opened_is_in_use, others_are_kept_out}
+use Rattle.urna_commands.proofs.Leading.{IsOver, left_so, session_leaves, found_left, stop_none}
+use Rattle.urna_commands.proofs.Leaving.{idle_endings, load_is_kept_out, opened_is_in_use, standing_is_in_use}
 use Rattle.urna_commands.proofs.Once.{refused_or_given}
+use Rattle.urna_commands.proofs.Opened.{led_has_ballots}
+use Rattle.urna_commands.proofs.Others.{others_are_kept_out}
+use Rattle.urna_commands.proofs.PutFiles.{differ}
+use Rattle.urna_commands.proofs.Replacing.{DoesReplace, keeps, leaves_poll, one_or_beside, poll_cases, poll_once, repoe_does, repoe_then, standing_stops, stands_at_rest, twice_beside, vota_answer, vota_kept_out}
 
--- ---- how far a call of vota comes
-
-module _ (names : Vota) (files : Files) (c d : CabinetTold) (told : c.files ≡ Some files) (t : TablesData) (r : RollData) (es : List Event) (given : IsGiven (Some files) names t r es)
-    (section : Section) (s last : State) (out : List Output) (run : IsRun (setting_of t r.titles) s es last out) (m b n : Told) (start : Flashes) (ops : List Op)
-    (found : AreFound t r section s start) (traced : IsTraced m n start ops) where
-  -- within its two opening syncs, or behind them; there it was interrupted, or showed the whole text
-  abbrev Reaches : Status → Type 0
-  Reaches answer =
-      IsWithinSyncs ops
-      ⊎ ((rest : List Op) × (ops ≡ both_synced ++ rest) × (IsInterrupted (Some answer) ⊎ (shown_by rest ≡ text_in (session_of t s out))))
-
-  tables : IsTables t
-  tables = given.tables.valid
-
-  done_is : (done : List Op) → Does done m n → done ≡ ops
-  done_is done does = traced_is m n start ops done traced does
-
-  not_touched : (answer : Status) → IsUntouched m b → n ≡ b → Reaches answer
-  not_touched answer h same = inl (inl (sym (done_is [] (subst (Does [] m) (sym (same ∙ h)) (does_nothing m)))))
-
-  interrupted : {P : List Op → Type 0} (answer : Status) → IsInterrupted (Some answer) → Runs (λ done. (rest : List Op) × (done ≡ both_synced ++ rest) × P rest) m n
-      → Reaches answer
-  interrupted answer is (done, does, (rest, front, h)) = inr (rest, sym (done_is done does) ∙ front, inl is)
-
-  flash_failed : {P : List Op → Type 0} (answer : Status) → IsInterrupted (Some answer) → Runs (FromSyncs P) m n → Reaches answer
-  flash_failed answer is (done, does, inl within) = inl (subst IsWithinSyncs (done_is done does) within)
-  flash_failed answer is (done, does, inr (rest, front, h)) = inr (rest, sym (done_is done does) ∙ front, inl is)
-
-  not_begun : (e : StartError) → FailsToStart t r m b e → Tells (fault_text (start_status e)) b n → Reaches (start_status e)
-  not_begun starting.Memory h tells = not_touched status.Memory h tells
-  not_begun (starting.Port port.Internal) h tells =
-      flash_failed status.InternalFlash (failed port.Internal) (subst (λ x. FailsToStart t r m x (starting.Port port.Internal)) (sym tells) h).1
-  not_begun (starting.Port port.External) h tells =
-      flash_failed status.ExternalFlash (failed port.External) (subst (λ x. FailsToStart t r m x (starting.Port port.External)) (sym tells) h).1
-  not_begun (starting.Port port.Display) h tells =
-      interrupted status.Display (failed port.Display) ((subst (λ x. FailsToStart t r m x (starting.Port port.Display)) (sym tells) h).survives [])
-  not_begun (starting.Foreign e) h tells = absurd (not_foreign t r s tables section m b start found traced.flashes e h)
-  not_begun starting.NoImage h tells = absurd (not_empty t r s tables section m b start found traced.flashes h)
-
-  held : (answer : Status) → HasVoted t r es m n → Reaches answer
-  held answer voted =
-      let front = sym (done_is voted.survives.0 voted.survives.1) ∙ voted.survives.2.1 in
-      let rest = voted.survives.2.0 in
-      let traced_here : IsTraced m n start (both_synced ++ rest) = subst (λ (done : List Op). IsTraced m n start done) front traced in
-      inr (rest, front, inr (voted_shown t r s last es out run tables section m n start rest found traced_here voted))
-
-  reaches : (answer : Status) → VotaEnds names c d m b answer → Tells (fault_text answer) b n → Reaches answer
-  reaches answer (refused why taken un) tells =
-      absurd (refused_or_given files names answer t r es (subst (λ (o : Option Files). IsRefused o names answer) told why) given)
-  reaches _ (no_memory taken un) tells = not_touched status.Memory un tells
-  reaches _ (no_cabinet taken un) tells = not_touched status.Cabinet un tells
-  reaches _ (not_started {t = u} {r = q} {es = fs} e also taken h) tells = not_begun e (of_given files names c told t u r q es fs (λ x y z. FailsToStart x y m b e) given also h) tells
-  reaches _ (vota_cut {t = u} {r = q} {es = fs} p also taken h) tells =
-      interrupted (port_status p) (failed p) (subst (λ x. HasVotedTo t r es p m x) (sym (port_silent p b n tells)) (of_given files names c told t u r q es fs (λ x y z. HasVotedTo x y z p m b) given also h)).survives
-  reaches answer (session_held {t = u} {r = q} {es = fs} after also taken h one_of state put) tells =
-      held answer (subst (λ x. HasVoted t r es m x) (sym (results_silent _ _ _ _ _ _ _ b n put tells)) (of_given files names c told t u r q es fs (λ x y z. HasVoted x y z m b) given also h))
-
--- ---- the whole text of a session
-
-opened_full : (t : TablesData) (s : State) (out : List Output) → AreFull (session_of t s out)
-opened_full t s out = (full_opening t s, full_pieces t out)
-
--- it reaches into all lines that tell a state
-commits_whole : (pieces : List Piece) → AreFull pieces → commits_reached pieces (length (text_in pieces)) ≡ length (commits_in pieces)
-commits_whole pieces full =
-    ap (λ (l : List Piece). commits_reached l (length (text_in pieces))) (sym (append-nil pieces))
-    ∙ ap (λ (l : List ℕ). commits_reached (pieces ++ []) (length l)) (sym (append-nil (text_in pieces)))
-    ∙ reached_after pieces [] [] full
-    ∙ omega arith
-
--- ---- stops within the two syncs
-
-nothing_stop : (done : List Op) → IsStop [] done → IsStop both_synced done
-nothing_stop [] stop = tt
-nothing_stop (one ∷ done) stop = absurd stop
-
-first_stop : (done : List Op) → IsStop (Sync dev.Internal ∷ []) done → IsStop both_synced done
-first_stop [] stop = tt
-first_stop (one ∷ []) (inl whole) = inl (whole.0, tt)
-first_stop (one ∷ two ∷ done) (inl whole) = absurd whole.1
-first_stop (one ∷ done) (inr part) = absurd part.0
-
-stop_none : (ops done : List Op) → ops ≡ [] → IsStop ops done → done ≡ []
-stop_none ops [] none stop = refl
-stop_none ops (one ∷ done) none stop = absurd (subst (λ (l : List Op). IsStop l (one ∷ done)) none stop)
-
--- ---- what was kept, and more
+-- ---- what was kept
 
 pub clean_is_clean : (content : List ℕ) → IsClean (clean_flash content)
 clean_is_clean content =
@@ -166,17 +75,59 @@ frames_of : (start : Flashes) (a b text : List ℕ) → KeepFrames start (record
 frames_of start a b text keeps dev.Internal = keeps dev.Internal
 frames_of start a b text keeps dev.External = keeps dev.External
 
--- one call more, over the poll to which those before it led
-led-push : {t : TablesData} {r : RollData} {s u v : State} {before : List Call} {x : Call} → LeadTo t r s before u → LeadsTo t r x u v → LeadTo t r s (before ++ x ∷ []) v
-led-push stays last = leads last stays
-led-push (leads one rest) last = leads one (led-push rest last)
+-- ---- what was shown of a line
 
-ballots_led-push : {t : TablesData} {r : RollData} {s u v : State} {before : List Call} {x : Call} (led : LeadTo t r s before u) (last : LeadsTo t r x u v)
-    → ballots_led (led-push led last) ≡ ballots_led led ++ ballots_in last
-unfolding led-push
-ballots_led-push stays last = append-nil (ballots_in last)
-ballots_led-push (leads one rest) last =
-    ap (λ (l : List Ballot). ballots_in one ++ l) (ballots_led-push rest last) ∙ sym (append_assoc (ballots_in one) (ballots_led rest) (ballots_in last))
+-- what was shown up to a stop is a front of what is shown
+stop_front : (ops done : List Op) → IsStop ops done → (back : List ℕ) × (shown_by ops ≡ shown_by done ++ back)
+stop_front ops [] stop = (shown_by ops, refl)
+stop_front [] (one ∷ done) stop = absurd stop
+stop_front (op ∷ ops) (one ∷ done) (inl (same, rest)) =
+    let (back, is) = stop_front ops done rest in (
+      back,
+      ap (λ (x : Op). shown_by (x ∷ ops)) (sym same) ∙ shown_by-append (one ∷ []) ops ∙ ap (λ (l : List ℕ). shown_by (one ∷ []) ++ l) is
+          ∙ sym (append_assoc (shown_by (one ∷ [])) (shown_by done) back) ∙ ap (λ (l : List ℕ). l ++ back) (sym (shown_by-append (one ∷ []) done)),
+    )
+stop_front (Put d at bytes ∷ ops) (one ∷ done) (inr ((front, some, back, split, is), last)) =
+    (shown_by ops, sym (ap (λ (l : List Op). shown_by l ++ shown_by ops) (ap (λ (x : Op). x ∷ done) is ∙ ap (λ (l : List Op). Put d (at + length front) some ∷ l) last)))
+stop_front (Sync d ∷ ops) (one ∷ done) (inr (part, last)) = absurd part
+stop_front (Show bytes ∷ ops) (one ∷ done) (inr ((some, back, split, is), last)) = (
+  back ++ shown_by ops,
+  ap (λ (l : List ℕ). l ++ shown_by ops) split ∙ append_assoc some back (shown_by ops)
+      ∙ ap (λ (l : List ℕ). l ++ (back ++ shown_by ops)) (sym (append-nil some))
+      ∙ sym (ap (λ (l : List Op). shown_by l ++ (back ++ shown_by ops)) (ap (λ (x : Op). x ∷ done) is ∙ ap (λ (l : List Op). Show some ∷ l) last)),
+)
+
+-- what tells a fault shows a front of its line
+tells_front : (text : List ℕ) (b n : Told) → Tells (Some text) b n → (ops : List Op) × Does ops b n × (back : List ℕ) × (fault_line text ≡ shown_by ops ++ back)
+tells_front text b n (inl h) =
+    let whole = (shows_lines (fault_line text ∷ [])).whole in
+    (shows (fault_line text ∷ []), h.does, [], sym (append-nil (fault_line text)) ∙ sym whole ∙ sym (append-nil (shown_by (shows (fault_line text ∷ [])))))
+tells_front text b n (inr h) =
+    let front = cut_front (fault_line text ∷ []) h.ops h.cut in
+    (h.ops, h.does, front.back, sym (append-nil (fault_line text)) ∙ front.front)
+
+syncs_silent : (ops : List Op) → IsFrontOfSyncs ops → shown_by ops ≡ []
+syncs_silent ops (inl (inl nothing)) = ap shown_by nothing
+syncs_silent ops (inl (inr one)) = ap shown_by one
+syncs_silent ops (inr both) = ap shown_by both
+
+-- ---- flashes and their contents
+
+-- a poll that the contents have is one that the flashes have
+poll_of : (t : TablesData) (r : RollData) (section : Section) (u : State) (fs : Flashes) → HavePoll t r section u (clean_flashes fs.internal.content fs.external.content) → HavePoll t r section u fs
+poll_of t r section u fs (by_both found) = by_both (record { loaded = found.loaded; held = found.held })
+poll_of t r section u fs (by_one dev.Internal is) = by_one dev.Internal (record { standing = is.standing; unused = is.unused })
+poll_of t r section u fs (by_one dev.External is) = by_one dev.External (record { standing = is.standing; unused = is.unused })
+
+replaced_clean : (t : TablesData) (r : RollData) (section : Section) (u : State) (d : Dev) (fs : Flashes) → IsReplaced t r section u d fs
+    → IsReplaced t r section u d (clean_flashes fs.internal.content fs.external.content)
+replaced_clean t r section u dev.Internal fs is = record { standing = is.standing; unused = is.unused }
+replaced_clean t r section u dev.External fs is = record { standing = is.standing; unused = is.unused }
+
+-- of flashes that have a poll which was opened one is in use
+poll_in_use : (t : TablesData) (r : RollData) (section : Section) (u : State) (fs : Flashes) → HavePoll t r section u fs → u.phase ≢ phase.Ready → (d : Dev) × IsInUse (flash_of d fs).content
+poll_in_use t r section u fs (by_both found) opened = opened_is_in_use t r section u fs found opened
+poll_in_use t r section u fs (by_one d is) opened = (beside d, standing_is_in_use t r section u (beside d) (flash_of (beside d) fs).content is.standing opened)
 
 -- nothing was shown, or something
 none_or_some : (l : List ℕ) → (l ≡ []) ⊎ (l ≢ [])
@@ -189,219 +140,143 @@ ready_or_opened phase.Ready = inl refl
 ready_or_opened (phase.Polling at) = inr (λ is. absurd (cc))
 ready_or_opened (phase.Sealed at closed) = inr (λ is. absurd (cc))
 
+-- ---- what there is for the next call
+
+-- what a power cut left of flashes, on which nothing is dirty, is an image of them
+left_images : (flashes : Flashes) (text : List ℕ) (left : Left) → IsLeft flashes text left → (a b : List ℕ)
+    → IsImage (clean_flash left.internal) a → IsImage (clean_flash left.external) b → IsImage flashes.internal a × IsImage flashes.external b
+left_images flashes text left is a b internal external =
+    let i : a ≡ left.internal = clean_image (clean_flash left.internal) a (clean_is_clean left.internal) internal in
+    let e : b ≡ left.external = clean_image (clean_flash left.external) b (clean_is_clean left.external) external in
+    (subst (IsImage flashes.internal) (sym i) is.internal, subst (IsImage flashes.external) (sym e) is.external)
+
+-- it is an image of a stop
+goes : (start : Flashes) (answer : Status) (ops done : List Op) (over : Option Status) (next : Flashes) (P : List ℕ → List ℕ → Type 0) → IsNext start ops answer done over next
+    → ((a b : List ℕ) → IsStop ops done → IsImage (after done start).internal a → IsImage (after done start).external b → IsOver over answer ops done → P a b)
+    → (a b : List ℕ) → IsImage next.internal a → IsImage next.external b → P a b
+goes start answer ops _ _ _ P ended h a b internal external = h a b (stop_whole ops) internal external (inr (refl, refl))
+goes start answer ops _ _ _ P (cut_behind {left} is) h a b internal external =
+    let images = left_images (after ops start) (shown_by ops) left is a b internal external in
+    h a b (stop_whole ops) images.0 images.1 (inr (refl, refl))
+goes start answer ops done _ _ P (cut {left} stop is) h a b internal external =
+    let images = left_images (after done start) (shown_by done) left is a b internal external in
+    h a b stop images.0 images.1 (inl stopped)
+
 module _ (t : TablesData) (r : RollData) (section : Section) (s : State) (origin : Flashes) (ready : AreReady t r section s origin) where
-  abbrev At : List Call → List ℕ → List ℕ → Type 0
-  At calls a b = HasKept t r section s origin calls (images a b)
+  abbrev At : List Step → List ℕ → List ℕ → Type 0
+  At steps a b = HasKept t r section s origin steps (images a b)
 
   -- so much is kept of every image
-  abbrev Kept : List Call → Flashes → Type 0
-  Kept calls flashes = (a b : List ℕ) → IsImage flashes.internal a → IsImage flashes.external b → At calls a b
+  abbrev Kept : List Step → Flashes → Type 0
+  Kept steps flashes = (a b : List ℕ) → IsImage flashes.internal a → IsImage flashes.external b → At steps a b
 
   kept_first : Kept [] origin
   kept_first a b internal external =
       let i = clean_image origin.internal a (ready.clean dev.Internal) internal in
       let e = clean_image origin.external b (ready.clean dev.External) external in
+      let found : AreFound t r section s (clean_flashes a b) = subst (λ (x : List ℕ). AreFound t r section s (clean_flashes x b)) (sym i)
+      (subst (λ (y : List ℕ). AreFound t r section s (clean_flashes origin.internal.content y)) (sym e)
+      (record { loaded = ready.found.loaded; held = ready.found.held })) in
       record {
         state = s;
-        found = subst (λ (x : List ℕ). AreFound t r section s (clean_flashes x b)) (sym i)
-            (subst (λ (y : List ℕ). AreFound t r section s (clean_flashes origin.internal.content y)) (sym e)
-            (record { loaded = ready.found.loaded; held = ready.found.held }));
+        poll = by_both found;
+        whole = first_whole a b i e;
         led = stays;
         has = also_none (ballot_lines t) s;
-        frames = frames_same origin (images a b) ready.clean internal external;
+        both = λ nothing. (found, frames_same origin (images a b) ready.clean internal external);
       }
+    where
+      first_whole : (a b : List ℕ) → a ≡ origin.internal.content → b ≡ origin.external.content → AreWhole (clean_flashes a b)
+      first_whole a b i e dev.Internal = ap length i ∙ ready.whole dev.Internal
+      first_whole a b i e dev.External = ap length e ∙ ready.whole dev.External
 
   -- also of what reads give
-  contents_kept : (calls : List Call) (flashes : Flashes) → Kept calls flashes → At calls flashes.internal.content flashes.external.content
-  contents_kept calls flashes kept =
-      let all : Left → Type 0 = λ left. At calls left.internal left.external in
+  contents_kept : (steps : List Step) (flashes : Flashes) → Kept steps flashes → At steps flashes.internal.content flashes.external.content
+  contents_kept steps flashes kept =
+      let all : Left → Type 0 = λ left. At steps left.internal left.external in
       at_end flashes [] all (stops_none flashes all (λ left is. kept left.internal left.external is.internal is.external))
 
   -- one call more, which leads on
-  add : (before : List Call) (x : Call) (a b i e : List ℕ) (kept : At before a b) (v : State) → AreFound t r section v (clean_flashes i e)
-      → (last : LeadsTo t r x kept.state v) → HasAlso (ballot_lines t) kept.state (ballots_in last) v → KeepFrames origin (images i e) → At (before ++ x ∷ []) i e
-  add before x a b i e kept v found last has frames =
+  add : (before : List Step) (x : Call) (a b i e : List ℕ) (kept : At before a b) (v : State) → HavePoll t r section v (clean_flashes i e) → AreWhole (clean_flashes i e)
+      → (last : LeadsTo t r x kept.state v) → HasAlso (ballot_lines t) kept.state (ballots_in last) v
+      → (ReplaceNothing (Called x ∷ before) → AreFound t r section v (clean_flashes i e) × KeepFrames origin (images i e)) → At (Called x ∷ before) i e
+  add before x a b i e kept v poll whole last has both =
       record {
         state = v;
-        found = found;
-        led = led-push kept.led last;
-        has =
-            subst (λ (l : List Ballot). HasAlso (ballot_lines t) s l v) (sym (ballots_led-push kept.led last))
-            (also_also (ballot_lines t) s kept.state v (ballots_led kept.led) (ballots_in last) kept.has has);
-        frames = frames;
+        poll = poll;
+        whole = whole;
+        led = leads kept.led last;
+        has = also_also (ballot_lines t) s kept.state v (ballots_led kept.led) (ballots_in last) kept.has has;
+        both = both;
       }
 
-  add_silent : (before : List Call) (x : Call) (a b : List ℕ) → At before a b → x.shown ≡ [] → At (before ++ x ∷ []) a b
-  add_silent before x a b kept none = add before x a b a b kept kept.state kept.found (silent none) (also_none (ballot_lines t) kept.state) kept.frames
+  -- one that leaves the poll as it is
+  add_silent : (before : List Step) (x : Call) (a b : List ℕ) → At before a b → x.shown ≡ [] → At (Called x ∷ before) a b
+  add_silent before x a b kept nothing =
+      add before x a b a b kept kept.state kept.poll kept.whole (silent nothing) (also_none (ballot_lines t) kept.state) (λ all. kept.both all.1)
 
-  add_other : (before : List Call) (x : Call) (a b : List ℕ) → At before a b → ((es : List Event) → ¬ IsSessionOf t r x es) → At (before ++ x ∷ []) a b
-  add_other before x a b kept none = add before x a b a b kept kept.state kept.found (other none) (also_none (ballot_lines t) kept.state) kept.frames
+  add_other : (before : List Step) (x : Call) (a b : List ℕ) → At before a b → ((es : List Event) → ¬ IsSessionOf t r x es) → At (Called x ∷ before) a b
+  add_other before x a b kept none_of =
+      add before x a b a b kept kept.state kept.poll kept.whole (other none_of) (also_none (ballot_lines t) kept.state) (λ all. kept.both all.1)
+
+  add_foreign : (before : List Step) (x : Call) (a b : List ℕ) → At before a b → TellsForeign x.shown → At (Called x ∷ before) a b
+  add_foreign before x a b kept tells =
+      add before x a b a b kept kept.state kept.poll kept.whole (foreign tells) (also_none (ballot_lines t) kept.state) (λ all. kept.both all.1)
 
   -- ---- one call, over flashes of which so much is kept
 
-  module _ (before : List Call) (start : Flashes) (kept : Kept before start) (x : Call) where
+  module _ (before : List Step) (start : Flashes) (kept : Kept before start) (x : Call) where
     -- what it finds
     here : At before start.internal.content start.external.content
     here = contents_kept before start kept
 
-    found : AreFound t r section here.state start
-    found = record { loaded = here.found.loaded; held = here.found.held }
+    poll : HavePoll t r section here.state start
+    poll = poll_of t r section here.state start here.poll
 
     whole : AreWhole start
-    whole dev.Internal = (here.frames dev.Internal).same_length ∙ ready.whole dev.Internal
-    whole dev.External = (here.frames dev.External).same_length ∙ ready.whole dev.External
+    whole dev.Internal = here.whole dev.Internal
+    whole dev.External = here.whole dev.External
 
     abbrev AtNext : List ℕ → List ℕ → Type 0
-    AtNext a b = At (before ++ x ∷ []) a b
+    AtNext a b = At (Called x ∷ before) a b
 
-    -- whatever is left of a call that put nothing
+    -- what is left of a call that put nothing might have been left before it
+    idle_kept : (done : List Op) (a b : List ℕ) → AreIdle done → IsImage (after done start).internal a → IsImage (after done start).external b → At before a b
+    idle_kept done a b idle internal external =
+        let left = idle_left done start [] (images a b) idle (record { internal = internal; external = external; shown = refl }) in
+        kept a b left.internal left.external
+
     idle_step : (done : List Op) (a b : List ℕ) → AreIdle done → IsImage (after done start).internal a → IsImage (after done start).external b
         → ((es : List Event) → ¬ IsSessionOf t r x es) → AtNext a b
-    idle_step done a b idle internal external others =
-        let left = idle_left done start [] (images a b) idle (record { internal = internal; external = external; shown = refl }) in
-        add_other before x a b (kept a b left.internal left.external) others
+    idle_step done a b idle internal external others = add_other before x a b (idle_kept done a b idle internal external) others
 
-    -- ---- a session
-
-    module _ (names : Vota) (c d : CabinetTold) (m b n : Told) (answer : Status) (ends : VotaEnds names c d m b answer) (tells : Tells (fault_text answer) b n) (told : c.files ≡ Some x.files)
-        (es : List Event) (of : IsSessionOf t r x es) (given : IsGiven (Some x.files) names t r es) (ops : List Op) (traced : IsTraced m n start ops)
-        (last : State) (out : List Output) (run : IsRun (setting_of t r.titles) here.state es last out) where
-      abbrev u : State
-      u = here.state
-
-      abbrev pieces : List Piece
-      pieces = session_of t u out
-
-      -- the call was interrupted, or ended
-      abbrev IsOver : List Op → List Op → Type 0
-      IsOver all done = IsInterrupted x.status ⊎ ((x.status ≡ Some answer) × (done ≡ all))
-
-      -- stopped before the second sync
-      early : (done : List Op) (a e : List ℕ) → IsStop both_synced done → IsImage (after done start).internal a → IsImage (after done start).external e → x.shown ≡ shown_by done → AtNext a e
-      early done a e stop internal external shown =
-          let left : Left = record { internal = a; external = e; shown = shown_by done } in
-          let is = syncs_leave_no_more start done left stop (record { internal = internal; external = external; shown = refl }) in
-          add_silent before x a e (kept a e is.internal is.external) (shown ∙ is.shown)
-
-      module _ (rest : List Op) (front : ops ≡ both_synced ++ rest) (how : IsInterrupted (Some answer) ⊎ (shown_by rest ≡ text_in pieces)) (done : List Op) (stop : IsStop rest done) (a e : List ℕ)
-          (internal : IsImage (after done (after both_synced start)).internal a) (external : IsImage (after done (after both_synced start)).external e)
-          (shown : x.shown ≡ shown_by done) (over : IsOver rest done) where
-        abbrev left : Left
-        left = record { internal = a; external = e; shown = shown_by done }
-
-        votes_kept : KeepsVotes t r u start es out (ballots_of run) left
-        votes_kept =
-            votes_are_kept t r section u start found names c d m n answer es rest
-            (record {
-              files = x.files;
-              call = record { between = b; ends = ends; told = tells; cabinet = told; given = given };
-              traced = subst (λ (l : List Op). IsTraced m n start l) front traced;
-            }) last out run done stop left (record { internal = internal; external = external; shown = refl })
-
-        -- a state that both then hold is that of a poll of the section
-        found_of : (v : State) → HeldByBoth t (length r.titles) a e v → AreFound t r section v (clean_flashes a e)
-        found_of v held =
-            let poll : IsPollOf t r section (v ∷ []) left =
-            poll_left t r section u v (v ∷ []) start left whole found votes_kept.frames held (Contains-get_or (v ∷ []) 0 v (omega arith)) in
-            subst (λ (y : State). AreFound t r section y (clean_flashes a e))
-            (sym (found_once t r section poll.state v (clean_flashes a e) given.tables.valid poll.found held)) poll.found
-
-        -- it was interrupted, or the whole text was shown
-        ended_so : IsInterrupted x.status ⊎ (shown_by done ≡ text_in pieces)
-        ended_so = elim over [
-          | inl cut_off ↦ inl cut_off
-          | inr (with, all) ↦ elim how [
-            | inl cut_off ↦ inl (subst IsInterrupted (sym with) cut_off)
-            | inr text ↦ inr (ap shown_by all ∙ text)
+    -- a session over both flashes
+    session_step : AreFound t r section here.state start → (names : Vota) (c d : CabinetTold) (m b n : Told) (answer : Status) → VotaEnds names c d m b answer → Tells (fault_text answer) b n
+        → c.files ≡ Some x.files → (es : List Event) → IsSessionOf t r x es → IsGiven (Some x.files) names t r es → (ops : List Op) → IsTraced m n start ops
+        → (done : List Op) → IsStop ops done → (a e : List ℕ) → IsImage (after done start).internal a → IsImage (after done start).external e → x.shown ≡ shown_by done
+        → IsOver x.status answer ops done → AtNext a e
+    session_step found names c d m b n answer ends tells told es of given ops traced done stop a e internal external shown over =
+        let run = run_exists (setting_of t r.titles) here.state es (tables_setting t r.titles ready.tables) in
+        elim (session_leaves names x c d told t r es given section here.state run.0 run.1 run.2 m b n start ops found whole traced answer ends tells done stop a e internal external shown over) [
+          | inl (first, second, nothing) ↦ add_silent before x a e (kept a e first second) nothing
+          | inr (text, is_shown, votes, on, on_internal, on_external) ↦ elim (none_or_some text) [
+            | inl nothing ↦
+                let left = found_left names x c d told t r es given section here.state run.0 run.1 run.2 m b n start ops found whole traced answer ends tells text a e votes here.state (votes.before nothing) in
+                add before x start.internal.content start.external.content a e here here.state (by_both left.0) left.1 (silent (is_shown ∙ nothing)) (also_none (ballot_lines t) here.state)
+                (λ all. (left.0, frames_of origin a e text (frames_then origin start (left_so a e text) [] (here.both all.1).1 votes.frames)))
+            | inr some ↦
+                let left = found_left names x c d told t r es given section here.state run.0 run.1 run.2 m b n start ops found whole traced answer ends tells text a e votes votes.both.state votes.both.is in
+                add before x start.internal.content start.external.content a e here votes.both.state (by_both left.0) left.1 (session of (λ nothing. some (sym is_shown ∙ nothing)) on)
+                (run_counts t r.titles (found_roll t r section here.state start found) on.after.run)
+                (λ all. (left.0, frames_of origin a e text (frames_then origin start (left_so a e text) [] (here.both all.1).1 votes.frames)))
           ]
         ]
-
-        -- whose whole text was shown has no state and no ballot more
-        no_more_told : shown_by done ≡ text_in pieces → votes_kept.both.number ≢ commits_reached pieces (length (shown_by done)) + 1
-        no_more_told text more =
-            let p = votes_kept.both.after in
-            let reached = ap (λ (l : List ℕ). commits_reached pieces (length l)) text ∙ commits_whole pieces (opened_full t u out) in
-            let all = ap (λ (l : List State). length l) (pieces_commit t out) in
-            let split = ap (λ (l : List Output). length (commits_of l)) p.texts
-            ∙ ap (λ (l : List State). length l) (commits_of-append p.put p.later) ∙ length-append (commits_of p.put) (commits_of p.later) in
-            absurd (omega (arith, more, reached, all, split, p.committed))
-
-        no_more_shown : shown_by done ≡ text_in pieces → length (ballots_of votes_kept.both.after.run) ≢ fims_reached (lines_in pieces) (length (shown_by done)) + 1
-        no_more_shown text more =
-            let p = votes_kept.both.after in
-            let reached = ap (λ (l : List ℕ). fims_reached (lines_in pieces) (length l)) text ∙ opened_fims t r.titles (found_roll t r section u start found) run in
-            let split = ap (λ (l : List Ballot). length l) p.cast ∙ length-append (ballots_of p.run) p.others in
-            absurd (omega (arith, more, reached, split))
-
-        -- as many as were told, or one more of an interrupted call
-        told_so : (k j : ℕ) → ((k ≡ j) ⊎ (k ≡ j + 1)) → (shown_by done ≡ text_in pieces → k ≢ j + 1) → IsToldOrOneMore x.status j k
-        told_so k j (inl is) none = inl is
-        told_so k j (inr more) none = elim ended_so [
-          | inl cut_off ↦ inr (cut_off, more)
-          | inr text ↦ absurd (none text more)
-        ]
-
-        on : LeadsOn t r x es u votes_kept.both.state
-        on =
-            record {
-              last = last;
-              out = out;
-              run = run;
-              rest = votes_kept.rest;
-              front = votes_kept.front ∙ ap (λ (l : List ℕ). l ++ votes_kept.rest) (sym shown);
-              number = votes_kept.both.number;
-              after = votes_kept.both.after;
-              told = subst (λ (l : List ℕ). IsToldOrOneMore x.status (commits_reached pieces (length l)) votes_kept.both.number) (sym shown)
-                  (told_so votes_kept.both.number (commits_reached pieces (length (shown_by done))) votes_kept.both.told no_more_told);
-              fims = subst (λ (l : List ℕ). IsToldOrOneMore x.status (fims_reached (lines_in pieces) (length l)) (length (ballots_of votes_kept.both.after.run))) (sym shown)
-                  (told_so (length (ballots_of votes_kept.both.after.run)) (fims_reached (lines_in pieces) (length (shown_by done))) votes_kept.both.shown no_more_shown);
-            }
-
-        late : AtNext a e
-        unfolding votes_kept on
-        late =
-            let frames = frames_of origin a e (shown_by done) (frames_then origin start left [] here.frames votes_kept.frames) in
-            elim (none_or_some (shown_by done)) [
-              | inl none ↦
-                  add before x start.internal.content start.external.content a e here u (found_of u (votes_kept.before none)) (silent (shown ∙ none)) (also_none (ballot_lines t) u) frames
-              | inr some ↦
-                  add before x start.internal.content start.external.content a e here votes_kept.both.state (found_of votes_kept.both.state votes_kept.both.is)
-                  (session of (λ none. some (sym shown ∙ none)) on) votes_kept.both.has frames
-            ]
-
-      within_stop : (done : List Op) → IsWithinSyncs ops → IsStop ops done → IsStop both_synced done
-      within_stop done (inl nothing) stop = nothing_stop done (subst (λ (l : List Op). IsStop l done) nothing stop)
-      within_stop done (inr one) stop = first_stop done (subst (λ (l : List Op). IsStop l done) one stop)
-
-      session_step : (done : List Op) → IsStop ops done → (a e : List ℕ) → IsImage (after done start).internal a → IsImage (after done start).external e → x.shown ≡ shown_by done → IsOver ops done
-          → AtNext a e
-      session_step done stop a e internal external shown over =
-          go (reaches names x.files c d told t r es given section u last out run m b n start ops found traced answer ends tells)
-        where
-          later : (rest done_rest : List Op) → ops ≡ both_synced ++ rest → IsInterrupted (Some answer) ⊎ (shown_by rest ≡ text_in pieces) → done ≡ both_synced ++ done_rest → IsStop rest done_rest
-              → AtNext a e
-          later rest done_rest front how is stop_rest =
-              late rest front how done_rest stop_rest a e
-              (subst (λ (l : List Op). IsImage (after l start).internal a) is internal)
-              (subst (λ (l : List Op). IsImage (after l start).external e) is external)
-              (shown ∙ ap shown_by is)
-              (elim over [
-                | inl cut_off ↦ inl cut_off
-                | inr end ↦ inr (end.0, append_cancel_left both_synced done_rest rest (sym is ∙ end.1 ∙ front))
-              ])
-
-          go : IsWithinSyncs ops ⊎ ((rest : List Op) × (ops ≡ both_synced ++ rest) × (IsInterrupted (Some answer) ⊎ (shown_by rest ≡ text_in pieces))) → AtNext a e
-          go (inl within) = early done a e (within_stop done within stop) internal external shown
-          go (inr (rest, front, how)) = elim (stop-append both_synced rest done (subst (λ (l : List Op). IsStop l done) front stop)) [
-            | inl before_them ↦ early done a e before_them internal external shown
-            | inr behind ↦ later rest behind.0 front how behind.1 behind.2
-          ]
 
     -- ---- any call
 
-    module _ (next : Flashes) (is : IsCall start x next) (may : MayBeCalled t r start x is.done) (a e : List ℕ) (stop : IsStop is.ops is.done)
+    module _ (next : Flashes) (is : IsCall start x next) (may : MayBeCalled t r section start x is.done) (a e : List ℕ) (stop : IsStop is.ops is.done)
         (internal : IsImage (after is.done start).internal a) (external : IsImage (after is.done start).external e)
-        (over : IsInterrupted x.status ⊎ ((x.status ≡ Some is.answer) × (is.done ≡ is.ops))) where
+        (over : IsOver x.status is.answer is.ops is.done) where
       -- it did nothing but sync and show
       idle_here : Idles is.machine is.machine_after → ((es : List Event) → ¬ IsSessionOf t r x es) → AtNext a e
       idle_here idles others = idle_step is.done a e (idle_stop is.ops is.done (idle_trail is.machine is.machine_after start is.ops is.traced idles) stop) internal external others
@@ -409,35 +284,86 @@ module _ (t : TablesData) (r : RollData) (section : Section) (s : State) (origin
       -- it did nothing
       nothing_here : is.machine_after ≡ is.machine → AtNext a e
       nothing_here same =
-          let none : is.ops ≡ [] = sym (traced_is is.machine is.machine_after start is.ops [] is.traced (subst (Does [] is.machine) (sym same) (does_nothing is.machine))) in
-          let stopped_first : is.done ≡ [] = stop_none is.ops is.done none stop in
+          let nothing : is.ops ≡ [] = sym (traced_is is.machine is.machine_after start is.ops [] is.traced (subst (Does [] is.machine) (sym same) (does_nothing is.machine))) in
+          let stopped_first : is.done ≡ [] = stop_none is.ops is.done nothing stop in
           add_silent before x a e
           (kept a e (subst (λ (l : List Op). IsImage (after l start).internal a) stopped_first internal) (subst (λ (l : List Op). IsImage (after l start).external e) stopped_first external))
           (is.shown ∙ ap shown_by stopped_first)
 
       -- words of another command, or of none, give no session
       no_session : (command : Option Command) → command_of x.words ≡ command → ((names : Vota) → command ≢ Some (ToVote names)) → (es : List Event) → ¬ IsSessionOf t r x es
-      no_session command is_this none es of = none of.names (sym is_this ∙ of.command)
+      no_session command is_this none_of es of = none_of of.names (sym is_this ∙ of.command)
 
       -- what is done is that of the command, and then of its fault line
       then_told : Idles is.machine is.ends.between → Idles is.machine is.machine_after
       then_told idles = idles-append is.machine is.ends.between is.machine_after idles (told_idles (fault_text is.answer) is.ends.between is.machine_after is.ends.told)
 
       command_step : (command : Option Command) → command_of x.words ≡ command → IsIdleEnding command is.answer → ((names : Vota) → command ≢ Some (ToVote names)) → AtNext a e
-      command_step command is_this idle none =
+      command_step command is_this idle none_of =
           idle_here (idle_endings x.words is.cabinet is.cabinet_after is.machine is.machine_after is.answer is.ends (subst (λ (o : Option Command). IsIdleEnding o is.answer) (sym is_this) idle))
-          (no_session command is_this none)
+          (no_session command is_this none_of)
 
       load_step : (names : Carga) → command_of x.words ≡ Some (ToLoad names) → AtNext a e
       load_step names is_this =
           let others = no_session (Some (ToLoad names)) is_this (λ other_names same. absurd (cc)) in
           elim (ready_or_opened here.state.phase) [
-            | inl still ↦ idle_step is.done a e (may.no_load names is_this here.state found.held still) internal external others
+            | inl still ↦ idle_step is.done a e (may.no_load names is_this here.state poll still) internal external others
             | inr opened ↦
-                let used = opened_is_in_use t r section here.state start found opened in
+                let used = poll_in_use t r section here.state start poll opened in
                 let ends = ends_as x.words (ToLoad names) is.cabinet is.cabinet_after is.machine is.ends.between is.answer is_this is.ends.command in
                 idle_here (then_told (load_is_kept_out names is.cabinet is.cabinet_after is.machine is.ends.between is.answer ends start used.0 is.traced.flashes used.1).0) others
           ]
+
+      -- ---- repoe
+
+      module _ (names : Repoe) (is_this : command_of x.words ≡ Some (ToReplace names)) where
+        no_vota : (es : List Event) → ¬ IsSessionOf t r x es
+        no_vota = no_session (Some (ToReplace names)) is_this (λ other_names same. absurd (cc))
+
+        left_here : (text : List ℕ) → LeavesStanding t r section here.state names.replaced (left_so a e text) → AtNext a e
+        left_here text leaves =
+            add before x start.internal.content start.external.content a e here here.state (leaves_poll t r section here.state names.replaced (left_so a e text) leaves) leaves.whole
+            (other no_vota) (also_none (ballot_lines t) here.state) (λ all. absurd (all.0 names is_this))
+
+        module _ (it : DoesReplace names is.cabinet is.machine is.machine_after)
+            (stops : AtEachStop (after both_synced start) it.rest (LeavesStanding t r section here.state names.replaced)) where
+          behind_syncs : (later : List Op) → IsStop (it.rest ++ it.more) later → IsImage (after later (after both_synced start)).internal a → IsImage (after later (after both_synced start)).external e
+              → AtNext a e
+          behind_syncs later behind first second = elim (stop-append it.rest it.more later behind) [
+            | inl within ↦ left_here (shown_by later) (stops later within (left_so a e (shown_by later)) (record { internal = first; external = second; shown = refl }))
+            | inr (tail, split, rest) ↦
+                let all : after later (after both_synced start) ≡ after tail (after it.rest (after both_synced start)) =
+                ap (λ (l : List Op). after l (after both_synced start)) split ∙ after-append it.rest tail (after both_synced start) in
+                let left = idle_left tail (after it.rest (after both_synced start)) [] (images a e) (idle_stop it.more tail it.idle rest)
+                (record { internal = subst (λ (fs : Flashes). IsImage fs.internal a) all first; external = subst (λ (fs : Flashes). IsImage fs.external e) all second; shown = refl }) in
+                left_here (shown_by it.rest)
+                (stops it.rest (stop_whole it.rest) (left_so a e (shown_by it.rest)) (record { internal = left.internal; external = left.external; shown = refl }))
+          ]
+
+          replacing_step : AtNext a e
+          replacing_step =
+              let all : both_synced ++ (it.rest ++ it.more) ≡ is.ops =
+              traced_is is.machine is.machine_after start is.ops (both_synced ++ (it.rest ++ it.more)) is.traced it.does in
+              elim (stop-append both_synced (it.rest ++ it.more) is.done (subst (λ (l : List Op). IsStop l is.done) (sym all) stop)) [
+                | inl before_them ↦ idle_step is.done a e (idle_stop both_synced is.done (tt, (tt, tt)) before_them) internal external no_vota
+                | inr (later, front, behind) ↦
+                    behind_syncs later behind (subst (λ (l : List Op). IsImage (after l start).internal a) front internal)
+                    (subst (λ (l : List Op). IsImage (after l start).external e) front external)
+              ]
+
+        replace_step : AtNext a e
+        replace_step =
+            let ends = ends_as x.words (ToReplace names) is.cabinet is.cabinet_after is.machine is.ends.between is.answer is_this is.ends.command in
+            elim (repoe_then names is.cabinet is.machine is.ends.between is.machine_after (repoe_does names is.cabinet is.cabinet_after is.machine is.ends.between is.answer ends)
+            (told_idles (fault_text is.answer) is.ends.between is.machine_after is.ends.told)) [
+              | inl idles ↦ idle_here idles no_vota
+              | inr it ↦ elim (keeps t r section here.state start ready.tables ready.roll names x.files is.cabinet is.told (may.no_other_documents names is_this) is.machine is.machine_after is.traced.flashes it poll) [
+                | inl stops ↦ replacing_step it stops
+                | inr (wrong, no_frame, still) ↦ idle_step is.done a e (may.no_wrong_flash names is_this here.state wrong no_frame still) internal external no_vota
+              ]
+            ]
+
+      -- ---- vota
 
       module _ (names : Vota) (is_this : command_of x.words ≡ Some (ToVote names)) (ends : VotaEnds names is.cabinet is.cabinet_after is.machine is.ends.between is.answer) where
         -- the documents of a session are those of these names
@@ -447,109 +373,344 @@ module _ (t : TablesData) (r : RollData) (section : Section) (s : State) (origin
             let same : of.names ≡ names = cc in
             subst (λ (y : Vota). IsGiven (Some x.files) y t r es) same of.given
 
-        others_step : GivesOthers t r x.files names → AtNext a e
-        others_step gives =
-            idle_here (then_told (front_idles is.machine is.ends.between (others_are_kept_out t r section here.state start ready.tables ready.roll found names x.files gives is.cabinet is.cabinet_after is.machine is.ends.between is.answer ends is.told is.traced.flashes)))
-            (λ es of. gives t r es (given_of es of) (refl, refl))
+        refused_step : IsRefused (Some x.files) names is.answer → Idles is.machine is.ends.between → AtNext a e
+        refused_step why idles = idle_here (then_told idles) (λ es of. refused_or_given x.files names is.answer t r es why (given_of es of))
 
-        these_step : (es : List Event) → IsGiven (Some x.files) names t r es → AtNext a e
-        these_step es given =
-            let run = run_exists (setting_of t r.titles) here.state es (tables_setting t r.titles ready.tables) in
-            session_step names is.cabinet is.cabinet_after is.machine is.ends.between is.machine_after is.answer ends is.ends.told is.told es
-            (record { names = names; command = is_this; given = given }) given is.ops is.traced run.0 run.1 run.2
-            is.done stop a e internal external is.shown over
+        module _ (found : AreFound t r section here.state start) where
+          others_step : GivesOthers t r x.files names → AtNext a e
+          others_step gives =
+              idle_here (then_told (front_idles is.machine is.ends.between (others_are_kept_out t r section here.state start ready.tables ready.roll found names x.files gives is.cabinet is.cabinet_after is.machine is.ends.between is.answer ends is.told is.traced.flashes)))
+              (λ es of. gives t r es (given_of es of) (refl, refl))
 
-        -- the keys don't matter for what is told by the hashes
-        others_by : (u : TablesData) (q : RollData) (es : List Event) → IsGiven (Some x.files) names u q es → ¬ ((u.digest ≡ t.digest) × (q.digest ≡ r.digest)) → GivesOthers t r x.files names
-        others_by u q es given differ v w fs also same =
-            let one = given_once x.files names u v q w es fs given also in
-            differ (ap (λ (y : TablesData). y.digest) one.0 ∙ same.0, ap (λ (y : RollData). y.digest) one.1 ∙ same.1)
+          these_step : (es : List Event) → IsGiven (Some x.files) names t r es → AtNext a e
+          these_step es given =
+              session_step found names is.cabinet is.cabinet_after is.machine is.ends.between is.machine_after is.answer ends is.ends.told is.told es
+              (record { names = names; command = is_this; given = given }) given is.ops is.traced
+              is.done stop a e internal external is.shown over
 
-        given_step : (u : TablesData) (q : RollData) (es : List Event) → IsGiven is.cabinet.files names u q es → AtNext a e
-        given_step u q es also =
-            let given : IsGiven (Some x.files) names u q es = subst (λ (o : Option Files). IsGiven o names u q es) is.told also in
-            elim (cases_Bool (bytes_eq u.digest t.digest)) [
-              | inr other_tables ↦ others_step (others_by u q es given (λ same. differ u.digest t.digest other_tables same.0))
-              | inl first ↦ elim (cases_Bool (bytes_eq q.digest r.digest)) [
-                | inr other_roll ↦ others_step (others_by u q es given (λ same. differ q.digest r.digest other_roll same.1))
-                | inl second ↦
-                    let same = may.no_collision names is_this u q es given ((bytes_eq-Decides u.digest t.digest).0 first) ((bytes_eq-Decides q.digest r.digest).0 second) in
-                    these_step es (subst (λ (y : TablesData). IsGiven (Some x.files) names y r es) same.0 (subst (λ (y : RollData). IsGiven (Some x.files) names u y es) same.1 given))
+          -- the keys don't matter for what is told by the hashes
+          others_by : (u : TablesData) (q : RollData) (es : List Event) → IsGiven (Some x.files) names u q es → ¬ ((u.digest ≡ t.digest) × (q.digest ≡ r.digest)) → GivesOthers t r x.files names
+          others_by u q es given differ v w fs also same =
+              let one = given_once x.files names u v q w es fs given also in
+              differ (ap (λ (y : TablesData). y.digest) one.0 ∙ same.0, ap (λ (y : RollData). y.digest) one.1 ∙ same.1)
+
+          given_step : (u : TablesData) (q : RollData) (es : List Event) → IsGiven is.cabinet.files names u q es → AtNext a e
+          given_step u q es also =
+              let given : IsGiven (Some x.files) names u q es = subst (λ (o : Option Files). IsGiven o names u q es) is.told also in
+              elim (cases_Bool (bytes_eq u.digest t.digest)) [
+                | inr other_tables ↦ others_step (others_by u q es given (λ same. differ u.digest t.digest other_tables same.0))
+                | inl first ↦ elim (cases_Bool (bytes_eq q.digest r.digest)) [
+                  | inr other_roll ↦ others_step (others_by u q es given (λ same. differ q.digest r.digest other_roll same.1))
+                  | inl second ↦
+                      let same = may.no_collision names is_this u q es given ((bytes_eq-Decides u.digest t.digest).0 first) ((bytes_eq-Decides q.digest r.digest).0 second) in
+                      these_step es (subst (λ (y : TablesData). IsGiven (Some x.files) names y r es) same.0 (subst (λ (y : RollData). IsGiven (Some x.files) names u y es) same.1 given))
+                ]
               ]
-            ]
 
-      vota_step : (names : Vota) → command_of x.words ≡ Some (ToVote names) → (answer : Status) → is.answer ≡ answer
+        -- over a replaced flash that hasn't the frame of the load
+        module _ (d : Dev) (replaced_one : IsReplaced t r section here.state d start) (no_frame : ¬ HasFrameOf t r section d (flash_of d start).content) where
+          fronts : Runs IsFrontOfSyncs is.machine is.ends.between
+          fronts =
+              vota_kept_out t r section here.state d start ready.tables ready.roll replaced_one no_frame x.files is.cabinet is.cabinet_after is.machine is.ends.between is.told is.traced.flashes
+              names (may.no_collision names is_this) is.answer ends
+
+          kept_here : At before a e
+          kept_here =
+              idle_kept is.done a e (idle_stop is.ops is.done (idle_trail is.machine is.machine_after start is.ops is.traced (then_told (front_idles is.machine is.ends.between fronts))) stop) internal external
+
+          -- nothing but the line that tells a fault is shown
+          line_front : (text : List ℕ) → Tells (Some text) is.ends.between is.machine_after → (rest : List ℕ) × (fault_line text ≡ x.shown ++ rest)
+          line_front text tells =
+              let (ops, does, back, front) = tells_front text is.ends.between is.machine_after tells in
+              let all : fronts.0 ++ ops ≡ is.ops =
+              traced_is is.machine is.machine_after start is.ops (fronts.0 ++ ops) is.traced (does-append fronts.0 ops is.machine is.ends.between is.machine_after fronts.1 does) in
+              let text_is : shown_by is.ops ≡ shown_by ops =
+              ap shown_by (sym all) ∙ shown_by-append fronts.0 ops ∙ ap (λ (l : List ℕ). l ++ shown_by ops) (syncs_silent fronts.0 fronts.2) in
+              let (more, at_stop) = stop_front is.ops is.done stop in
+              (more ++ back, front ∙ ap (λ (l : List ℕ). l ++ back) (sym text_is ∙ at_stop) ∙ append_assoc (shown_by is.done) more back ∙ ap (λ (l : List ℕ). l ++ (more ++ back)) (sym is.shown))
+
+          -- no line tells this status
+          silent_step : is.machine_after ≡ is.ends.between → AtNext a e
+          silent_step same =
+              let all : fronts.0 ≡ is.ops = traced_is is.machine is.machine_after start is.ops fronts.0 is.traced (subst (Does fronts.0 is.machine) (sym same) fronts.1) in
+              let (more, at_stop) = stop_front is.ops is.done stop in
+              let nothing : shown_by is.done ++ more ≡ [] = sym at_stop ∙ ap shown_by (sym all) ∙ syncs_silent fronts.0 fronts.2 in
+              add_silent before x a e kept_here (is.shown ∙ first_none (shown_by is.done) more nothing)
+            where
+              first_none : (xs ys : List ℕ) → xs ++ ys ≡ [] → xs ≡ []
+              first_none [] ys none_left = refl
+              first_none (one ∷ xs) ys none_left = absurd (cc)
+
+          foreign_step : EndsForeign is.answer → AtNext a e
+          foreign_step (inl (which, same)) =
+              let tells : Tells (Some (codes "OUTRA CARGA " ++ device_word which)) is.ends.between is.machine_after =
+              subst (λ (y : Status). Tells (fault_text y) is.ends.between is.machine_after) same is.ends.told in
+              let (rest, front) = line_front (codes "OUTRA CARGA " ++ device_word which) tells in
+              add_foreign before x a e kept_here (which, codes "OUTRA CARGA " ++ device_word which, rest, refl, front)
+          foreign_step (inr (inl same)) = silent_step (subst (λ (y : Status). Tells (fault_text y) is.ends.between is.machine_after) same is.ends.told)
+          foreign_step (inr (inr (inl same))) = silent_step (subst (λ (y : Status). Tells (fault_text y) is.ends.between is.machine_after) same is.ends.told)
+          foreign_step (inr (inr (inr (which, same)))) =
+              silent_step (port_silent (port_of which) is.ends.between is.machine_after (subst (λ (y : Status). Tells (fault_text y) is.ends.between is.machine_after) same is.ends.told))
+
+          unloaded_step : AtNext a e
+          unloaded_step =
+              elim (vota_answer t r section here.state d start ready.tables ready.roll replaced_one no_frame x.files is.cabinet is.cabinet_after is.machine is.ends.between is.told is.traced.flashes
+              names (may.no_collision names is_this) is.answer ends) [
+                | inl why ↦ refused_step why (front_idles is.machine is.ends.between fronts)
+                | inr ends_so ↦ foreign_step ends_so
+              ]
+
+      found_step : AreFound t r section here.state start → (names : Vota) → command_of x.words ≡ Some (ToVote names) → (answer : Status) → is.answer ≡ answer
           → VotaEnds names is.cabinet is.cabinet_after is.machine is.ends.between answer → AtNext a e
-      vota_step names is_this answer same (refused why taken un) =
-          idle_here (then_told (untouched_idles is.machine is.ends.between un))
-          (λ es of. refused_or_given x.files names answer t r es (subst (λ (o : Option Files). IsRefused o names answer) is.told why)
-          (given_of names is_this (subst (VotaEnds names is.cabinet is.cabinet_after is.machine is.ends.between) (sym same) (refused why taken un)) es of))
-      vota_step names is_this _ same (no_memory taken un) = nothing_here (subst (λ (y : Status). Tells (fault_text y) is.ends.between is.machine_after) same is.ends.told ∙ un)
-      vota_step names is_this _ same (no_cabinet taken un) = nothing_here (subst (λ (y : Status). Tells (fault_text y) is.ends.between is.machine_after) same is.ends.told ∙ un)
-      vota_step names is_this _ same (not_started {t = u} {r = q} {es} error given taken h) =
-          given_step names is_this (subst (VotaEnds names is.cabinet is.cabinet_after is.machine is.ends.between) (sym same) (not_started error given taken h)) u q es given
-      vota_step names is_this _ same (vota_cut {t = u} {r = q} {es} p given taken h) =
-          given_step names is_this (subst (VotaEnds names is.cabinet is.cabinet_after is.machine is.ends.between) (sym same) (vota_cut p given taken h)) u q es given
-      vota_step names is_this answer same (session_held {t = u} {r = q} {es} after_it given taken h one_of state put) =
-          given_step names is_this (subst (VotaEnds names is.cabinet is.cabinet_after is.machine is.ends.between) (sym same) (session_held after_it given taken h one_of state put)) u q es given
+      found_step found names is_this answer same (refused why taken un) =
+          refused_step names is_this (subst (VotaEnds names is.cabinet is.cabinet_after is.machine is.ends.between) (sym same) (refused why taken un))
+          (subst (λ (y : Status). IsRefused (Some x.files) names y) (sym same) (subst (λ (o : Option Files). IsRefused o names answer) is.told why)) (untouched_idles is.machine is.ends.between un)
+      found_step found names is_this _ same (no_memory taken un) = nothing_here (subst (λ (y : Status). Tells (fault_text y) is.ends.between is.machine_after) same is.ends.told ∙ un)
+      found_step found names is_this _ same (no_cabinet taken un) = nothing_here (subst (λ (y : Status). Tells (fault_text y) is.ends.between is.machine_after) same is.ends.told ∙ un)
+      found_step found names is_this _ same (not_started {t = u} {r = q} {es} error given taken h) =
+          given_step names is_this (subst (VotaEnds names is.cabinet is.cabinet_after is.machine is.ends.between) (sym same) (not_started error given taken h)) found u q es given
+      found_step found names is_this _ same (vota_cut {t = u} {r = q} {es} p given taken h) =
+          given_step names is_this (subst (VotaEnds names is.cabinet is.cabinet_after is.machine is.ends.between) (sym same) (vota_cut p given taken h)) found u q es given
+      found_step found names is_this answer same (session_held {t = u} {r = q} {es} after_it given taken h one_of state put) =
+          given_step names is_this (subst (VotaEnds names is.cabinet is.cabinet_after is.machine is.ends.between) (sym same) (session_held after_it given taken h one_of state put)) found u q es given
+
+      vota_step : (names : Vota) → command_of x.words ≡ Some (ToVote names) → VotaEnds names is.cabinet is.cabinet_after is.machine is.ends.between is.answer → AtNext a e
+      vota_step names is_this ends = elim (poll_cases t r section here.state start ready.tables poll) [
+        | inl found ↦ found_step found names is_this is.answer refl ends
+        | inr (d, replaced_one, no_frame) ↦ unloaded_step names is_this ends d replaced_one no_frame
+      ]
 
       any_step : (command : Option Command) → command_of x.words ≡ command → AtNext a e
       any_step None is_this = command_step None is_this tt (λ names same. absurd (cc))
       any_step (Some (ToVote names)) is_this =
-          vota_step names is_this is.answer refl (ends_as x.words (ToVote names) is.cabinet is.cabinet_after is.machine is.ends.between is.answer is_this is.ends.command)
+          vota_step names is_this (ends_as x.words (ToVote names) is.cabinet is.cabinet_after is.machine is.ends.between is.answer is_this is.ends.command)
       any_step (Some (ToLoad names)) is_this = load_step names is_this
       any_step (Some (ToEmit names)) is_this = command_step (Some (ToEmit names)) is_this tt (λ other_names same. absurd (cc))
       any_step (Some (ToCheck names)) is_this = command_step (Some (ToCheck names)) is_this tt (λ other_names same. absurd (cc))
       any_step (Some (ToTotal names)) is_this = command_step (Some (ToTotal names)) is_this tt (λ other_names same. absurd (cc))
       any_step (Some (ToRehearse voters)) is_this = command_step (Some (ToRehearse voters)) is_this tt (λ other_names same. absurd (cc))
-
-    -- what a power cut left of flashes, on which nothing is dirty, is an image of them
-    left_images : (flashes : Flashes) (text : List ℕ) (left : Left) → IsLeft flashes text left → (a b : List ℕ)
-        → IsImage (clean_flash left.internal) a → IsImage (clean_flash left.external) b → IsImage flashes.internal a × IsImage flashes.external b
-    left_images flashes text left is a b internal external =
-        let i : a ≡ left.internal = clean_image (clean_flash left.internal) a (clean_is_clean left.internal) internal in
-        let e : b ≡ left.external = clean_image (clean_flash left.external) b (clean_is_clean left.external) external in
-        (subst (IsImage flashes.internal) (sym i) is.internal, subst (IsImage flashes.external) (sym e) is.external)
-
-    -- what there is for the next call is an image of a stop
-    goes : (answer : Status) (ops done : List Op) (over : Option Status) (next : Flashes) (P : List ℕ → List ℕ → Type 0) → IsNext start ops answer done over next
-        → ((a b : List ℕ) → IsStop ops done → IsImage (after done start).internal a → IsImage (after done start).external b
-        → (IsInterrupted over ⊎ ((over ≡ Some answer) × (done ≡ ops))) → P a b)
-        → (a b : List ℕ) → IsImage next.internal a → IsImage next.external b → P a b
-    goes answer ops _ _ _ P ended h a b internal external = h a b (stop_whole ops) internal external (inr (refl, refl))
-    goes answer ops _ _ _ P (cut_behind {left} is) h a b internal external =
-        let images = left_images (after ops start) (shown_by ops) left is a b internal external in
-        h a b (stop_whole ops) images.0 images.1 (inr (refl, refl))
-    goes answer ops done _ _ P (cut {left} stop is) h a b internal external =
-        let images = left_images (after done start) (shown_by done) left is a b internal external in
-        h a b stop images.0 images.1 (inl stopped)
-
-    step : (next : Flashes) (is : IsCall start x next) → MayBeCalled t r start x is.done → Kept (before ++ x ∷ []) next
-    step next is may =
-        goes is.answer is.ops is.done x.status next AtNext is.goes_on
-        (λ a b stop internal external over. any_step next is may a b stop internal external over (command_of x.words) refl)
+      any_step (Some (ToReplace names)) is_this = replace_step names is_this
 
   -- ---- all of them
 
-  all_kept : (before : List Call) (start last : Flashes) (more : List Call) → Kept before start → AreCalled t r start more last → Kept (before ++ more) last
-  all_kept before start _ _ kept no_call = subst (λ (l : List Call). Kept l start) (sym (append-nil before)) kept
-  all_kept before start last _ kept (one_call {next} {x} {more} is may rest) =
-      subst (λ (l : List Call). Kept l last) (append_assoc before (x ∷ []) more)
-      (all_kept (before ++ x ∷ []) next last more (step before start kept x next is may) rest)
+  flashes_whole : (steps : List Step) (flashes : Flashes) → Kept steps flashes → AreWhole flashes
+  flashes_whole steps flashes kept dev.Internal = (contents_kept steps flashes kept).whole dev.Internal
+  flashes_whole steps flashes kept dev.External = (contents_kept steps flashes kept).whole dev.External
 
-pub calls_keep_votes : CallsKeepVotes
-calls_keep_votes t r section s start last calls ready are left is =
-    let kept = all_kept t r section s start ready [] start last calls (kept_first t r section s start ready) are left.internal left.external is.internal is.external in
+  step : (before : List Step) (start : Flashes) → Kept before start → (x : Call) (next : Flashes) (is : IsCall start x next) → MayBeCalled t r section start x is.done → Kept (Called x ∷ before) next
+  step before start kept x next is may =
+      goes start is.answer is.ops is.done x.status next (λ a b. At (Called x ∷ before) a b) is.goes_on
+      (λ a b stop internal external over. any_step before start kept x next is may a b stop internal external over (command_of x.words) refl)
+
+  exchange_step : (before : List Step) (d : Dev) (now next : Flashes) → Kept before now → IsExchange d now next → (u : State) → LeadTo t r s before u
+      → IsStanding t r section u (beside d) (flash_of (beside d) now).content → Kept (Exchanged d ∷ before) next
+  exchange_step before d now next kept is u led standing a b internal external =
+      let i = clean_image next.internal a (is.clean dev.Internal) internal in
+      let e = clean_image next.external b (is.clean dev.External) external in
+      subst (λ (x : List ℕ). At (Exchanged d ∷ before) x b) (sym i)
+      (subst (λ (y : List ℕ). At (Exchanged d ∷ before) next.internal.content y) (sym e)
+      (record {
+        state = u;
+        poll = by_one d (replaced_clean t r section u d next (record { standing = subst (λ (f : Flash). IsStanding t r section u (beside d) f.content) (sym is.stays) standing; unused = is.unused }));
+        whole = clean_sized;
+        led = exchanges led;
+        has = led_has_ballots t r s u before (found_roll t r section s origin ready.found) led;
+        both = λ all. absurd all.0;
+      }))
+    where
+      sized : (e : Dev) → length (flash_of e next).content ≡ device_size
+      sized e = elim (one_or_beside e d) [
+        | inl same ↦ subst (λ (x : Dev). length (flash_of x next).content ≡ device_size) (sym same) is.size
+        | inr other_one ↦
+            subst (λ (x : Dev). length (flash_of x next).content ≡ device_size) (sym other_one)
+            (ap (λ (f : Flash). length f.content) is.stays ∙ flashes_whole before now kept (beside d))
+      ]
+
+      clean_sized : AreWhole (clean_flashes next.internal.content next.external.content)
+      clean_sized dev.Internal = sized dev.Internal
+      clean_sized dev.External = sized dev.External
+
+  all_kept : (steps : List Step) (last : Flashes) → AreDone t r section s origin steps last → Kept steps last
+  all_kept _ _ done_nothing = kept_first
+  all_kept _ last (done_call {before} {now} {x} done is may) = step before now (all_kept before now done) x last is may
+  all_kept _ last (done_exchange {before} {now} {d} {u} done is led standing) = exchange_step before d now last (all_kept before now done) is u led standing
+
+pub steps_keep_votes : StepsKeepVotes
+steps_keep_votes t r section s start last steps ready done left is =
+    let kept = all_kept t r section s start ready steps last done left.internal left.external is.internal is.external in
     record {
       state = kept.state;
-      found = kept.found;
+      poll = kept.poll;
+      whole = kept.whole;
       led = kept.led;
       has = kept.has;
-      frames = frames_text start (images left.internal left.external) left.shown kept.frames;
+      both = λ all. ((kept.both all).0, frames_text start (images left.internal left.external) left.shown (kept.both all).1);
     }
 
 pub next_is_safe : NextIsSafe
-next_is_safe t r section s start last calls ready are =
-    let kept = contents_kept t r section s start ready calls last (all_kept t r section s start ready [] start last calls (kept_first t r section s start ready) are) in
-    let found : AreFound t r section kept.state last = record { loaded = kept.found.loaded; held = kept.found.held } in
-    (kept.state, kept.led, kept.has, found, votes_are_kept t r section kept.state last found)
+next_is_safe t r section s start last steps ready done =
+    let kept = contents_kept t r section s start ready steps last (all_kept t r section s start ready steps last done) in (
+      kept.state,
+      kept.led,
+      kept.has,
+      poll_of t r section kept.state last kept.poll,
+      λ all. record { loaded = (kept.both all).0.loaded; held = (kept.both all).0.held },
+      λ found. votes_are_kept t r section kept.state last found,
+    )
+
+-- ---- either flash may be exchanged behind a session
+
+has_byte : (text : List ℕ) → text ≢ [] → 0 < length text
+has_byte [] some = absurd (some refl)
+has_byte (one ∷ text) some = omega arith
+
+-- the flash alone stands for a poll to which the steps lead
+abbrev Alone : TablesData → RollData → Section → State → List Step → Dev → List ℕ → Type 0
+Alone t r section s steps e image = (u : State) × LeadTo t r s steps u × IsStanding t r section u e image
+
+on_images : (t : TablesData) (r : RollData) (section : Section) (s : State) (steps : List Step) (d : Dev) (left : Left) → Alone t r section s steps d (left_on d (images left.internal left.external))
+    → Alone t r section s steps d (left_on d left)
+on_images t r section s steps dev.Internal left alone = alone
+on_images t r section s steps dev.External left alone = alone
+
+pub either_may_be_exchanged : EitherMayBeExchanged
+either_may_be_exchanged t r section s start now next before x es ready done v found is of some d left at =
+    on_images t r section s (Called x ∷ before) d left
+    (goes now is.answer is.ops is.done x.status next (λ a b. Alone t r section s (Called x ∷ before) d (left_on d (images a b))) is.goes_on
+    (λ a b stop internal external over. by_device d (both a b stop internal external over)) left.internal left.external at.internal at.external)
+  where
+    kept : Kept t r section s start ready before now
+    kept = all_kept t r section s start ready before now done
+
+    here : HasKept t r section s start before (images now.internal.content now.external.content)
+    here = contents_kept t r section s start ready before now kept
+
+    found_here : AreFound t r section here.state now
+    found_here =
+        subst (λ (y : State). AreFound t r section y now)
+        (sym (poll_once t r section v here.state now ready.tables found (poll_of t r section here.state now here.poll))) found
+
+    by_device : {a b : List ℕ} (e : Dev) → Alone t r section s (Called x ∷ before) dev.Internal a × Alone t r section s (Called x ∷ before) dev.External b
+        → Alone t r section s (Called x ∷ before) e (left_on e (images a b))
+    by_device dev.Internal both = both.0
+    by_device dev.External both = both.1
+
+    both : (a b : List ℕ) → IsStop is.ops is.done → IsImage (after is.done now).internal a → IsImage (after is.done now).external b → IsOver x.status is.answer is.ops is.done
+        → Alone t r section s (Called x ∷ before) dev.Internal a × Alone t r section s (Called x ∷ before) dev.External b
+    both a b stop internal external over =
+        let run = run_exists (setting_of t r.titles) here.state es (tables_setting t r.titles ready.tables) in
+        let ends = ends_as x.words (ToVote of.names) is.cabinet is.cabinet_after is.machine is.ends.between is.answer of.command is.ends.command in
+        let whole = flashes_whole t r section s start ready before now kept in
+        elim (session_leaves of.names x is.cabinet is.cabinet_after is.told t r es of.given section here.state run.0 run.1 run.2 is.machine is.ends.between is.machine_after now is.ops found_here whole is.traced
+        is.answer ends is.ends.told is.done stop a b internal external is.shown over) [
+          | inl (first, second, nothing) ↦ absurd (some nothing)
+          | inr (text, is_shown, votes, on, on_internal, on_external) ↦
+              let began = has_byte text (λ nothing. some (is_shown ∙ nothing)) in
+              let there = found_left of.names x is.cabinet is.cabinet_after is.told t r es of.given section here.state run.0 run.1 run.2 is.machine is.ends.between is.machine_after now is.ops found_here whole
+              is.traced is.answer ends is.ends.told text a b votes votes.both.state votes.both.is in (
+                (
+                  (votes.internal began).state,
+                  leads here.led (session of some (on_internal began)),
+                  record { section_fits = found_here.loaded.section_fits; frame = there.0.loaded.internal_frame; held = (votes.internal began).is },
+                ),
+                (
+                  (votes.external began).state,
+                  leads here.led (session of some (on_external began)),
+                  record { section_fits = found_here.loaded.section_fits; frame = there.0.loaded.external_frame; held = (votes.external began).is },
+                ),
+              )
+        ]
+
+-- ---- and the one that stands goes on standing
+
+-- what reads give is an image
+own_content : (t : TablesData) (r : RollData) (section : Section) (s : State) (steps : List Step) (flashes : Flashes) (d : Dev) → StandsAlone t r section s steps flashes d
+    → Alone t r section s steps d (flash_of d flashes).content
+own_content t r section s steps flashes dev.Internal all =
+    at_end flashes [] (λ left. Alone t r section s steps dev.Internal left.internal) (stops_none flashes (λ left. Alone t r section s steps dev.Internal left.internal) (λ left at. all left at))
+own_content t r section s steps flashes dev.External all =
+    at_end flashes [] (λ left. Alone t r section s steps dev.External left.external) (stops_none flashes (λ left. Alone t r section s steps dev.External left.external) (λ left at. all left at))
+
+module _ (t : TablesData) (r : RollData) (section : Section) (s : State) (now next : Flashes) (before : List Step) (x : Call) (d : Dev) (tables : IsTables t) (roll : IsRoll r)
+    (stands : StandsAlone t r section s before now d) (is : IsCall now x next) where
+  abbrev After : List ℕ → List ℕ → Type 0
+  After a b = Alone t r section s (Called x ∷ before) d (left_on d (images a b))
+
+  -- behind operations that put nothing
+  still_idle : (done : List Op) (a b : List ℕ) → AreIdle done → IsImage (after done now).internal a → IsImage (after done now).external b → ((u : State) → LeadsTo t r x u u) → After a b
+  still_idle done a b idle internal external nowhere =
+      let (u, led, standing) = stands (images a b) (idle_left done now [] (images a b) idle (record { internal = internal; external = external; shown = refl })) in
+      (u, leads led (nowhere u), standing)
+
+  module _ (names : Repoe) (is_this : command_of x.words ≡ Some (ToReplace names)) (which : d ≡ beside names.replaced) (gives : AreNoCollision t r x.files names) where
+    nowhere : (u : State) → LeadsTo t r x u u
+    nowhere u = other (λ es of. let clash : Some (ToVote of.names) ≡ Some (ToReplace names) = sym of.command ∙ is_this in absurd (cc))
+
+    module _ (it : DoesReplace names is.cabinet is.machine is.machine_after) where
+      mine : Alone t r section s before (beside names.replaced) (flash_of (beside names.replaced) now).content
+      mine = own_content t r section s before now (beside names.replaced) (subst (StandsAlone t r section s before now) which stands)
+
+      stops : AtEachStop (after both_synced now) it.rest (LeavesStanding t r section mine.0 names.replaced)
+      stops = standing_stops t r section mine.0 now tables roll names x.files is.cabinet is.told gives is.machine is.machine_after is.traced.flashes it mine.2
+
+      standing_left : (a b text : List ℕ) → LeavesStanding t r section mine.0 names.replaced (left_so a b text) → After a b
+      standing_left a b text leaves =
+          (mine.0, leads mine.1 (nowhere mine.0), subst (λ (e : Dev). IsStanding t r section mine.0 e (left_on e (images a b))) (sym which) (same_side (beside names.replaced) leaves.standing))
+        where
+          same_side : (e : Dev) → IsStanding t r section mine.0 e (left_on e (left_so a b text)) → IsStanding t r section mine.0 e (left_on e (images a b))
+          same_side dev.Internal standing = standing
+          same_side dev.External standing = standing
+
+      standing_behind : (a b : List ℕ) (later : List Op) → IsStop (it.rest ++ it.more) later → IsImage (after later (after both_synced now)).internal a
+          → IsImage (after later (after both_synced now)).external b → After a b
+      standing_behind a b later behind first second = elim (stop-append it.rest it.more later behind) [
+        | inl within ↦ standing_left a b (shown_by later) (stops later within (left_so a b (shown_by later)) (record { internal = first; external = second; shown = refl }))
+        | inr (tail, split, rest) ↦
+            let all : after later (after both_synced now) ≡ after tail (after it.rest (after both_synced now)) =
+            ap (λ (l : List Op). after l (after both_synced now)) split ∙ after-append it.rest tail (after both_synced now) in
+            let left = idle_left tail (after it.rest (after both_synced now)) [] (images a b) (idle_stop it.more tail it.idle rest)
+            (record { internal = subst (λ (fs : Flashes). IsImage fs.internal a) all first; external = subst (λ (fs : Flashes). IsImage fs.external b) all second; shown = refl }) in
+            standing_left a b (shown_by it.rest) (stops it.rest (stop_whole it.rest) (left_so a b (shown_by it.rest)) (record { internal = left.internal; external = left.external; shown = refl }))
+      ]
+
+    still_repoe : (a b : List ℕ) → IsStop is.ops is.done → IsImage (after is.done now).internal a → IsImage (after is.done now).external b → After a b
+    still_repoe a b stop internal external =
+        let ends = ends_as x.words (ToReplace names) is.cabinet is.cabinet_after is.machine is.ends.between is.answer is_this is.ends.command in
+        elim (repoe_then names is.cabinet is.machine is.ends.between is.machine_after (repoe_does names is.cabinet is.cabinet_after is.machine is.ends.between is.answer ends)
+        (told_idles (fault_text is.answer) is.ends.between is.machine_after is.ends.told)) [
+          | inl idles ↦ still_idle is.done a b (idle_stop is.ops is.done (idle_trail is.machine is.machine_after now is.ops is.traced idles) stop) internal external nowhere
+          | inr it ↦
+              let all : both_synced ++ (it.rest ++ it.more) ≡ is.ops = traced_is is.machine is.machine_after now is.ops (both_synced ++ (it.rest ++ it.more)) is.traced it.does in
+              elim (stop-append both_synced (it.rest ++ it.more) is.done (subst (λ (l : List Op). IsStop l is.done) (sym all) stop)) [
+                | inl before_them ↦ still_idle is.done a b (idle_stop both_synced is.done (tt, (tt, tt)) before_them) internal external nowhere
+                | inr (later, front, behind) ↦
+                    standing_behind it a b later behind (subst (λ (l : List Op). IsImage (after l now).internal a) front internal) (subst (λ (l : List Op). IsImage (after l now).external b) front external)
+              ]
+        ]
+
+pub still_stands_alone : StillStandsAlone
+still_stands_alone t r section s now next before x d tables roll stands is how left at =
+    on_images t r section s (Called x ∷ before) d left
+    (goes now is.answer is.ops is.done x.status next (λ a b. After t r section s now next before x d tables roll stands is a b) is.goes_on
+    (λ a b stop internal external over. elim how [
+      | inl (idle, nowhere_it) ↦ still_idle t r section s now next before x d tables roll stands is is.done a b idle internal external nowhere_it
+      | inr (names, is_this, which, gives) ↦ still_repoe t r section s now next before x d tables roll stands is names is_this which gives a b stop internal external
+    ]) left.internal left.external at.internal at.external)
+
+-- ---- behind an exchange of the other flash, and at rest
+
+-- an image of a flash on which nothing is dirty is its content
+clean_on : (flashes : Flashes) (left : Left) (d : Dev) → IsClean (flash_of d flashes) → IsLeft flashes [] left → left_on d left ≡ (flash_of d flashes).content
+clean_on flashes left dev.Internal clean at = clean_image flashes.internal left.internal clean at.internal
+clean_on flashes left dev.External clean at = clean_image flashes.external left.external clean at.external
+
+pub exchange_leaves_it : ExchangeLeavesIt
+exchange_leaves_it t r section s now next before d stands is left at =
+    let (u, led, standing) = own_content t r section s before now d stands in
+    let same : flash_of d next ≡ flash_of d now = subst (λ (e : Dev). flash_of e next ≡ flash_of e now) (twice_beside d) is.stays in
+    let image : left_on d left ≡ (flash_of d now).content = clean_on next left d (is.clean d) at ∙ ap (λ (f : Flash). f.content) same in
+    (u, exchanges led, subst (IsStanding t r section u d) (sym image) standing)
+
+pub rest_stands_alone : RestStandsAlone
+rest_stands_alone t r section s u flashes steps d tables roll fits of rest led left at =
+    (u, led, subst (IsStanding t r section u d) (sym (clean_on flashes left d (rest.clean d) at)) (stands_at_rest t r section u flashes d tables roll fits of rest))

@@ -1,7 +1,7 @@
 -- Where a call has what it needs, each other ending shows a fault
 use Rattle.std.proofs.Common.{◌≡◌, ◌⊎◌, inl, inr, false, ℕ, zero, suc, ◌+◌, ◌≤◌, List, [], ◌∷◌, length, Option, None, Some, refl, sym, ap, subst, ◌∙◌}
 use Rattle.urna_outside.specs.Cabinet.{CabinetTold, Entry, Files, Tally}
-use Rattle.urna_outside.specs.Flash.{Flashes}
+use Rattle.urna_outside.specs.Flash.{Flashes, flash_of}
 use Rattle.urna_outside.specs.Told.{Faults, Rose, Told, faults_of, port_of}
 use Rattle.urna_outside.specs.declared.device.Dev.{Dev}
 use Rattle.urna_outside.specs.declared.device.Dev.TheVariants as dev
@@ -18,27 +18,34 @@ use Rattle.image_codec.specs.State.{State}
 use Rattle.section_intake.specs.declared.verdict.Verdict.{Verdict}
 use Rattle.section_intake.specs.declared.verdict.Verdict.TheVariants as verdict
 use Rattle.state_store.specs.Calls.{AreFound, FailsToLoad, FailsToPeek}
-use Rattle.state_store.specs.Held.{HeldByNone, IsForeign}
+use Rattle.state_store.specs.Held.{HasNoFrame, HeldByNone, IsForeign}
 use Rattle.state_store.specs.Laws.{HeldIsDecoded, LoadedOrForeign}
+use Rattle.state_store.specs.Rest.{IsInUse}
 use Rattle.state_store.specs.declared.store.LoadError.{LoadError}
 use Rattle.state_store.specs.declared.store.LoadError.TheVariants as load
 use Rattle.state_store.specs.declared.store.StoreError.{StoreError}
 use Rattle.state_store.specs.declared.store.StoreError.TheVariants as store
+use Rattle.contingency.specs.Calls.{FailsToReplace, IsBare}
+use Rattle.contingency.specs.Replaced.{IsStanding}
+use Rattle.contingency.specs.declared.replacement.ReplaceError.{ReplaceError}
+use Rattle.contingency.specs.declared.replacement.ReplaceError.TheVariants as replace
+use Rattle.contingency.proofs.Going.{one_cause}
 use Rattle.station.specs.Start.{FailsToStart}
 use Rattle.station.specs.declared.station.StartError.{StartError}
 use Rattle.station.specs.declared.station.StartError.TheVariants as start
 use Rattle.urna_commands.specs.Carga.{CargaEnds, IsSectionAsked, load_no_cabinet, load_no_memory, load_refused, loaded, no_section, not_loaded, not_told}
-use Rattle.urna_commands.specs.Command.{Carga, Command, Confere, Emite, ToCheck, ToEmit, ToLoad, ToRehearse, ToTotal, ToVote, Totaliza, Vota, command_of}
-use Rattle.urna_commands.specs.Completion.{CanCheck, CanEmit, CanLoad, CanTotal, CanVote, IsByVerdicts, CanDo, Completes, CompletesWhereItCan, IsDoneOrMemory, TellsOfRisenCounts, tells_of_count}
+use Rattle.urna_commands.specs.Command.{Carga, Command, Confere, Emite, Repoe, ToCheck, ToEmit, ToLoad, ToRehearse, ToReplace, ToTotal, ToVote, Totaliza, Vota, command_of}
+use Rattle.urna_commands.specs.Completion.{CanCheck, CanEmit, CanLoad, CanReplace, CanTotal, CanVote, IsByVerdicts, CanDo, Completes, CompletesWhereItCan, IsDoneOrMemory, TellsOfRisenCounts, tells_of_count}
 use Rattle.urna_commands.specs.Confere.{ConfereEnds, check_no_cabinet, check_no_memory, check_not_told, check_refused, checked}
 use Rattle.urna_commands.specs.Documents.{HasDocuments, IsBad, IsFault, IsFirstFault, bad, count, first_other, first_tables, lacks, line, longer, name_line, no_document, roll_line, rule}
 use Rattle.urna_commands.specs.Emite.{EmiteEnds, emit_no_cabinet, emit_no_memory, emit_refused, emitted, files_stopped, no_files, not_emitted, not_found, not_sealed}
 use Rattle.urna_commands.specs.Ending.{CommandEnds}
 use Rattle.urna_commands.specs.Ensaio.{EnsaioEnds, not_rehearsed, rehearsal_files, rehearsal_not_put, rehearsal_not_told, rehearsed}
-use Rattle.urna_commands.specs.Errors.{load_status, port_status, start_status, store_status}
+use Rattle.urna_commands.specs.Errors.{load_status, port_status, replace_status, start_status, store_status}
 use Rattle.urna_commands.specs.FaultLines.{Tells, fault_text}
 use Rattle.urna_commands.specs.Laws.{FoundOnce}
 use Rattle.urna_commands.specs.Putting.{PutsResults, StopPutting, no_results, result_files, results_not_made, results_not_put, results_put}
+use Rattle.urna_commands.specs.Repoe.{RepoeEnds, not_replaced, replace_no_cabinet, replace_no_memory, replace_refused, replaced, replaced_untold}
 use Rattle.urna_commands.specs.Taking.{HasTaken}
 use Rattle.urna_commands.specs.Totaliza.{HasOffered, IsListed, TotalizaEnds, list_no_cabinet, list_no_memory, list_refused, refused_count, refused_status, report_no_cabinet, report_no_memory, report_refused, totalled, totals_not_told, verdict_not_told}
 use Rattle.urna_commands.specs.Verdicts.{verdict_status}
@@ -218,6 +225,44 @@ emite_completes either decoded once names c d m b s files flashes told none calm
     absurd (calm Display refl (since Display m between b peeked.synced.fine.faults off.faults.rose))
 emite_completes either decoded once names c d m b s files flashes told none calm flashes_told can (emitted put_to between given taken peeked sealed put shown) = inl refl
 
+-- ---- repoe
+
+pub repoe_completes : (names : Repoe) (c d : CabinetTold) (m b : Told) (s : Status) (files : Files) (flashes : Flashes)
+    → c.files ≡ Some files → ¬ Rose c.tally.faults d.tally.faults → Calm s m b → m.flashes ≡ Some flashes → CanReplace names (Some files) flashes
+    → RepoeEnds names c d m b s → IsDoneOrMemory s
+repoe_completes names c d m b s files flashes told none calm flashes_told can (replace_refused h taken untouched) =
+    absurd (refused_or_documents files names.tables names.roll s can.t can.r
+    (subst (λ (f : Option Files). IsFirstFault f names.tables doc.Roll names.roll s) told h) can.given)
+repoe_completes names c d m b s files flashes told none calm flashes_told can (replace_no_memory taken untouched) = inr refl
+repoe_completes names c d m b s files flashes told none calm flashes_told can (replace_no_cabinet taken untouched) =
+    absurd (none taken.counts.faults.rose)
+repoe_completes names c d m b s files flashes told none calm flashes_told can (not_replaced {t} {r} e given taken fails) =
+    let found = subst (λ (f : Option Files). HasDocuments f names.tables names.roll t r) told given in
+    let tables = same_tables files names.tables t can.t found.tables can.given.tables in
+    let roll = same_roll files names.roll r can.r found.roll can.given.roll in
+    replaces e calm
+    (subst (λ (x : RollData). FailsToReplace can.t x names.replaced m b e) roll (subst (λ (x : TablesData). FailsToReplace x r names.replaced m b e) tables fails))
+  where
+    -- a device that stands for a state has a frame, and isn't bare
+    stands : (d x : Dev) (other : Section) → d ≡ x → IsStanding can.t can.r can.section can.state x (flash_of x flashes).content
+        → (HasNoFrame can.t can.r d (flash_of d flashes).content → ⊥) × (IsBare can.t can.r other d (flash_of d flashes).content → ⊥)
+    stands d x other is standing =
+        (one_cause can.t can.r can.section other can.state d (flash_of d flashes).content).0
+        (subst (λ (y : Dev). IsStanding can.t can.r can.section can.state y (flash_of y flashes).content) (sym is) standing)
+
+    replaces : (e : ReplaceError) → Calm (replace_status e) m b → FailsToReplace can.t can.r names.replaced m b e → IsDoneOrMemory (replace_status e)
+    replaces replace.Memory calm h = inr refl
+    replaces (replace.Flash d) calm h = absurd (calm (port_of d) refl h.0.faults.rose)
+    replaces (replace.Foreign d) calm h =
+        absurd ((stands d _ can.section h.0 can.replaced.standing).0 (h.2 flashes flashes_told))
+    replaces (replace.NoStanding d) calm h =
+        absurd ((stands d _ h.2.0 h.0 can.replaced.standing).1 (h.2.2 flashes flashes_told))
+    replaces (replace.Busy d) calm h =
+        absurd (can.replaced.unused (subst (λ (x : Dev). IsInUse (flash_of x flashes).content) h.0 (h.2.2 flashes flashes_told).busy))
+repoe_completes names c d m b s files flashes told none calm flashes_told can (replaced_untold between given taken has off) =
+    absurd (calm Display refl (since Display m between b has.fine.faults off.faults.rose))
+repoe_completes names c d m b s files flashes told none calm flashes_told can (replaced between given taken has shown) = inl refl
+
 -- ---- totaliza
 
 pub totaliza_completes : OneListAnswers → (names : Totaliza) (c d : CabinetTold) (m b : Told) (s : Status) (files : Files) → c.files ≡ Some files
@@ -305,6 +350,10 @@ completes_as either decoded once answers (ToTotal names) c d m b s (Some f) flas
     totaliza_completes answers names c d m b s f told none calm can ends
 completes_as either decoded once answers (ToRehearse voters) c d m b s files flashes told shown none calm ends can =
     ensaio_completes voters c d m b s none calm ends
+completes_as either decoded once answers (ToReplace names) c d m b s None flashes told shown none calm ends can = absurd can
+completes_as either decoded once answers (ToReplace names) c d m b s (Some f) None told shown none calm ends can = absurd can
+completes_as either decoded once answers (ToReplace names) c d m b s (Some f) (Some g) told shown none calm ends can =
+    repoe_completes names c d m b s f g told none calm shown can ends
 
 pub completes : LoadedOrForeign → HeldIsDecoded → FoundOnce → OneListAnswers → CompletesWhereItCan
 completes either decoded once answers words command c d m n s is failed ends can =
@@ -403,6 +452,22 @@ emite_counts names c d m b s none (not_emitted put_to between given taken peeked
     absurd (none.calm Display refl (since Display m between b peeked.synced.fine.faults off.faults.rose))
 emite_counts names c d m b s none (emitted put_to between given taken peeked sealed put shown) = refl
 
+repoe_counts : (names : Repoe) (c d : CabinetTold) (m b : Told) (s : Status) → NothingCounted c d s m b → RepoeEnds names c d m b s → tells_of_count s ≡ false
+repoe_counts names c d m b s none (replace_refused h taken untouched) = first_counts c.files names.tables doc.Roll names.roll 2 c d s m b none taken h
+repoe_counts names c d m b s none (replace_no_memory taken untouched) = refl
+repoe_counts names c d m b s none (replace_no_cabinet taken untouched) = absurd (none.faults taken.counts.faults.rose)
+repoe_counts names c d m b s none (not_replaced {t} {r} e given taken fails) = replacing e none.calm fails
+  where
+    replacing : (e : ReplaceError) → Calm (replace_status e) m b → FailsToReplace t r names.replaced m b e → tells_of_count (replace_status e) ≡ false
+    replacing replace.Memory calm h = refl
+    replacing (replace.Flash x) calm h = absurd (calm (port_of x) refl h.0.faults.rose)
+    replacing (replace.Foreign x) calm h = refl
+    replacing (replace.NoStanding x) calm h = refl
+    replacing (replace.Busy x) calm h = refl
+repoe_counts names c d m b s none (replaced_untold between given taken has off) =
+    absurd (none.calm Display refl (since Display m between b has.fine.faults off.faults.rose))
+repoe_counts names c d m b s none (replaced between given taken has shown) = refl
+
 confere_counts : (names : Confere) (c d : CabinetTold) (m b : Told) (s : Status) → NothingCounted c d s m b → ConfereEnds names c d m b s
     → tells_of_count s ≡ false
 confere_counts names c d m b s none (check_refused h taken untouched) =
@@ -447,6 +512,7 @@ command_counts (Some (ToEmit names)) c d m b s none ends = emite_counts names c 
 command_counts (Some (ToCheck names)) c d m b s none ends = confere_counts names c d m b s none ends
 command_counts (Some (ToTotal names)) c d m b s none ends = totaliza_counts names c d m b s none ends
 command_counts (Some (ToRehearse voters)) c d m b s none ends = done_or_memory s (ensaio_completes voters c d m b s none.faults none.calm ends)
+command_counts (Some (ToReplace names)) c d m b s none ends = repoe_counts names c d m b s none ends
 
 pub tells_of_risen_counts : TellsOfRisenCounts
 tells_of_risen_counts words c d m n s failed missing too_long ends =

@@ -44,14 +44,13 @@ use Rattle.station.specs.declared.station.StartError.TheVariants as starting
 use Rattle.station.proofs.Performing.{tables_setting}
 use Rattle.station.proofs.RunLaws.{run_exists, run_unique}
 use Rattle.urna_commands.specs.Command.{Vota}
-use Rattle.urna_commands.specs.Errors.{port_status, start_status}
+use Rattle.urna_commands.specs.Errors.{start_status}
 use Rattle.urna_commands.specs.FaultLines.{Tells, fault_text}
 use Rattle.urna_commands.specs.Headline.{KeepsVotes, KeysHaveRun, VotesAreKept, session_of}
 use Rattle.urna_commands.specs.Putting.{PutsResults, no_results, results_not_made, results_not_put, results_put}
 use Rattle.urna_commands.specs.Vota.{HasVoted, HasVotedTo, IsGiven, VotaEnds, cut, session_held, no_cabinet, no_memory, not_started, refused, IsRefused}
 use Rattle.urna_commands.specs.declared.status.Doc.TheVariants as doc
 use Rattle.urna_commands.specs.declared.status.Status.{Status}
-use Rattle.urna_commands.specs.declared.status.Status.TheVariants as status
 use Rattle.urna_commands.proofs.Completion.{port_silent}
 use Rattle.urna_commands.proofs.Idle.{synced_both}
 use Rattle.urna_commands.proofs.Keeping.{behind_is, found_roll, kept_silent, not_done, not_within, safe_stops, session_kept}

@@ -9,6 +9,7 @@ mod Faults
 mod Headline
 mod Idle
 mod Keeping
+mod Leading
 mod Loads
 mod NeverBusy
 mod Offers
@@ -18,6 +19,8 @@ mod Totals
 mod Accepting
 mod Leaving
 mod Opened
+mod Others
+mod Replacing
 mod Refused
 mod Touching
 mod Begun

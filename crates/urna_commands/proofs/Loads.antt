@@ -44,12 +44,9 @@ use Rattle.urna_commands.specs.declared.status.Status.{Status}
 use Rattle.urna_commands.specs.declared.status.Status.TheVariants as status
 use Rattle.urna_commands.proofs.Again.{clean_is_clean}
 use Rattle.urna_commands.proofs.NeverBusy.{then_idles}
-use Rattle.urna_commands.proofs.Once.{refused_or_documents, same_roll, same_tables}
+use Rattle.urna_commands.proofs.Once.{refused_or_documents}
+use Rattle.urna_commands.proofs.Others.{documents_once}
 use Rattle.urna_commands.proofs.Endings.{ends_as}
-
-load_given_once : (files : Files) (names : Carga) (t u : TablesData) (r q : RollData) → HasDocuments (Some files) names.tables names.roll t r → HasDocuments (Some files) names.tables names.roll u q → (t ≡ u) × (r ≡ q)
-load_given_once files names t u r q a b =
-    (same_tables files names.tables t u a.tables b.tables, same_roll files names.roll r q a.roll b.roll)
 
 error_not_done : (e : LoadError) → load_status e ≡ status.Done → ⊥
 error_not_done load.Memory is = absurd (cc)
@@ -107,7 +104,7 @@ module _ (files : Files) (names : Carga) (c d : CabinetTold) (told : c.files ≡
   carga_begins _ ok (not_loaded e also asked taken h) = absurd (error_not_done e ok)
   carga_begins _ ok (not_told between also asked taken h off) = absurd (cc)
   carga_begins _ ok (loaded {t = u} {r = q} {section} between also asked taken h shown) =
-      let one = load_given_once files names u t q r (subst (λ (o : Option Files). HasDocuments o names.tables names.roll u q) told also) given in
+      let one = documents_once files names.tables names.roll u t q r (subst (λ (o : Option Files). HasDocuments o names.tables names.roll u q) told also) given in
       let there : between.flashes ≡ Some start =
       sym (shows_keep (shows (loaded_line section ∷ [])) between b (shows_lines (loaded_line section ∷ [])).shows shown.does) ∙ flashes in
       let asked_here = subst (λ (x : TablesData). IsSectionAsked names x r section) one.0 (subst (λ (x : RollData). IsSectionAsked names u x section) one.1 asked) in

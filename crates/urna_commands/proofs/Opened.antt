@@ -1,5 +1,5 @@
--- A poll that was opened stays one that was
-use Rattle.std.proofs.Common.{◌≢◌, ℕ, List, [], ◌∷◌, refl}
+-- A poll that was opened stays one that was, and steps lead to their ballots
+use Rattle.std.proofs.Common.{◌≡◌, ◌≢◌, ℕ, List, [], ◌∷◌, length, refl}
 use Rattle.key_script.specs.declared.keys.Event.{Event}
 use Rattle.turnout.specs.declared.phase.Phase.{Phase}
 use Rattle.turnout.specs.declared.phase.Phase.TheVariants as phase
@@ -10,7 +10,11 @@ use Rattle.station.specs.Run.{IsRun, ends, ignores, refuses, opens, seals, waits
 use Rattle.station.specs.Setting.{Setting}
 use Rattle.election_tables.specs.Roll.{RollData}
 use Rattle.election_tables.specs.TablesData.{TablesData}
-use Rattle.urna_commands.specs.Again.{Call, LeadsTo, OpenedStays, leads, other, session, silent, stays}
+use Rattle.vote_kinds.specs.Ballot.{ballot_lines}
+use Rattle.image_codec.specs.Also.{HasAlso}
+use Rattle.image_codec.proofs.Growing.{also_also, also_none}
+use Rattle.station.proofs.Casting.{run_counts, visit_roll}
+use Rattle.urna_commands.specs.Again.{Call, LeadTo, LeadsTo, LedHasBallots, OpenedStays, Step, ballots_in, ballots_led, exchanges, foreign, leads, other, session, silent, stays}
 
 suspended_opened : (v : Setting) (s : State) (place : ℕ) (choices : List Choice) → s.phase ≢ phase.Ready → (after_suspension v s place choices).phase ≢ phase.Ready
 suspended_opened v s place [] opened = opened
@@ -40,7 +44,46 @@ led_opened : {t : TablesData} {r : RollData} {x : Call} {s u : State} → LeadsT
 led_opened (session of begun on) opened = run_opened on.after.run opened
 led_opened (other others) opened = opened
 led_opened (silent none) opened = opened
+led_opened (foreign told) opened = opened
 
 pub opened_stays : OpenedStays
 opened_stays t r s _ _ stays opened = opened
-opened_stays t r s u _ (leads {v} {more} one rest) opened = opened_stays t r v u more rest (led_opened one opened)
+opened_stays t r s u _ (leads {before} {v} led one) opened = led_opened one (opened_stays t r s v before led opened)
+opened_stays t r s u _ (exchanges {before} led) opened = opened_stays t r s u before led opened
+
+-- ---- and steps lead to their ballots
+
+run_roll : {v : Setting} {s u : State} {es : List Event} {out : List Output} → IsRun v s es u out → length s.came ≡ length v.roll → length u.came ≡ length v.roll
+run_roll ends roll = roll
+run_roll (ignores run) roll = run_roll run roll
+run_roll (refuses e run) roll = run_roll run roll
+run_roll (opens e run) roll = run_roll run roll
+run_roll (seals e run) roll = run_roll run roll
+run_roll (waits before e w) roll = roll
+run_roll (cancels before e w run) roll = run_roll run roll
+run_roll (visits before e w visit run) roll = run_roll run (visit_roll visit roll)
+run_roll (cut_off before e w on) roll = roll
+
+module _ (t : TablesData) (r : RollData) where
+  one_roll : {x : Call} {s u : State} → LeadsTo t r x s u → length s.came ≡ length r.titles → length u.came ≡ length r.titles
+  one_roll (session of begun on) roll = run_roll on.after.run roll
+  one_roll (other others) roll = roll
+  one_roll (silent none) roll = roll
+  one_roll (foreign told) roll = roll
+
+  led_roll : {s u : State} {steps : List Step} → LeadTo t r s steps u → length s.came ≡ length r.titles → length u.came ≡ length r.titles
+  led_roll stays roll = roll
+  led_roll (leads led one) roll = one_roll one (led_roll led roll)
+  led_roll (exchanges led) roll = led_roll led roll
+
+  one_has : {x : Call} {s u : State} → (one : LeadsTo t r x s u) → length s.came ≡ length r.titles → HasAlso (ballot_lines t) s (ballots_in one) u
+  one_has (session of begun on) roll = run_counts t r.titles roll on.after.run
+  one_has {s} (other others) roll = also_none (ballot_lines t) s
+  one_has {s} (silent none) roll = also_none (ballot_lines t) s
+  one_has {s} (foreign told) roll = also_none (ballot_lines t) s
+
+pub led_has_ballots : LedHasBallots
+led_has_ballots t r s _ _ roll stays = also_none (ballot_lines t) s
+led_has_ballots t r s u _ roll (leads {before} {v} led one) =
+    also_also (ballot_lines t) s v u (ballots_led led) (ballots_in one) (led_has_ballots t r s v before roll led) (one_has t r one (led_roll t r led roll))
+led_has_ballots t r s u _ roll (exchanges {before} led) = led_has_ballots t r s u before roll led

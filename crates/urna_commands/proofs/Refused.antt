@@ -6,12 +6,13 @@ use Rattle.election_tables.specs.Roll.{RollData}
 use Rattle.election_tables.specs.TablesData.{TablesData}
 use Rattle.section_intake.specs.declared.verdict.Verdict.{Verdict}
 use Rattle.urna_commands.specs.Carga.{CargaEnds, load_no_cabinet, load_no_memory, load_refused, loaded, no_section, not_loaded, not_told}
-use Rattle.urna_commands.specs.Command.{Carga, Command, Confere, Emite, ToCheck, ToEmit, ToLoad, ToRehearse, ToTotal, ToVote, Vota, command_of}
+use Rattle.urna_commands.specs.Command.{Carga, Command, Confere, Emite, Repoe, ToCheck, ToEmit, ToLoad, ToRehearse, ToReplace, ToTotal, ToVote, Vota, command_of}
 use Rattle.urna_commands.specs.Confere.{ConfereEnds, HasVerdict, check_no_cabinet, check_no_memory, check_not_told, check_refused, checked}
 use Rattle.urna_commands.specs.Documents.{HasDocuments, IsFirstFault}
 use Rattle.urna_commands.specs.Emite.{EmiteEnds, emit_no_cabinet, emit_no_memory, emit_refused, emitted, files_stopped, no_files, not_emitted, not_found, not_sealed}
 use Rattle.urna_commands.specs.Ending.{CommandEnds}
 use Rattle.urna_commands.specs.Laws.{AreRefused, RefusedEndSo, VerdictEndsSo}
+use Rattle.urna_commands.specs.Repoe.{RepoeEnds, not_replaced, replace_no_cabinet, replace_no_memory, replace_refused, replaced, replaced_untold}
 use Rattle.urna_commands.specs.Verdicts.{verdict_status}
 use Rattle.urna_commands.specs.Vota.{IsGiven, IsRefused, VotaEnds, cut, no_cabinet, no_memory, not_started, refused, session_held}
 use Rattle.urna_commands.specs.declared.status.Doc.TheVariants as doc
@@ -58,6 +59,15 @@ module _ (c d : CabinetTold) (m n : Told) (files : Files) (told : c.files ≡ So
   emite_refused names e _ why (not_emitted {t} {r} after between given taken h sealed put off) = not_given names.tables names.roll e t r why given
   emite_refused names e _ why (emitted {t} {r} after between given taken h sealed put shown) = not_given names.tables names.roll e t r why given
 
+  repoe_refused : (names : Repoe) (e s : Status) → IsFirstFault (Some files) names.tables doc.Roll names.roll e → RepoeEnds names c d m n s → EndsRefused e s
+  repoe_refused names e s why (replace_refused also taken un) =
+      inl (first_once files names.tables doc.Roll names.roll s e (subst (λ (o : Option Files). IsFirstFault o names.tables doc.Roll names.roll s) told also) why)
+  repoe_refused names e _ why (replace_no_memory taken un) = inr (inl refl)
+  repoe_refused names e _ why (replace_no_cabinet taken un) = inr (inr refl)
+  repoe_refused names e _ why (not_replaced {t} {r} error given taken h) = not_given names.tables names.roll e t r why given
+  repoe_refused names e _ why (replaced_untold {t} {r} between given taken h off) = not_given names.tables names.roll e t r why given
+  repoe_refused names e _ why (replaced {t} {r} between given taken h shown) = not_given names.tables names.roll e t r why given
+
   confere_refused : (names : Confere) (e s : Status) → IsFirstFault (Some files) names.tables doc.Report names.report e → ConfereEnds names c d m n s → EndsRefused e s
   confere_refused names e s why (check_refused also taken un) =
       inl (first_once files names.tables doc.Report names.report s e (subst (λ (o : Option Files). IsFirstFault o names.tables doc.Report names.report s) told also) why)
@@ -84,6 +94,7 @@ module _ (c d : CabinetTold) (m n : Told) (files : Files) (told : c.files ≡ So
   refused_so (Some (ToCheck names)) e s why ends = confere_refused names e s why ends
   refused_so (Some (ToTotal names)) e s why ends = absurd why
   refused_so (Some (ToRehearse voters)) e s why ends = absurd why
+  refused_so (Some (ToReplace names)) e s why ends = repoe_refused names e s why ends
   refused_so None e s why ends = absurd why
 
 pub refused_end_so : RefusedEndSo

@@ -3,6 +3,7 @@ use Rattle.station.specs.declared.station.StartError.{StartError}
 use Rattle.state_store.specs.declared.store.LoadError.{LoadError}
 use Rattle.station.specs.Start.{FailsToStart}
 use Rattle.state_store.specs.declared.store.LoadError.TheVariants as load
+use Rattle.urna_outside.specs.declared.device.Dev.{Dev}
 use Rattle.urna_outside.specs.declared.device.Dev.TheVariants as dev
 use Rattle.urna_outside.specs.declared.device.Port.TheVariants as port
 use Rattle.station.specs.declared.station.StartError.TheVariants as starting
@@ -22,14 +23,18 @@ use Rattle.image_codec.specs.State.{State}
 use Rattle.state_store.specs.Calls.{FailsToPeek, IsFrontOfSyncs, IsSynced, both_synced, FailsToLoad, FailsToRecover}
 use Rattle.state_store.specs.declared.store.StoreError.{StoreError}
 use Rattle.state_store.specs.declared.store.StoreError.TheVariants as store
+use Rattle.contingency.specs.Calls.{FailsToReplace}
+use Rattle.contingency.specs.declared.replacement.ReplaceError.{ReplaceError}
+use Rattle.contingency.specs.declared.replacement.ReplaceError.TheVariants as replace
 use Rattle.urna_commands.specs.Carga.{CargaEnds, load_no_cabinet, load_no_memory, load_refused, loaded, no_section, not_loaded, not_told, loaded_line}
-use Rattle.urna_commands.specs.Command.{Carga, Command, Confere, Emite, ToCheck, ToEmit, ToLoad, ToRehearse, ToTotal, ToVote, Totaliza, Vota, command_of}
+use Rattle.urna_commands.specs.Command.{Carga, Command, Confere, Emite, Repoe, ToCheck, ToEmit, ToLoad, ToRehearse, ToReplace, ToTotal, ToVote, Totaliza, Vota, command_of}
 use Rattle.urna_commands.specs.Confere.{ConfereEnds, check_no_cabinet, check_no_memory, check_not_told, check_refused, checked}
 use Rattle.urna_commands.specs.Emite.{EmiteEnds, emit_no_cabinet, emit_no_memory, emit_refused, emitted, emitted_line, files_stopped, no_files, not_emitted, not_found, not_sealed}
 use Rattle.urna_commands.specs.Ending.{CommandEnds, NoCommandEnds}
 use Rattle.urna_commands.specs.Ensaio.{EnsaioEnds, not_rehearsed, rehearsal_files, rehearsal_names, rehearsal_not_put, rehearsal_not_told, rehearsed}
 use Rattle.urna_commands.specs.FaultLines.{Tells, fault_line, fault_text}
 use Rattle.urna_commands.specs.Putting.{HavePut, PutsResults, StopPutting, no_results, result_files, result_names, results_not_made, results_not_put, results_put}
+use Rattle.urna_commands.specs.Repoe.{RepoeEnds, not_replaced, replace_no_cabinet, replace_no_memory, replace_refused, replaced, replaced_line, replaced_untold}
 use Rattle.urna_commands.specs.Taking.{HasTaken, calls_made}
 use Rattle.urna_commands.specs.Totaliza.{TotalizaEnds, list_no_cabinet, list_no_memory, list_refused, report_no_cabinet, report_no_memory, report_refused, totalled, totals_not_told, verdict_lines, verdict_not_told, IsListed}
 use Rattle.urna_commands.specs.Touching.{AreAny, AreSyncsAndShows, EachTouchesAtMost, Touches, TouchesAtMost}
@@ -287,6 +292,23 @@ carga_touches names c d m b s (not_told {section} between given asked taken h of
 carga_touches names c d m b s (loaded {section} between given asked taken h shown) =
     took AreAny [] 2 2 s c d m b (omega arith) (any_then m between b (any_so m between h.ran) (shown_so (loaded_line section ∷ []) between b shown)) taken
 
+replace_so : (t : TablesData) (r : RollData) (d : Dev) (m b : Told) (e : ReplaceError) → FailsToReplace t r d m b e → Any m b
+replace_so t r d m b replace.Memory h = none_so m b h
+replace_so t r d m b (replace.Flash e) h = any_so m b h.1
+replace_so t r d m b (replace.Foreign e) h = any_so m b (synced_so m b h.1)
+replace_so t r d m b (replace.NoStanding e) h = any_so m b (synced_so m b h.1)
+replace_so t r d m b (replace.Busy e) h = any_so m b (synced_so m b h.1)
+
+repoe_touches : (names : Repoe) (c d : CabinetTold) (m b : Told) (s : Status) → RepoeEnds names c d m b s → Touches AreAny [] 2 c d m b
+repoe_touches names c d m b s (replace_refused why taken un) = took AreAny [] 2 2 s c d m b (omega arith) (none_so m b un) taken
+repoe_touches names c d m b s (replace_no_memory taken un) = took AreAny [] 2 2 s c d m b (omega arith) (none_so m b un) taken
+repoe_touches names c d m b s (replace_no_cabinet taken un) = took AreAny [] 2 2 s c d m b (omega arith) (none_so m b un) taken
+repoe_touches names c d m b s (not_replaced {t} {r} e given taken h) = took AreAny [] 2 2 s c d m b (omega arith) (replace_so t r names.replaced m b e h) taken
+repoe_touches names c d m b _ (replaced_untold {section} {s} between given taken h off) =
+    took AreAny [] 2 2 status.Display c d m b (omega arith) (any_then m between b (any_so m between h.ran) (cut_so (replaced_line names.replaced section s ∷ []) between b off)) taken
+repoe_touches names c d m b _ (replaced {section} {s} between given taken h shown) =
+    took AreAny [] 2 2 status.Done c d m b (omega arith) (any_then m between b (any_so m between h.ran) (shown_so (replaced_line names.replaced section s ∷ []) between b shown)) taken
+
 -- ---- any of them
 
 no_command_touches : (c d : CabinetTold) (m b : Told) (s : Status) → NoCommandEnds c d m b s → Touches AreShows [] 0 c d m b
@@ -301,6 +323,7 @@ touches_so (Some (ToCheck names)) c d m b n s h shown = then_told AreShows [] 2 
 touches_so (Some (ToTotal names)) c d m b n s h shown =
     let (k, of, are) = totaliza_touches names c d m b s h in
     (k, of, then_told AreShows [] (k + 2) c d m b n are_shows-append are shown)
+touches_so (Some (ToReplace names)) c d m b n s h shown = then_told AreAny [] 2 c d m b n (λ xs ys before more. tt) (repoe_touches names c d m b s h) shown
 touches_so (Some (ToRehearse voters)) c d m b n s h shown = then_told AreShows rehearsal_names 6 c d m b n are_shows-append (ensaio_touches voters c d m b s h) shown
 
 pub each_touches_at_most : EachTouchesAtMost

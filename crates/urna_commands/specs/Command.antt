@@ -3,6 +3,8 @@ use Rattle.std.specs.Prelude.{ℕ, List, [], ◌∷◌, Option, Some, None, if�
 use Rattle.std.specs.Option.{option_and_then, option_map}
 use Rattle.std.specs.Str.{bytes_eq}
 use Rattle.urna_base.specs.Digits.{decimal_value}
+use Rattle.urna_outside.specs.declared.device.Dev.{Dev}
+use Rattle.urna_outside.specs.declared.device.Dev.TheVariants.{Internal, External}
 use Rattle.election_tables.specs.Limits.{greatest_section, most_voters}
 
 -- vota TABLES ROLL KEYS OUT: the names of the files
@@ -35,6 +37,12 @@ pub record Totaliza : Type 0 where
   pub tables : List ℕ
   pub list : List ℕ
 
+-- repoe TABLES ROLL interna, or externa: the names of the files, and the flash that was replaced
+pub record Repoe : Type 0 where
+  pub tables : List ℕ
+  pub roll : List ℕ
+  pub replaced : Dev
+
 -- a command and its names, or its number of voters
 pub data Command : Type 0 where
   ToVote : Vota → Command
@@ -43,6 +51,7 @@ pub data Command : Type 0 where
   ToCheck : Confere → Command
   ToTotal : Totaliza → Command
   ToRehearse : ℕ → Command
+  ToReplace : Repoe → Command
 
 -- the words behind vota: TABLES ROLL KEYS OUT
 abbrev pub vota_of : List (List ℕ) → Option Command
@@ -112,6 +121,18 @@ ensaio_of (voters ∷ []) = option_map ToRehearse (named_voters voters)
 ensaio_of [] = None
 ensaio_of (a ∷ b ∷ more) = None
 
+-- the flash that a word names
+abbrev pub named_device : List ℕ → Option Dev
+named_device word = if bytes_eq word (codes "interna") then Some Internal else if bytes_eq word (codes "externa") then Some External else None
+
+-- the words behind repoe: TABLES ROLL and the flash
+abbrev pub repoe_of : List (List ℕ) → Option Command
+repoe_of (tables ∷ roll ∷ word ∷ []) = option_map (λ d. ToReplace (record { tables = tables; roll = roll; replaced = d })) (named_device word)
+repoe_of [] = None
+repoe_of (a ∷ []) = None
+repoe_of (a ∷ b ∷ []) = None
+repoe_of (a ∷ b ∷ c ∷ d ∷ more) = None
+
 -- the command of the words, if they are one: the first one says which
 abbrev pub command_of : List (List ℕ) → Option Command
 command_of [] = None
@@ -122,4 +143,5 @@ command_of (word ∷ names) =
     else if bytes_eq word (codes "confere") then confere_of names
     else if bytes_eq word (codes "totaliza") then totaliza_of names
     else if bytes_eq word (codes "ensaio") then ensaio_of names
+    else if bytes_eq word (codes "repoe") then repoe_of names
     else None

@@ -14,8 +14,9 @@ use Rattle.image_codec.specs.State.{State}
 use Rattle.section_intake.specs.Accepted.{File}
 use Rattle.section_intake.specs.declared.verdict.Verdict.{Verdict}
 use Rattle.state_store.specs.Calls.{AreFound, AreFree}
+use Rattle.contingency.specs.Replaced.{IsReplaced}
 use Rattle.urna_commands.specs.Carga.{IsSectionAsked}
-use Rattle.urna_commands.specs.Command.{Carga, Command, Confere, Emite, ToCheck, ToEmit, ToLoad, ToRehearse, ToTotal, ToVote, Totaliza, Vota, command_of}
+use Rattle.urna_commands.specs.Command.{Carga, Command, Confere, Emite, Repoe, ToCheck, ToEmit, ToLoad, ToRehearse, ToReplace, ToTotal, ToVote, Totaliza, Vota, command_of}
 use Rattle.urna_commands.specs.Documents.{HasDocuments, HasTables, IsTaken}
 use Rattle.urna_commands.specs.Ending.{Ends}
 use Rattle.urna_commands.specs.Totaliza.{AreTaken, HasOffered, IsListed, refused_count, refused_status}
@@ -56,6 +57,7 @@ tells_of_count status.NoImage = false
 tells_of_count (status.Busy d) = false
 tells_of_count status.NotSealed = false
 tells_of_count status.NoSection = false
+tells_of_count (status.NoStanding d) = false
 
 -- ---- what the commands need
 
@@ -106,6 +108,15 @@ pub record CanTotal (names : Totaliza) (files : Option Files) : Type 0 where
   pub reports : List File
   pub taken : AreTaken files listed reports
 
+-- the files of these names are tables and a roll, the flash that was replaced isn't in use, and the one beside it stands for a poll of this load
+pub record CanReplace (names : Repoe) (files : Option Files) (flashes : Flashes) : Type 0 where
+  pub t : TablesData
+  pub r : RollData
+  pub section : Section
+  pub state : State
+  pub given : HasDocuments files names.tables names.roll t r
+  pub replaced : IsReplaced t r section state names.replaced flashes
+
 -- the status that the verdicts on all listed reports give
 pub record IsByVerdicts (names : Totaliza) (files : Option Files) (s : Status) : Type 0 where
   pub t : TablesData
@@ -126,6 +137,7 @@ CanDo (ToEmit names) files flashes = IsSomeAnd files (λ f. IsSomeAnd flashes (C
 CanDo (ToCheck names) files flashes = IsSomeAnd files (λ f. CanCheck names (Some f))
 CanDo (ToTotal names) files flashes = IsSomeAnd files (λ f. CanTotal names (Some f))
 CanDo (ToRehearse voters) files flashes = Unit
+CanDo (ToReplace names) files flashes = IsSomeAnd files (λ f. IsSomeAnd flashes (CanReplace names (Some f)))
 
 -- and so it ends: a check may refuse the report besides, and of the totals the verdicts say
 abbrev pub Completes : Command → Option Files → Status → Type 0
@@ -135,6 +147,7 @@ Completes (ToEmit names) files s = IsDoneOrMemory s
 Completes (ToCheck names) files s = IsDoneOrMemory s ⊎ ((v : Verdict) × (s ≡ status.ReportRefused v))
 Completes (ToTotal names) files s = IsByVerdicts names files s ⊎ (s ≡ status.Memory)
 Completes (ToRehearse voters) files s = IsDoneOrMemory s
+Completes (ToReplace names) files s = IsDoneOrMemory s
 
 -- Where the cabinet tells its files and the machine its flashes, a call of the program that has what its command needs, and in which no
 -- count of faults rose, does all its steps, or memory was wanted.

@@ -15,7 +15,7 @@ use Rattle.image_codec.specs.State.{State}
 use Rattle.state_store.specs.Calls.{AreFound, IsUntouched, IsFrontOfSyncs}
 use Rattle.state_store.specs.Rest.{IsInUse}
 use Rattle.urna_commands.specs.Carga.{CargaEnds}
-use Rattle.urna_commands.specs.Command.{Carga, Command, ToCheck, ToEmit, ToLoad, ToRehearse, ToTotal, ToVote, Vota, command_of}
+use Rattle.urna_commands.specs.Command.{Carga, Command, ToCheck, ToEmit, ToLoad, ToRehearse, ToReplace, ToTotal, ToVote, Vota, command_of}
 use Rattle.urna_commands.specs.Ending.{Ends}
 use Rattle.urna_commands.specs.Errors.{port_status}
 use Rattle.urna_commands.specs.Vota.{IsGiven, VotaEnds}
@@ -46,9 +46,9 @@ IdleLeavesNoMore =
 abbrev pub IsNoneOf : List Status → Status → Type 0
 IsNoneOf list s = AllByRecursion (λ x. s ≢ x) list
 
--- The endings with which a command has put nothing: of words of no command and of each command but vota and carga all; of vota those that
--- refuse a document or the flashes; of carga those that refuse a document, the section or the flashes, and those for want of memory or by
--- a fault of the cabinet.
+-- The endings with which a command has put nothing: of words of no command and of each command but vota, carga and repoe all; of vota those
+-- that refuse a document or the flashes; of carga and repoe those that refuse a document, the section or the flashes, and those for want of
+-- memory or by a fault of the cabinet.
 abbrev pub IsIdleEnding : Option Command → Status → Type 0
 IsIdleEnding (Some (ToVote names)) s =
     IsNoneOf (status.Done ∷ status.Memory ∷ status.Cabinet ∷ status.InternalFlash ∷ status.ExternalFlash ∷ status.Display ∷ []) s
@@ -57,6 +57,7 @@ IsIdleEnding (Some (ToEmit names)) s = Unit {0}
 IsIdleEnding (Some (ToCheck names)) s = Unit {0}
 IsIdleEnding (Some (ToTotal names)) s = Unit {0}
 IsIdleEnding (Some (ToRehearse voters)) s = Unit {0}
+IsIdleEnding (Some (ToReplace names)) s = IsNoneOf (status.Done ∷ status.InternalFlash ∷ status.ExternalFlash ∷ status.Display ∷ []) s
 IsIdleEnding None s = Unit {0}
 
 -- A call that ends with one of these did nothing but sync and show.

@@ -19,6 +19,8 @@ pub mod Laws
 pub mod NeverBusy
 pub mod Offering
 pub mod Putting
+pub mod Repoe
+pub mod Replaced
 pub mod Results
 pub mod Taking
 pub mod Totaliza

@@ -6,7 +6,7 @@ use Rattle.urna_outside.specs.Shows.{AreShows}
 use Rattle.urna_outside.specs.Told.{Runs, Told}
 use Rattle.election_tables.specs.TablesData.{TablesData}
 use Rattle.state_store.specs.Calls.{IsFrontOfSyncs}
-use Rattle.urna_commands.specs.Command.{Command, ToCheck, ToEmit, ToLoad, ToRehearse, ToTotal, ToVote, Totaliza, command_of}
+use Rattle.urna_commands.specs.Command.{Command, ToCheck, ToEmit, ToLoad, ToRehearse, ToReplace, ToTotal, ToVote, Totaliza, command_of}
 use Rattle.urna_commands.specs.Ending.{Ends}
 use Rattle.urna_commands.specs.Ensaio.{rehearsal_names}
 use Rattle.urna_commands.specs.Putting.{OthersStay, result_names}
@@ -40,7 +40,8 @@ abbrev pub AreToTake : CabinetTold → Totaliza → ℕ → Type 0
 AreToTake c names k = (k ≡ 0) ⊎ ((t : TablesData) × (listed : List (List ℕ)) × IsListed c.files names t listed × (k ≡ length listed))
 
 -- What each command may touch, however it ends. Words of no command, confere, totaliza and ensaio put and sync nothing on a flash; emite syncs
--- each at most once, and puts nothing; confere, totaliza and carga leave each file as it is; vota and emite change their two files of results alone, and ensaio its six.
+-- each at most once, and puts nothing; confere, totaliza, carga and repoe leave each file as it is; vota and emite change their two files of
+-- results alone, and ensaio its six.
 abbrev pub TouchesAtMost : Option Command → CabinetTold → CabinetTold → Told → Told → Type 0
 TouchesAtMost None c d m n = Touches AreShows [] 0 c d m n
 TouchesAtMost (Some (ToCheck names)) c d m n = Touches AreShows [] 2 c d m n
@@ -48,6 +49,7 @@ TouchesAtMost (Some (ToTotal names)) c d m n = (k : ℕ) × AreToTake c names k 
 TouchesAtMost (Some (ToRehearse voters)) c d m n = Touches AreShows rehearsal_names 6 c d m n
 TouchesAtMost (Some (ToEmit names)) c d m n = Touches AreSyncsAndShows (result_names names.out) 4 c d m n
 TouchesAtMost (Some (ToLoad names)) c d m n = Touches AreAny [] 2 c d m n
+TouchesAtMost (Some (ToReplace names)) c d m n = Touches AreAny [] 2 c d m n
 TouchesAtMost (Some (ToVote names)) c d m n = Touches AreAny (result_names names.out) 5 c d m n
 
 -- Each call, however it ends, touches no more than its command may.

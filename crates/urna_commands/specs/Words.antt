@@ -1,7 +1,7 @@
 -- What a command of the code stands for
 use Rattle.std.specs.Prelude.{◌≤◌}
 use Rattle.election_tables.specs.Limits.{most_voters}
-use Rattle.urna_commands.specs.Command.{Command, ToCheck, ToEmit, ToLoad, ToRehearse, ToTotal, ToVote}
+use Rattle.urna_commands.specs.Command.{Command, ToCheck, ToEmit, ToLoad, ToRehearse, ToReplace, ToTotal, ToVote}
 use Rattle.urna_commands.specs.declared.command.Command as declared
 use Rattle.urna_commands.specs.declared.command.Command.TheVariants as code
 
@@ -13,6 +13,7 @@ meant (code.Emite n) = ToEmit (record { tables = n.tables.now; roll = n.roll.now
 meant (code.Confere n) = ToCheck (record { tables = n.tables.now; report = n.report.now })
 meant (code.Totaliza n) = ToTotal (record { tables = n.tables.now; list = n.list.now })
 meant (code.Ensaio voters) = ToRehearse voters
+meant (code.Repoe n) = ToReplace (record { tables = n.tables.now; roll = n.roll.now; replaced = n.replaced })
 
 -- the voters of a rehearsal are as many as a section may have
 abbrev pub HasVoters : declared.Command → Type 0
@@ -22,3 +23,4 @@ HasVoters (code.Carga n) = Unit
 HasVoters (code.Emite n) = Unit
 HasVoters (code.Confere n) = Unit
 HasVoters (code.Totaliza n) = Unit
+HasVoters (code.Repoe n) = Unit

@@ -3,10 +3,11 @@ ghost use Rattle.std.specs.Prelude.{◌≡◌, ◌≤◌, IfSome, map, string_by
 ghost use Rattle.std.specs.Option.{option_map};
 ghost use Rattle.election_tables.specs.Limits.{most_voters};
 ghost use Rattle.urna_commands.specs.Words.{HasVoters, meant};
-ghost use Rattle.urna_commands.specs.Command.{carga_of, command_of, confere_of, emite_of, ensaio_of, named_number, named_voters, totaliza_of, vota_of};
+ghost use Rattle.urna_commands.specs.Command.{carga_of, command_of, confere_of, emite_of, ensaio_of, named_device, named_number, named_voters, repoe_of, totaliza_of, vota_of};
 
 use election_tables::{GREATEST_SECTION, MOST_VOTERS};
 use urna_base::decimal;
+use urna_outside::Dev;
 
 /// The names of the files of `vota`.
 #[derive(Clone, Copy)]
@@ -48,6 +49,14 @@ pub(crate) struct TotalizaNames<'a> {
     pub list: &'a str,
 }
 
+/// The names of the files of `repoe`, and the flash that was replaced.
+#[derive(Clone, Copy)]
+pub(crate) struct RepoeNames<'a> {
+    pub tables: &'a str,
+    pub roll: &'a str,
+    pub replaced: Dev,
+}
+
 /// A command, with the names of its files, or its number of voters.
 #[derive(Clone, Copy)]
 pub(crate) enum Command<'a> {
@@ -57,6 +66,7 @@ pub(crate) enum Command<'a> {
     Confere(ConfereNames<'a>),
     Totaliza(TotalizaNames<'a>),
     Ensaio(u32),
+    Repoe(RepoeNames<'a>),
 }
 
 /// The command of some words: the first one says which, and the others are its names.
@@ -74,6 +84,7 @@ pub(crate) fn command_of(words: &[String]) -> Option<Command<'_>>
         "confere" => confere_of(names),
         "totaliza" => totaliza_of(names),
         "ensaio" => ensaio_of(names),
+        "repoe" => repoe_of(names),
         _ => None,
     }
 }
@@ -159,6 +170,32 @@ fn ensaio_of(names: &[String]) -> Option<Command<'_>>
         return None;
     };
     Some(Command::Ensaio(named_voters(voters.as_str())?))
+}
+
+/// TABLES ROLL, and the word of a flash.
+fn repoe_of(names: &[String]) -> Option<Command<'_>>
+    ensures { option_map meant result ≡ repoe_of (map string_bytes names.now) }
+{
+    let [tables, roll, word] = names else {
+        return None;
+    };
+    let replaced = named_device(word.as_str())?;
+    Some(Command::Repoe(RepoeNames {
+        tables: tables.as_str(),
+        roll: roll.as_str(),
+        replaced,
+    }))
+}
+
+/// A flash: `interna` or `externa`.
+fn named_device(word: &str) -> Option<Dev>
+    ensures { result ≡ named_device word.now }
+{
+    match word {
+        "interna" => Some(Dev::Internal),
+        "externa" => Some(Dev::External),
+        _ => None,
+    }
 }
 
 /// A number of voters: a decimal from 1 to `MOST_VOTERS`.

@@ -1,9 +1,10 @@
-//! The headline (`specs/Headline.antt`), and the same of any calls one after the other (`specs/Again.antt`); laws of what lies at rest
+//! The headline (`specs/Headline.antt`), and the same of any calls and exchanges one after the other (`specs/Again.antt`); what is done over a
+//! replaced flash (`specs/Replaced.antt`); laws of what lies at rest
 //! (`specs/AtRest.antt`), of reports that are accepted (`specs/Accepting.antt`), of what puts nothing on a flash (`specs/Idle.antt`,
 //! `specs/NeverBusy.antt`), of what each command may touch (`specs/Touching.antt`), of endings (`specs/Laws.antt`, `specs/Completion.antt`), and of
 //! files that are put (`specs/Putting.antt`, `specs/Ensaio.antt`).
 ghost use Rattle.urna_commands.specs.Accepting.{EmittedIsAccepted, VotedIsAccepted};
-ghost use Rattle.urna_commands.specs.Again.{CallsKeepVotes, LoadMakesReady, LoadMayFollow, NextIsSafe, OpenedStays};
+ghost use Rattle.urna_commands.specs.Again.{EitherMayBeExchanged, ExchangeLeavesIt, LedHasBallots, LoadMakesReady, LoadMayFollow, NextIsSafe, OpenedStays, RestStandsAlone, StepsKeepVotes, StillStandsAlone};
 ghost use Rattle.urna_commands.specs.AtRest.{AllAreCounted, DoneIsWhole, LateFaultIsSealed, RestsWhereNoFlashFailed, SameAtRest, SameInAnyOrder};
 ghost use Rattle.urna_commands.specs.Completion.{CompletesWhereItCan, TellsOfRisenCounts};
 ghost use Rattle.urna_commands.specs.Ensaio.{SixAreThere};
@@ -12,6 +13,7 @@ ghost use Rattle.urna_commands.specs.Idle.{IdleEndings, IdleLeavesNoMore, LoadIs
 ghost use Rattle.urna_commands.specs.Laws.{FoundOnce, OneTotalStatus, RefusedEndSo, RefusedOnce, RefusedOrGiven, TotalEndsSo, VerdictEndsSo};
 ghost use Rattle.urna_commands.specs.NeverBusy.{LoadIsNotBusy, LoadLeavesFree};
 ghost use Rattle.urna_commands.specs.Putting.{BothAreThere};
+ghost use Rattle.urna_commands.specs.Replaced.{ReplacedIsForeign, ReplacedIsLoaded, StandingIsInUse};
 ghost use Rattle.urna_commands.specs.Touching.{EachTouchesAtMost};
 
 /// Where the cabinet tells its files, the words and the files determine whether they are refused, with which status, and which verdict
@@ -58,19 +60,37 @@ pub fn votes_are_kept()
     ensures run { KeysHaveRun }
 {}
 
-/// Calls of any words over flashes that a load made ready, one after the other, each of which the power stops anywhere or which ends: what
-/// is left behind them is the poll to which prefixes of the presses of the calls of `vota` lead, with the ballots whose FIM was shown in any of
-/// them, and at most one more of each that was stopped or that a flash or the display failed. Two things are asked of the calls: no `carga`
-/// writes while the poll is still ready, and no `vota` gets other tables or another roll of the same SHA-256. A poll that was opened stays one
-/// that was, and no `carga` takes it away. The next call finds such a poll, and the headline holds of it. Where neither flash is in use,
-/// whatever a power cut leaves of them, as a load leaves them, a `carga` leaves such flashes again, ended or stopped. With each `carga` that is
-/// Done the list begins anew.
+/// Steps over flashes that a load made ready, one after the other: calls of any words, each of which the power stops anywhere or which ends,
+/// and exchanges of a flash for another one that isn't in use. What is left behind them is the poll to which prefixes of the presses of the
+/// calls of `vota` lead, with the ballots whose FIM was shown in any of them, and at most one more of each that was stopped or that a flash or
+/// the display failed. Where no flash was exchanged and `repoe` wasn't called, both flashes hold it; else they do, or one of them was replaced
+/// and the other one stands for it. This is asked of the steps: while the poll is still ready no `carga` writes, nor a `repoe` that names the
+/// flash that stands beside one without the frame of the load; no `vota` and no `repoe` gets other tables or another roll of the same SHA-256; and a flash is
+/// exchanged where the one that stays stands for a poll to which the steps lead, as each does behind a session that began to show its text,
+/// and each at rest; and as it still does behind a call that put nothing and leads nowhere, and behind any exchange and any `repoe` of the
+/// other one. A poll that was opened stays one that was, and no `carga` takes it away. The next call finds such a poll, and where both flashes hold it the
+/// headline holds of it. Where neither flash is in use, whatever a power cut leaves of them, as a load leaves them, a `carga` leaves such flashes
+/// again, ended or stopped. With each `carga` that is Done the steps begin anew.
 pub fn again_and_again()
-    ensures kept { CallsKeepVotes }
+    ensures kept { StepsKeepVotes }
     ensures next { NextIsSafe }
+    ensures ballots { LedHasBallots }
+    ensures exchange { EitherMayBeExchanged }
+    ensures still { StillStandsAlone }
+    ensures exchanged { ExchangeLeavesIt }
+    ensures rest { RestStandsAlone }
     ensures opened { OpenedStays }
     ensures load { LoadMakesReady }
     ensures anew { LoadMayFollow }
+{}
+
+/// Over a replaced flash that isn't of the load, beside one that stands for a poll, `vota` puts nothing, unless it is given a collision of
+/// SHA-256. With the documents of the load it and `emite` tell that a flash isn't of this load, and `repoe` of it leaves both flashes at rest with
+/// that poll; or memory was wanted, or the cabinet or a flash failed. A flash that stands for a poll which was opened is in use.
+pub fn a_replaced_flash()
+    ensures foreign { ReplacedIsForeign }
+    ensures loaded { ReplacedIsLoaded }
+    ensures used { StandingIsInUse }
 {}
 
 /// What a `vota` that has its documents leaves of a poll of them, where machine and cabinet tell. Done: the text of the whole run was shown,

@@ -2,7 +2,7 @@
 //!
 //! `urna` is the call by which the program does its command. What it says of the files, of the text that is shown and of each
 //! status stands in `specs/Ending.antt`, and by command in `specs/Vota.antt`, `specs/Carga.antt`, `specs/Emite.antt`,
-//! `specs/Confere.antt`, `specs/Totaliza.antt` and `specs/Ensaio.antt` (docs/RULES.md, "The run"; docs/FORMATS.md, "Statuses").
+//! `specs/Confere.antt`, `specs/Totaliza.antt`, `specs/Ensaio.antt` and `specs/Repoe.antt` (docs/RULES.md, "The run"; docs/FORMATS.md, "Statuses").
 #![tactic(auto)]
 
 ghost use Rattle.std.specs.Prelude.{map, string_bytes};
@@ -20,6 +20,7 @@ mod ensaio;
 mod errors;
 mod fault;
 mod laws;
+mod repoe;
 mod results;
 mod status;
 mod telling;
@@ -33,6 +34,7 @@ use confere::confere;
 use emite::emite;
 use ensaio::ensaio;
 use fault::tell_fault;
+use repoe::repoe;
 pub use status::{Doc, Status};
 use std::alloc::Global;
 use totaliza::totaliza;
@@ -47,8 +49,8 @@ use vota::vota;
 /// its record as `OUT.bu` and `OUT.rdv`. `emite TABLES ROLL OUT` puts these two files of the sealed poll that the flashes hold, and writes
 /// nothing on a flash. `confere TABLES REPORT` tells whether the file of a report is whole and fits the tables. `totaliza TABLES LIST` tells
 /// that of each report that the list names, and the sums and the seats, or the elected, of each office over those that are accepted.
-/// `ensaio N` rehearses a whole election of N voters in memory, puts its files and tells its lines. Where the command was refused, a line
-/// tells why.
+/// `ensaio N` rehearses a whole election of N voters in memory, puts its files and tells its lines. `repoe TABLES ROLL interna` or
+/// `externa` loads the flash that was replaced from the other one. Where the command was refused, a line tells why.
 pub fn urna<M: Machine, C: Cabinet>(
     alloc: Global,
     words: &[String],
@@ -84,5 +86,6 @@ fn run_command<M: Machine, C: Cabinet>(
         Some(Command::Confere(names)) => confere(alloc, names, machine, cabinet),
         Some(Command::Totaliza(names)) => totaliza(alloc, names, machine, cabinet),
         Some(Command::Ensaio(voters)) => ensaio(alloc, voters, machine, cabinet),
+        Some(Command::Repoe(names)) => repoe(alloc, names, machine, cabinet),
     }
 }

@@ -4,14 +4,14 @@ use Rattle.urna_outside.specs.ShownLines.{Shows}
 use Rattle.image_codec.specs.Valid.{ready_state}
 use Rattle.state_store.specs.Rest.{AreAtRest}
 use Rattle.state_store.specs.declared.load.Load.{Load}
-use Rattle.urna_commands.specs.Carga.{CargaEnds, HasLoaded, IsSectionAsked, loaded, loaded_line, no_section, not_loaded, not_told}
+use Rattle.urna_commands.specs.Carga.{CargaEnds, HasLoaded, IsSectionAsked, load_no_cabinet, load_no_memory, load_refused, loaded, loaded_line, no_section, not_loaded, not_told}
 use Rattle.urna_commands.specs.Command.{Carga}
 use Rattle.urna_commands.specs.Documents.{HasDocuments}
 use Rattle.urna_commands.specs.Errors.{load_status}
 use Rattle.urna_commands.specs.Taking.{HasTaken}
 use Rattle.urna_commands.specs.declared.status.Status.TheVariants as status
 use Rattle.urna_commands.proofs.Calls.{taken_as}
-use Rattle.urna_commands.proofs.Endings.{counts_load, load_fault_ends, passed_on, told, untouched}
+use Rattle.urna_commands.proofs.Endings.{counts_load, fault_ends, passed_on, told, untouched}
 use Rattle.urna_commands.proofs.carga.carga.Goals as goal
 
 pub returns-in_err-tables : goal.returns-in_err-tables
@@ -22,8 +22,8 @@ returns-in_err-tables g c =
     let m = g.M.Machine.told c.args.machine.now in
     let s = c.in_err-tables.field-0.0 in
     subst (CargaEnds names x y m m) (sym (passed_on c.from_residual.result s c.from_residual.ensures.1 (λ e h. h)))
-    (load_fault_ends names x y m s c.in_err-tables.ensures.fault
-    c.in_err-tables.ensures.taken)
+    (fault_ends (CargaEnds names x y m m) 2 x y s (λ taken. load_no_memory taken (untouched m)) (λ taken. load_no_cabinet taken (untouched m))
+    (λ memory failed taken. load_refused (c.in_err-tables.ensures.fault memory failed) taken (untouched m)) c.in_err-tables.ensures.taken)
 
 pub returns-in_default : goal.returns-in_default
 returns-in_default g c =

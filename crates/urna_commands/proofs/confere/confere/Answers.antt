@@ -2,12 +2,12 @@ use Rattle.std.proofs.Common.{◌∷◌, [], ℕ, List, sym, subst, ◌∙◌}
 use Rattle.urna_outside.specs.ShownLines.{HasShown, IsCutOff}
 use Rattle.section_intake.specs.Verdict.{IsVerdict}
 use Rattle.urna_commands.specs.Command.{Confere}
-use Rattle.urna_commands.specs.Confere.{ConfereEnds, HasVerdict, check_no_memory, check_not_told, checked}
+use Rattle.urna_commands.specs.Confere.{ConfereEnds, HasVerdict, check_no_cabinet, check_no_memory, check_not_told, check_refused, checked}
 use Rattle.urna_commands.specs.Taking.{HasTaken}
 use Rattle.urna_commands.specs.Verdicts.{verdict_status}
 use Rattle.urna_commands.specs.declared.status.Status.TheVariants as status
 use Rattle.urna_commands.proofs.Calls.{taken_as}
-use Rattle.urna_commands.proofs.Endings.{check_fault_ends, counts_verdict, passed_on, untouched}
+use Rattle.urna_commands.proofs.Endings.{counts_verdict, fault_ends, passed_on, untouched}
 use Rattle.urna_commands.proofs.confere.confere.Goals as goal
 
 pub returns-in_err-tables : goal.returns-in_err-tables
@@ -18,7 +18,8 @@ returns-in_err-tables g c =
     let m = g.M.Machine.told c.args.machine.now in
     let s = c.in_err-tables.field-0.0 in
     subst (ConfereEnds names x y m m) (sym (passed_on c.from_residual.result s c.from_residual.ensures.1 (λ e h. h)))
-    (check_fault_ends names x y m s c.in_err-tables.ensures.fault c.in_err-tables.ensures.taken)
+    (fault_ends (ConfereEnds names x y m m) 2 x y s (λ taken. check_no_memory taken (untouched m)) (λ taken. check_no_cabinet taken (untouched m))
+    (λ memory failed taken. check_refused (c.in_err-tables.ensures.fault memory failed) taken (untouched m)) c.in_err-tables.ensures.taken)
 
 pub returns-in_err-verdict : goal.returns-in_err-verdict
 returns-in_err-verdict g c =

@@ -9,14 +9,14 @@ use Rattle.turnout.specs.declared.phase.Phase.TheVariants as phase
 use Rattle.image_codec.specs.State.{State}
 use Rattle.urna_commands.specs.Command.{Emite}
 use Rattle.urna_commands.specs.Documents.{HasDocuments}
-use Rattle.urna_commands.specs.Emite.{EmiteEnds, HasPeeked, emitted, emitted_line, files_stopped, no_files, not_emitted, not_found, not_sealed}
+use Rattle.urna_commands.specs.Emite.{EmiteEnds, HasPeeked, emit_no_cabinet, emit_no_memory, emit_refused, emitted, emitted_line, files_stopped, no_files, not_emitted, not_found, not_sealed}
 use Rattle.urna_commands.specs.Errors.{store_status}
 use Rattle.urna_commands.specs.Putting.{HavePut, PutsResults, no_results, result_files, results_not_made, results_not_put, results_put}
 use Rattle.urna_commands.specs.Taking.{HasTaken}
 use Rattle.urna_commands.specs.declared.status.Status.{Status}
 use Rattle.urna_commands.specs.declared.status.Status.TheVariants as status
 use Rattle.urna_commands.proofs.Calls.{taken_as}
-use Rattle.urna_commands.proofs.Endings.{counts_store, emit_fault_ends, passed_on, told}
+use Rattle.urna_commands.proofs.Endings.{counts_store, fault_ends, passed_on, told, untouched}
 use Rattle.urna_commands.proofs.emite.emite.Goals as goal
 
 -- the files of a sealed poll that were not all put end the command
@@ -46,7 +46,8 @@ returns-in_err-tables g c =
     let m = g.M.Machine.told c.args.machine.now in
     let s = c.in_err-tables.field-0.0 in
     subst (EmiteEnds names x y m m) (sym (passed_on c.from_residual.result s c.from_residual.ensures.1 (λ e h. h)))
-    (emit_fault_ends names x y m s c.in_err-tables.ensures.fault c.in_err-tables.ensures.taken)
+    (fault_ends (EmiteEnds names x y m m) 2 x y s (λ taken. emit_no_memory taken (untouched m)) (λ taken. emit_no_cabinet taken (untouched m))
+    (λ memory failed taken. emit_refused (c.in_err-tables.ensures.fault memory failed) taken (untouched m)) c.in_err-tables.ensures.taken)
 
 pub returns-in_err-section : goal.returns-in_err-section
 returns-in_err-section g c =

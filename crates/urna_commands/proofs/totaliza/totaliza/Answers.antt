@@ -3,10 +3,10 @@ use Rattle.urna_outside.specs.ShownLines.{HasShown, IsCutOff}
 use Rattle.urna_outside.proofs.ShowingLines.{cut_after, shown-append}
 use Rattle.urna_commands.specs.Command.{Totaliza}
 use Rattle.urna_commands.specs.Taking.{HasTaken}
-use Rattle.urna_commands.specs.Totaliza.{IsListed, TotalizaEnds, list_no_memory, refused_count, refused_status, report_no_memory, totalled, totals_not_told, verdict_lines}
+use Rattle.urna_commands.specs.Totaliza.{IsListed, TotalizaEnds, list_no_cabinet, list_no_memory, list_refused, refused_count, refused_status, report_no_memory, totalled, totals_not_told, verdict_lines}
 use Rattle.urna_commands.specs.declared.status.Status.TheVariants as status
 use Rattle.urna_commands.proofs.Calls.{taken_as}
-use Rattle.urna_commands.proofs.Endings.{counts_refused, list_fault_ends, passed_on, untouched}
+use Rattle.urna_commands.proofs.Endings.{counts_refused, fault_ends, passed_on, untouched}
 use Rattle.urna_commands.proofs.Offers.{have_totals, offers_end, offers_stop}
 use Rattle.urna_commands.proofs.totaliza.totaliza.Goals as goal
 
@@ -24,7 +24,8 @@ returns-in_err-tables g c =
     let m = g.M.Machine.told c.args.machine.now in
     let s = c.in_err-tables.field-0.0 in
     subst (TotalizaEnds names x y m m) (sym (passed_on c.from_residual.result s c.from_residual.ensures.1 (λ e h. h)))
-    (list_fault_ends names x y m s c.in_err-tables.ensures.fault c.in_err-tables.ensures.taken)
+    (fault_ends (TotalizaEnds names x y m m) 2 x y s (λ taken. list_no_memory taken (untouched m)) (λ taken. list_no_cabinet taken (untouched m))
+    (λ memory failed taken. list_refused (c.in_err-tables.ensures.fault memory failed) taken (untouched m)) c.in_err-tables.ensures.taken)
 
 pub returns-in_err-intake : goal.returns-in_err-intake
 returns-in_err-intake g c =

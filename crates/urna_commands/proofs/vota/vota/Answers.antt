@@ -10,11 +10,11 @@ use Rattle.urna_commands.specs.Documents.{IsFault}
 use Rattle.urna_commands.specs.Holding.{hold_status}
 use Rattle.urna_commands.specs.Putting.{PutsResults}
 use Rattle.urna_commands.specs.Taking.{HasTaken, status_in}
-use Rattle.urna_commands.specs.Vota.{VotaEnds, documents, keys, session_held}
+use Rattle.urna_commands.specs.Vota.{VotaEnds, documents, keys, no_cabinet, no_memory, refused, session_held}
 use Rattle.urna_commands.specs.declared.status.Doc.TheVariants as doc
 use Rattle.urna_commands.specs.declared.status.Status.TheVariants as status
 use Rattle.urna_commands.proofs.Calls.{taken_more, taken_within}
-use Rattle.urna_commands.proofs.Endings.{fault_ends, given_keys, not_held, passed_on}
+use Rattle.urna_commands.proofs.Endings.{fault_ends, given_keys, not_held, passed_on, untouched}
 use Rattle.urna_commands.proofs.vota.vota.Goals as goal
 
 pub returns-in_err-tables : goal.returns-in_err-tables
@@ -25,7 +25,8 @@ returns-in_err-tables g c =
     let m = g.M.Machine.told c.args.machine.now in
     let s = c.in_err-tables.field-0.0 in
     subst (VotaEnds names x y m m) (sym (passed_on c.from_residual.result s c.from_residual.ensures.1 (λ e h. h)))
-    (fault_ends names x y m s (λ memory failed. documents (c.in_err-tables.ensures.fault memory failed))
+    (fault_ends (VotaEnds names x y m m) 3 x y s (λ taken. no_memory taken (untouched m)) (λ taken. no_cabinet taken (untouched m))
+    (λ memory failed taken. refused (documents (c.in_err-tables.ensures.fault memory failed)) taken (untouched m))
     (taken_within 2 3 s x y (omega arith) c.in_err-tables.ensures.taken))
 
 pub returns-in_err-script : goal.returns-in_err-script
@@ -38,9 +39,11 @@ returns-in_err-script g c =
     let s = c.in_err-script.field-0.0 in
     let taken : HasTaken 2 status.Done x y = c.in_ok-tables.ensures.taken in
     subst (VotaEnds names x z m m) (sym (passed_on c.from_residual-in_err-script.result s c.from_residual-in_err-script.ensures.1 (λ e h. h)))
-    (fault_ends names x z m s
-    (λ memory failed. keys c.in_ok-tables.ensures.tables c.in_ok-tables.ensures.other
+    (fault_ends (VotaEnds names x z m m) 3 x z s (λ all. no_memory all (untouched m)) (λ all. no_cabinet all (untouched m))
+    (λ memory failed all. refused
+    (keys c.in_ok-tables.ensures.tables c.in_ok-tables.ensures.other
     (subst (λ (fs : Option Files). IsFault fs names.keys doc.Keys s) taken.files (c.in_err-script.ensures.fault memory failed)))
+    all (untouched m))
     (taken_more 2 1 s x y z taken c.in_err-script.ensures.taken))
 
 pub returns-in_err-station : goal.returns-in_err-station

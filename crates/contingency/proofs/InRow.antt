@@ -1,0 +1,56 @@
+-- Runs in a row, of which one was cut off.
+use Rattle.std.proofs.Common.{◌≡◌, inl, inr, Option, Some, None, IsSome, option_map, List, ◌++◌, refl, sym, ap, subst, ◌∙◌}
+use Rattle.std.proofs.lemmas.List.{append_cancel_left}
+use Rattle.std.proofs.lemmas.Option.{same_Some}
+use Rattle.std.specs.Option.{ForSome}
+use Rattle.urna_outside.specs.Flash.{Flashes, Op, after}
+use Rattle.urna_outside.specs.Told.{Does, Runs, Told}
+use Rattle.urna_outside.proofs.Doing.{does-append, told_after}
+use Rattle.gate_slot.specs.Front.{IsUpTo}
+use Rattle.gate_slot.proofs.Fronts.{front_later, up_to_first}
+
+up_to_behind : (Q R : List Op → Type 0) (xs ops : List Op) → ((ys : List Op) → Q ys → R (xs ++ ys)) → IsUpTo Q ops → IsUpTo R (xs ++ ops)
+up_to_behind Q R xs ops joins (inl is) = inl (joins ops is)
+up_to_behind Q R xs ops joins (inr (whole, is, front)) = inr (xs ++ whole, joins whole is, front_later xs whole ops front)
+
+-- the first one was cut off, and other operations were to follow
+pub first_cut : (P R : Flashes → List Op → Type 0) (rest : Flashes → List Op) (a b : Told) → ((start : Flashes) (xs : List Op) → P start xs → R start (xs ++ rest start))
+    → ForSome a.flashes (λ start. Runs (IsUpTo (P start)) a b) → ForSome a.flashes (λ start. Runs (IsUpTo (R start)) a b)
+first_cut P R rest a b joins first start told =
+    let one = first start told in (
+      one.0,
+      one.1,
+      up_to_first (P start) (λ ys. ys ≡ rest start) (R start) one.0 (rest start)
+          (λ xs ys is same. subst (λ (l : List Op). R start (xs ++ l)) (sym same) (joins start xs is)) refl one.2,
+    )
+
+-- P of what is told at the start was done, and then Q of what is told there
+module _ (P Q R : Flashes → List Op → Type 0) (a b c : Told) (joins : (start : Flashes) → a.flashes ≡ Some start → (xs ys : List Op) → Does xs a b → P start xs → Q (after xs start) ys → R start (xs ++ ys))
+    (first : ForSome a.flashes (λ start. Runs (P start) a b)) where
+  pub both_done : ForSome b.flashes (λ mid. Runs (Q mid) b c) → ForSome a.flashes (λ start. Runs (R start) a c)
+  both_done second start told =
+      let one = first start told in
+      let two = second (after one.0 start) (told_after one.0 a b start one.1 told) in
+      (one.0 ++ two.0, does-append one.0 two.0 a b c one.1 two.1, joins start told one.0 two.0 one.1 one.2 two.2)
+
+  -- or the second one was cut off
+  pub second_cut : ForSome b.flashes (λ mid. Runs (IsUpTo (Q mid)) b c) → ForSome a.flashes (λ start. Runs (IsUpTo (R start)) a c)
+  second_cut second start told =
+      let one = first start told in
+      let mid = after one.0 start in
+      let two = second mid (told_after one.0 a b start one.1 told) in (
+        one.0 ++ two.0,
+        does-append one.0 two.0 a b c one.1 two.1,
+        up_to_behind (Q mid) (R start) one.0 two.0 (λ ys is. joins start told one.0 ys one.1 one.2 is) two.2,
+      )
+
+-- What holds of some operations up to a fault holds of all that were done, where the trail is told.
+pub traced_up_to : (P : List Op → Type 0) (a b : Told) (ops : List Op) → IsSome a.trail → Does ops a b → Runs (IsUpTo P) a b → IsUpTo P ops
+traced_up_to P a b ops told does run = go a.trail refl
+  where
+    go : (o : Option (List Op)) → a.trail ≡ o → IsUpTo P ops
+    go None none = let nothing : Option (List Op) = None in let some : IsSome nothing = subst (λ (o : Option (List Op)). IsSome o) none told in absurd (cc)
+    go (Some before) is =
+        let both : Some (before ++ run.0) ≡ Some (before ++ ops) =
+        ap (option_map (λ (l : List Op). l ++ run.0)) (sym is) ∙ sym run.1.trail ∙ does.trail ∙ ap (option_map (λ (l : List Op). l ++ ops)) is in
+        subst (IsUpTo P) (append_cancel_left before run.0 ops (same_Some (before ++ run.0) (before ++ ops) both)) run.2

@@ -1,0 +1,9 @@
+pub mod InRow
+pub mod Devices
+pub mod Alone
+pub mod Bringing
+pub mod Restoring
+pub mod Finding
+pub mod Replacing
+pub mod Going
+pub mod Spare
