@@ -8,39 +8,8 @@ import re
 import tomllib
 from collections import Counter
 
-import house
+import scripts
 import seats
-
-CRATE = "crates/session_tests"
-
-
-def script():
-    """Each line of the script with the lines that come of it, and its number in the expected text."""
-    steps, is_ours = [], False
-    for number, line in enumerate(house.read(f"{CRATE}/stdout").splitlines(), 1):
-        if re.match(r"# [a-z]+: ", line):
-            is_ours = line.startswith("# federations: ")
-        if is_ours and line.startswith("    "):
-            steps[-1][2].append(line[4:])
-        elif is_ours:
-            steps.append((number, line, []))
-    return steps
-
-
-def piece(text):
-    return text.replace("¶", "\n").replace("␣", " ").replace("∅", "")
-
-
-def edited(text, changes):
-    """A text with the changes of a line of the script (docs/FORMATS.md, "Scripts of cases")."""
-    for change in changes.split(" | "):
-        old, new = change.split(" => ")
-        if " .. " in old:
-            first, last = map(piece, old.split(" .. "))
-            at = text.index(first)
-            old = text[at : text.index(last, at + len(first)) + len(last)]
-        text = text.replace(piece(old), piece(new))
-    return text
 
 
 def sums_of(reports):
@@ -115,23 +84,11 @@ def totals(text, reports):
 
 
 def other_totals():
-    files, last, count = {}, [], 0
-    for number, line, came in script():
-        word, name, rest = (line.split(" ", 2) + ["", ""])[:3]
-        if word == "file":
-            files[name] = house.read(f"{CRATE}/data/{rest}")
-        elif word == "text":
-            files[name] = "".join(it + "\n" for it in rest.split(" / "))
-        elif word == "print":
-            files[name] = "".join(it + "\n" for it in came)
-        elif word == "edit":
-            files[name] = edited(files[name], rest)
-        elif word == "urna":
-            last = line.split()[1:]
-        if last[:1] == ["totaliza"] and word in ("urna", "again"):
-            given = {**files, name: edited(files[name], rest)} if word == "again" else files
+    count = 0
+    for number, line, came, words, files, _ in scripts.asked("federations"):
+        if words[:1] == ["totaliza"]:
             count += 1
-            if came != totals(given[last[1]], [given[it] for it in given[last[2]].splitlines()]):
-                yield f"{CRATE}/stdout:{number}: the law gives other totals than those under `{line}`"
+            if came != totals(files[words[1]], [files[it] for it in files[words[2]].splitlines()]):
+                yield f"{scripts.CRATE}/stdout:{number}: the law gives other totals than those under `{line}`"
     if not count:
-        yield f"{CRATE}/stdout: the script federations has no totals"
+        yield f"{scripts.CRATE}/stdout: the script federations has no totals"

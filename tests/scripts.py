@@ -28,6 +28,65 @@ def split():
     return scripts
 
 
+def steps_of(script):
+    """Each line of a script with the lines that come of it, and its number in the expected text."""
+    steps, is_ours = [], False
+    for number, line in enumerate(house.read(f"{CRATE}/stdout").splitlines(), 1):
+        if re.match(r"# [a-z]+: ", line):
+            is_ours = line.startswith(f"# {script}: ")
+        if is_ours and line.startswith("    "):
+            steps[-1][2].append(line[4:])
+        elif is_ours:
+            steps.append((number, line, []))
+    return steps
+
+
+def piece(text):
+    return text.replace("¶", "\n").replace("␣", " ").replace("∅", "")
+
+
+def edited(text, changes):
+    """A text with the changes of a line of a script (docs/FORMATS.md, "Scripts of cases")."""
+    for change in changes.split(" | "):
+        old, new = change.split(" => ")
+        if " .. " in old:
+            first, last = map(piece, old.split(" .. "))
+            at = text.index(first)
+            old = text[at : text.index(last, at + len(first)) + len(last)]
+        if " × " in new:
+            one, times = new.split(" × ")
+            new = one * int(times)
+        text = text.replace(piece(old), piece(new))
+    return text
+
+
+def asked(script):
+    """Each line of a script that runs a command, or runs the last one again: its number, the line, what comes of it, the words of the command,
+    the texts of the files that it is given, of which `anew` makes no hashes, and which of its calls fail."""
+    files, last, faults = {}, [], {}
+    for number, line, came in steps_of(script):
+        word, name, rest = (line.split(" ", 2) + ["", ""])[:3]
+        if word == "file":
+            files[name] = house.read(f"{CRATE}/data/{rest}")
+        elif word == "text":
+            files[name] = "".join(it + "\n" for it in rest.split(" / "))
+        elif word == "long":
+            files[name] = "0" * int(rest)
+        elif word == "none":
+            files.pop(name, None)
+        elif word == "print":
+            files[name] = "".join(it + "\n" for it in came)
+        elif word == "edit":
+            files[name] = edited(files[name], rest)
+        elif word in ("fails", "takes"):
+            faults[word] = line.split()[1:]
+        elif word in ("urna", "answers"):
+            last = line.split()[1:] if word == "urna" else last
+            yield number, line, came, last, dict(files), [*faults.values()]
+        elif word in ("again", "anew"):
+            yield number, line, came, last, {**files, name: edited(files[name], rest)}, [*faults.values()]
+
+
 def args_of(scripts):
     return "".join(name + "\n" for name, _ in scripts)
 

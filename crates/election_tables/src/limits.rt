@@ -31,7 +31,7 @@ pub(crate) const PROPORTIONAL_SEATS: u64 = 200;
 pub const GREATEST_SECTION: u64 = 9_999;
 
 /// The greatest number of an election.
-pub(crate) const GREATEST_PROCESS: u64 = 99_999;
+pub const GREATEST_PROCESS: u64 = 99_999;
 
 /// The most bytes of a name.
 pub(crate) const LONGEST_NAME: usize = 70;

@@ -30,6 +30,9 @@ pub(crate) enum Kinds {
     EitherMajority,
 }
 
+/// No office has a greater code.
+pub const GREATEST_CODE: u8 = 13;
+
 /// The row of an office in the table of codes.
 #[derive(Clone, Copy)]
 pub(crate) struct OfficeRow {

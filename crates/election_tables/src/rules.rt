@@ -11,6 +11,7 @@ mod ranges;
 
 use crate::document::Document;
 use federations::all_members;
+pub use fields::has_digits;
 use std::alloc::{AllocError, Global};
 
 impl Document {

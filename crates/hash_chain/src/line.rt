@@ -8,7 +8,7 @@ ghost use Rattle.hash_chain.specs.Lines.{is_field, is_word, link_in, two_numbers
 ghost use Rattle.hash_chain.specs.Reading.{is_printed, line_by, numbers_in, pieces_left, said, tail_of, version_in};
 
 use crate::hash::{HASH_SIZE, is_hash};
-use urna_base::decimal;
+use urna_base::{after, decimal};
 
 /// The version of this format.
 pub(crate) const VERSION: [u8; 2] = *b"U1";
@@ -117,13 +117,6 @@ fn version_of(piece: &[u8]) -> Option<&[u8]>
     } else {
         None
     }
-}
-
-/// What follows a word, where the text begins with it.
-fn after<'a>(word: &[u8], text: &'a [u8]) -> Option<&'a [u8]>
-    ensures { option_copied result ≡ after_word word.now text.now }
-{
-    text.strip_prefix(word)
 }
 
 /// The fields and the hash of a line, from what stands behind its first two pieces.

@@ -1,13 +1,13 @@
 ghost use Rattle.std.specs.Prelude.{◌≡◌, ◌<◌, length, MatchOption, IfSome, IsSome, None, is_some};
 ghost use Rattle.std.specs.List.{list_all};
-ghost use Rattle.std.specs.Option.{option_copied, option_and_then, option_map};
+ghost use Rattle.std.specs.Option.{option_and_then, option_map};
 ghost use Rattle.std.specs.Str.{bytes_eq};
 ghost use Rattle.urna_base.specs.Digits.{digits_value};
 ghost use Rattle.urna_base.specs.Words.{after_word};
 ghost use Rattle.key_script.specs.Script.{moment_value, clerk_line, key_of_byte, voter_event, events_of_keys, voter_line, events_of_line};
 
 use crate::keys::{ClerkKey, Event, Key};
-use urna_base::{digits, moment_ok};
+use urna_base::{after, digits, moment_ok};
 
 /// The clerk's key that a line spells.
 fn clerk_key(line: &[u8]) -> Option<ClerkKey>
@@ -113,11 +113,4 @@ fn is_word(line: &[u8], word: &[u8]) -> bool
     ensures { result ≡ bytes_eq line.now word.now }
 {
     line == word
-}
-
-/// What follows a word at the front of a line.
-fn after<'a>(word: &[u8], line: &'a [u8]) -> Option<&'a [u8]>
-    ensures { option_copied result ≡ after_word word.now line.now }
-{
-    line.strip_prefix(word)
 }

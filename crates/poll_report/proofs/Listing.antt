@@ -1,13 +1,11 @@
 -- The counts of the first candidates, parties and panels
-use Rattle.std.proofs.Common.{◌≡◌, ℕ, zero, suc, ◌+◌, ◌<◌, ◌≤◌, Bool, List, [], ◌∷◌, ◌++◌, map, length, take, slice_get, Option, Some, None, option_map, inl, inr, refl, sym, ap, ◌∙◌, add-one, arith}
+use Rattle.std.proofs.Common.{◌≡◌, ℕ, zero, suc, ◌+◌, ◌<◌, ◌≤◌, Bool, List, [], ◌∷◌, ◌++◌, map, length, take, slice_get, Some, option_map, inl, inr, refl, sym, ap, ◌∙◌, add-one, arith}
 use Rattle.std.specs.Prelude.{nat_lt}
 use Rattle.std.specs.List.{filter}
 use Rattle.std.proofs.lemmas.Bool.{cases_Bool}
 use Rattle.std.proofs.lemmas.List.{take_all}
 use Rattle.std.proofs.lemmas.List.Sums.{length-filter, count_by-le-length}
-use Rattle.election_tables.specs.TablesData.{TablesData, without_name}
-use Rattle.election_tables.specs.declared.tables.candidates.Candidate.{Candidate}
-use Rattle.election_tables.specs.declared.tables.candidates.NamedCandidate.{NamedCandidate}
+use Rattle.election_tables.specs.TablesData.{TablesData}
 use Rattle.election_tables.specs.declared.tables.panels.Panel.{Panel}
 use Rattle.vote_kinds.specs.declared.choice.Choice.{Choice}
 use Rattle.vote_kinds.specs.Ballot.{panel_at}

@@ -1,9 +1,7 @@
 //! What one field of a text writes: the number of a row of the table, or a candidate and its votes.
 ghost use Rattle.std.specs.Prelude.{◌≡◌, ◌-◌, ◌^◌, ◌<◌, ◌≤◌, ◌==◌, position};
-ghost use Rattle.std.specs.Option.{option_copied};
 ghost use Rattle.election_tables.specs.Fields.{first_two, has_digits};
 ghost use Rattle.poll_report.specs.Report.{is_vote};
-ghost use Rattle.urna_base.specs.Words.{after_word};
 ghost use Rattle.qr_text.specs.Reading.{number_at, value_at, written_value};
 ghost use Rattle.qr_text.specs.Table.{fits};
 ghost use Rattle.qr_text.specs.Votes.{belongs, party_after, places_of, vote_after, vote_by_colon};
@@ -12,7 +10,7 @@ ghost use Rattle.qr_text.specs.declared.table.TheConstants.{TABLE};
 use crate::table::{Form, Row, TABLE};
 use election_tables::may_have_places;
 use poll_report::Count;
-use urna_base::{date_ok, decimal, digits};
+use urna_base::{after, date_ok, decimal, digits};
 
 /// The number that a field writes, if it is a field of the row.
 #[tactic(auto, unfolding(crate::specs::Reading::number_at))]
@@ -60,13 +58,6 @@ fn fits(form: Form, value: u64) -> bool
         Form::Date => date_ok(value),
         Form::Time => value / 10_000 <= 23 && value / 100 % 100 <= 59 && value % 100 <= 59,
     }
-}
-
-/// What follows a word, where the text begins with it.
-fn after<'a>(word: &[u8], text: &'a [u8]) -> Option<&'a [u8]>
-    ensures { option_copied result ≡ after_word word.now text.now }
-{
-    text.strip_prefix(word)
 }
 
 /// The candidate of a field, if it may stand behind the last: its number is greater, and begins with the party's, if one is named.

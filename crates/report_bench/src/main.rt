@@ -1,13 +1,15 @@
-//! Reads, writes or hashes the field text or the file of a report some times, offers many reports, or gives the seats of a contest, for
-//! `make bench`.
+//! Reads, writes or hashes the field text or the file of a report some times, reads the text of a record or counts it against a report,
+//! offers many reports, or gives the seats of a contest, for `make bench`.
 //!
-//! The words are WORK FILE TIMES, `confere` FILE TABLES TIMES, `totaliza` TEXTS TABLES, or `cadeiras` CONTEST TIMES. `le` reads the text
-//! of the file TIMES times, `escreve` reads it once and writes its report TIMES times, and `hash` takes the SHA-512 of its bytes TIMES
-//! times. `junta` joins the parts of the file TIMES times, `parte` joins them once and makes them TIMES times, and `confere` checks the
-//! file by the tables TIMES times. It prints a sum over what was made each time. `totaliza` makes the files of the reports whose texts
-//! stand in the lines of TEXTS, hashes them, offers them in order and gives the seats of the first office, and tells each step as it is
-//! done. `cadeiras` gives the 200 seats of the contest whose parties stand in the lines of CONTEST TIMES times, plays its rounds as often,
-//! and sorts as many numbers as its table has averages, and as many pairs of them, as often; it tells each of these works too.
+//! The words are WORK FILE TIMES, `confere` FILE TABLES TIMES, `reconta` REPORT RECORD TIMES, `totaliza` TEXTS TABLES, or `cadeiras` CONTEST
+//! TIMES. `le` reads the text of the file TIMES times, `escreve` reads it once and writes its report TIMES times, and `hash` takes the
+//! SHA-512 of its bytes TIMES times. `junta` joins the parts of the file TIMES times, `parte` joins them once and makes them TIMES times, and
+//! `confere` checks the file by the tables TIMES times. `registro` reads the text of a record TIMES times, and `reconta` reads the file of a
+//! report and the text of a record and compares them as often. It prints a sum over what was made each time. `totaliza` makes the files of
+//! the reports whose texts stand in the lines of TEXTS, hashes them, offers them in order and gives the seats of the first office, and tells
+//! each step as it is done. `cadeiras` gives the 200 seats of the contest whose parties stand in the lines of CONTEST TIMES times, plays its
+//! rounds as often, and sorts as many numbers as its table has averages, and as many pairs of them, as often; it tells each of these works
+//! too.
 //!
 //! Its status is 0 where each time or step went well, 1 where one did not, and 3 where the words are others.
 #![tactic(auto)]
@@ -17,6 +19,7 @@ ghost use Rattle.urna_base.specs.Words.{pieces};
 ghost use Rattle.hash_chain.specs.Fault.{AreFields};
 ghost use Rattle.poll_report.specs.Report.{IsReport};
 
+mod recounts;
 mod reports;
 mod seats;
 
@@ -24,6 +27,7 @@ use election_tables::Tables;
 use hash_chain::{join_parts, make_parts};
 use poll_report::Report;
 use qr_text::{read_fields, write_fields};
+use recounts::{read_records, recount_all};
 use reports::tell_reports;
 use seats::tell_contest;
 use section_intake::{Verdict, check};
@@ -44,6 +48,7 @@ enum Work {
     Hash,
     Join,
     Make,
+    Record,
 }
 
 /// The work that a word names.
@@ -53,6 +58,7 @@ fn work_of(word: &str) -> Option<Work>
     ensures hash { result ≡ Some Work.Hash → word.now ≡ codes "hash" }
     ensures join { result ≡ Some Work.Join → word.now ≡ codes "junta" }
     ensures make { result ≡ Some Work.Make → word.now ≡ codes "parte" }
+    ensures rdv { result ≡ Some Work.Record → word.now ≡ codes "registro" }
 {
     match word {
         "le" => Some(Work::Read),
@@ -60,6 +66,7 @@ fn work_of(word: &str) -> Option<Work>
         "hash" => Some(Work::Hash),
         "junta" => Some(Work::Join),
         "parte" => Some(Work::Make),
+        "registro" => Some(Work::Record),
         _ => None,
     }
 }
@@ -157,6 +164,7 @@ fn sum_of(alloc: Global, work: Work, bytes: &[u8], times: u64) -> Option<u64> {
             };
             make_all(alloc, &text, times)
         }
+        Work::Record => read_records(alloc, bytes, times),
     }
 }
 
@@ -182,6 +190,16 @@ fn check_status(rt: &HostRuntime, name: &str, tables: &str, times: &str) -> io::
         Ok(tables) => told(rt, check_all(rt.alloc(), &tables, &bytes, times)),
         Err(_) => Ok(1),
     }
+}
+
+/// The record in the file of the second name is counted against the report in that of the first.
+fn recount_status(rt: &HostRuntime, report: &str, record: &str, times: &str) -> io::Result<u8> {
+    let Some(times) = decimal(times.as_bytes()) else {
+        return Ok(3);
+    };
+    let report = fs::read(rt, report)?;
+    let record = fs::read(rt, record)?;
+    told(rt, recount_all(rt.alloc(), &report, &record, times))
 }
 
 /// The seats of the contest in the file of this name are given.
@@ -210,6 +228,9 @@ fn status(rt: &HostRuntime) -> io::Result<u8> {
     match words.next() {
         Some(times) if work.as_str() == "confere" => {
             check_status(rt, name.as_str(), third.as_str(), times.as_str())
+        }
+        Some(times) if work.as_str() == "reconta" => {
+            recount_status(rt, name.as_str(), third.as_str(), times.as_str())
         }
         Some(_) => Ok(3),
         None if work.as_str() == "totaliza" => {

@@ -3,7 +3,7 @@
 //! tests of the parts below in `part_tests`.
 //!
 //! `codec` has the tests of `image_codec`, `reports` those of `poll_report` and `qr_text`, `files` those of `hash_chain` and `section_intake`,
-//! `intake` those of `section_intake` and `totals`, `rehearsals` those of `rehearsal` and `rehearsal_run`. `bodies` is no test itself: it has
+//! `intake` those of `section_intake` and `totals`, `recounts` those of `record_audit`, `rehearsals` those of `rehearsal` and `rehearsal_run`. `bodies` is no test itself: it has
 //! a body that `codec` and `reports` read.
 #![tactic(auto)]
 
@@ -14,6 +14,8 @@ mod codec;
 mod files;
 #[cfg(test)]
 mod intake;
+#[cfg(test)]
+mod recounts;
 #[cfg(test)]
 mod rehearsals;
 #[cfg(test)]

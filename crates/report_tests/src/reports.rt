@@ -14,7 +14,8 @@ use urna_base::Memory;
 
 mod texts;
 
-use texts::{GOOD, NO_PART, TWO_OFFICES};
+pub(crate) use texts::TWO_OFFICES;
+use texts::{GOOD, NO_PART};
 
 /// The first field of a text that is at fault; nothing where there is none, or a sum disagrees.
 fn field_at_fault(alloc: Global, text: &str) -> Result<Option<u32>, Memory> {

@@ -25,7 +25,7 @@ one_report bytes r q short h i =
     texts.one_spelled i.text r q (subst (λ (t : List ℕ). Spells t r) same h.spells) i.spells
 
 -- the fields of a report's file have no fault
-no_fault : (bytes text : List ℕ) (f : FieldFault) (r : Report) → length bytes < 2 ^ 63 → ArePartsOf bytes text → IsFieldFault text f → IsReportFile bytes r → ⊥
+pub no_fault : (bytes text : List ℕ) (f : FieldFault) (r : Report) → length bytes < 2 ^ 63 → ArePartsOf bytes text → IsFieldFault text f → IsReportFile bytes r → ⊥
 no_fault bytes text f r short h fault i =
     let same = parts.one_text bytes text i.text short h i.parts in
     texts.never_both i.text f r (subst (λ (t : List ℕ). IsFieldFault t f) same fault) i.spells

@@ -52,7 +52,7 @@ fn verdict_on(tables: &Tables, report: &Report) -> Verdict
 }
 
 /// Why a file gives no report.
-pub(crate) enum Refusal {
+pub enum Refusal {
     /// Memory ran out.
     Memory,
     /// It is no parts of a field text.
@@ -61,9 +61,12 @@ pub(crate) enum Refusal {
     Fields(FieldFault),
 }
 
-/// The report of a file.
+/// The report of a file, whatever tables it is of (docs/FORMATS.md, "Parts" and "Report text").
+///
+/// The caller owes that the file is shorter than 2^31 bytes. `Part` comes where its parts are at fault, `Fields` where those are whole and
+/// their text spells no report, each with its first fault; `Memory` only where an allocation failed.
 #[tactic(auto, using(hash_chain::proofs::Sizes::text_within_file))]
-pub(crate) fn read_file(alloc: Global, bytes: &[u8]) -> Result<Report, Refusal>
+pub fn read_file(alloc: Global, bytes: &[u8]) -> Result<Report, Refusal>
     requires { length bytes.now < 2 ^ 31 }
     ensures ok { IfOk result (λ r. IsReportFile bytes.now r) }
     ensures err { IfErr result (λ e. IsRefused bytes.now e) }

@@ -3,7 +3,8 @@
 //!
 //! The layer above uses that `check` gives the verdict of `specs/Verdict.antt` (docs/FORMATS.md, "Verdicts"): of a file whose parts or
 //! fields are at fault the first fault, and else whether its report fits the tables (`specs/Fits.antt`). `laws` has that there is one
-//! verdict, and that the file of a report that fits is accepted.
+//! verdict, and that the file of a report that fits is accepted. `read_file` reads a file without tables: its report, or which fault of its
+//! parts or fields it has (`specs/Reading.antt`).
 //!
 //! Of several files it uses that `Intake::offer` gives the verdict of `specs/Accepted.antt`, and `Intake::nominal`, `party`, `blank` and
 //! `null_votes` the sums of `specs/Sums.antt` over the reports of the accepted ones; each call rests on `IsIntakeFor`
@@ -20,6 +21,6 @@ mod panel_sums;
 mod tallies;
 mod verdict;
 
-pub use checking::check;
+pub use checking::{Refusal, check, read_file};
 pub use intake::Intake;
 pub use verdict::Verdict;

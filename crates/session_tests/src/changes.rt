@@ -3,7 +3,9 @@ use crate::calls::{Ran, push_files, run, say, shown};
 use crate::flashes::{copied, is_left};
 use crate::halt::Halt;
 use crate::papers::{bytes_of, place};
+use crate::runs::{Runs, Ways};
 use crate::stage::{Last, Stage, last_of, no_faults};
+use crate::stops::told_by;
 use std::alloc::Global;
 
 /// How a command ended: its number, the line that tells its fault but for a number, and whether the flashes are other ones.
@@ -88,4 +90,54 @@ pub(crate) fn each_change(
         say(out, end)?;
     }
     Ok(())
+}
+
+/// What the last command tells over other bytes of a document.
+fn told_over(alloc: Global, stage: &mut Stage, name: &str, bytes: Vec<u8>) -> Result<String, Halt> {
+    place(alloc, &mut stage.papers, name, bytes)?;
+    let last = last_of(&stage.last)?;
+    told_by(
+        alloc,
+        &stage.papers,
+        &last.call,
+        copied(alloc, &last.given)?,
+    )
+}
+
+/// What it tells where one byte is changed by each bit.
+fn told_turned(
+    alloc: Global,
+    stage: &mut Stage,
+    name: &str,
+    whole: &[u8],
+    at: usize,
+) -> Result<String, Halt> {
+    let mut told = Ways::new(alloc);
+    for bit in BITS {
+        let bytes = turned(alloc, whole, at, bit)?;
+        let way = format!(in alloc; "{bit}")?;
+        told.add(&way, told_over(alloc, stage, name, bytes)?)?;
+    }
+    Ok(told.text)
+}
+
+/// Prints what the last command tells where a document is cut at each length, and then where each of its bytes is changed in each bit.
+pub(crate) fn each_answer(
+    alloc: Global,
+    stage: &mut Stage,
+    name: &str,
+    out: &mut String,
+) -> Result<(), Halt> {
+    let whole = bytes_of(&stage.papers, name)?.to_vec(alloc)?;
+    let (mut cuts, mut turns) = (Runs::new(alloc), Runs::new(alloc));
+    for at in 0..whole.len() {
+        let front = whole.get(..at).unwrap_or(&[]).to_vec(alloc)?;
+        cuts.add(alloc, told_over(alloc, stage, name, front)?, out)?;
+    }
+    cuts.say(alloc, out)?;
+    for at in 0..whole.len() {
+        turns.add(alloc, told_turned(alloc, stage, name, &whole, at)?, out)?;
+    }
+    turns.say(alloc, out)?;
+    place(alloc, &mut stage.papers, name, whole)
 }

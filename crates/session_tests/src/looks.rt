@@ -1,7 +1,7 @@
 //! The lines of a script that print what is there.
 use crate::calls::{say, say_whole};
 use crate::chains::each_chain;
-use crate::changes::each_change;
+use crate::changes::{each_answer, each_change};
 use crate::flashes::are_same;
 use crate::halt::Halt;
 use crate::papers::bytes_of;
@@ -101,6 +101,7 @@ pub(crate) fn look_at_each(
         "pieces" => each_piece(alloc, stage, rest, out)?,
         "calls" => each_call(alloc, stage, rest, out)?,
         "changes" => each_change(alloc, stage, rest, out)?,
+        "answers" => each_answer(alloc, stage, rest, out)?,
         "chains" => each_chain(alloc, stage, rest, out)?,
         _ => return Ok(false),
     }

@@ -12,7 +12,12 @@ use std::alloc::Global;
 use urna_outside::{Dev, Recorder};
 
 /// What a command without faults shows over some flashes, and its number where it isn't 0.
-fn told_by(alloc: Global, papers: &[Paper], call: &Call, flashes: Flashes) -> Result<String, Halt> {
+pub(crate) fn told_by(
+    alloc: Global,
+    papers: &[Paper],
+    call: &Call,
+    flashes: Flashes,
+) -> Result<String, Halt> {
     let ran = run(alloc, papers, &no_faults(alloc), call, flashes)?;
     let text = shown(&ran.machine)?.trim_end();
     if ran.code == 0 {

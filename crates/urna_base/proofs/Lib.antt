@@ -1,4 +1,5 @@
 pub mod Cases
+pub mod CutLaws
 pub mod DecimalLaws
 pub mod DigitLaws
 pub mod LineLaws

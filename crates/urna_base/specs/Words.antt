@@ -1,5 +1,5 @@
--- What follows a word in a text, and the pieces of a text
-use Rattle.std.specs.Prelude.{ℕ, ◌==◌, if◌then◌else◌, List, [], ◌∷◌, Option, None, Some}
+-- What follows a word in a text, a text cut at a byte, and the pieces of a text
+use Rattle.std.specs.Prelude.{ℕ, ◌==◌, if◌then◌else◌, List, [], ◌∷◌, Option, None, Some, option_map}
 use Rattle.std.specs.List.{slice_split}
 
 -- what follows a word, where the text begins with it
@@ -7,6 +7,11 @@ abbrev pub after_word : List ℕ → List ℕ → Option (List ℕ)
 after_word [] text = Some text
 after_word (w ∷ word) [] = None
 after_word (w ∷ word) (c ∷ text) = if c == w then after_word word text else None
+
+-- what stands in front of the first such byte of a text, and what stands behind it
+unfoldable pub cut_at : ℕ → List ℕ → Option (List ℕ × List ℕ)
+cut_at b [] = None
+cut_at b (c ∷ text) = if c == b then Some ([], text) else option_map (λ x. (c ∷ x.0, x.1)) (cut_at b text)
 
 -- the pieces of a text between single spaces (32)
 abbrev pub pieces : List ℕ → List (List ℕ)

@@ -1,8 +1,8 @@
-//! Numbers as digits, dates and moments, big-endian numbers, lines, and the bytes of a shown line: the layer under
-//! every format. A crate above takes a text apart by `split_line`, reads by `digits` and `decimal`, prints by
-//! `put_digits`, `put_decimal` and `LineBuffer`, takes the memory of a buffer by `zeros`, and cites `specs/Digits.antt`
-//! (what digits mean), `specs/Moment.antt` (dates and moments) and `specs/Lines.antt` (the lines of a text). That
-//! printing and reading undo each other is in `laws`.
+//! Numbers as digits, dates and moments, big-endian numbers, lines, words, and the bytes of a shown line: the layer under
+//! every format. A crate above takes a text apart by `split_line`, `after` and `cut_at`, reads by `digits` and `decimal`,
+//! prints by `put_digits`, `put_decimal` and `LineBuffer`, takes the memory of a buffer by `zeros`, and cites
+//! `specs/Digits.antt` (what digits mean), `specs/Moment.antt` (dates and moments), `specs/Lines.antt` (the lines of a
+//! text) and `specs/Words.antt` (what follows a word, and a cut). That printing and reading undo each other is in `laws`.
 #![tactic(auto)]
 
 mod be;
@@ -14,6 +14,7 @@ mod memory;
 mod moment;
 mod print;
 mod read;
+mod words;
 
 pub use be::{be32, be64, put_be32, put_be64};
 pub use buffer::zeros;
@@ -23,3 +24,4 @@ pub use memory::Memory;
 pub use moment::{date_ok, moment_ok};
 pub use print::{decimal_into, put_decimal, put_digits};
 pub use read::{decimal, digits};
+pub use words::{after, cut_at};

@@ -24,7 +24,7 @@ use Rattle.result_files.proofs.Reports.{sealed_is_accepted}
 use Rattle.urna_commands.specs.Accepting.{EmittedIsAccepted, IsAccepted, VotedIsAccepted, IsOwnName}
 use Rattle.urna_commands.specs.Command.{Confere, Emite}
 use Rattle.urna_commands.specs.Confere.{ConfereEnds, HasVerdict, check_no_cabinet, check_no_memory, check_not_told, check_refused, checked}
-use Rattle.urna_commands.specs.Documents.{HasDocuments, HasTables, IsBad, IsFault, IsFirstFault, bad, count, first_other, first_tables, lacks, line, longer, name_line, no_document, roll_line, rule}
+use Rattle.urna_commands.specs.Documents.{HasDocuments, HasTables, IsBad, IsFault, IsFirstFault, bad, count, first_other, first_tables, lacks, line, longer, name_line, no_document, record_line, roll_line, rule}
 use Rattle.urna_commands.specs.AtRest.{AreResults, both_files, no_files}
 use Rattle.urna_commands.specs.Emite.{EmiteEnds, emit_no_cabinet, emit_no_memory, emit_refused, emitted, files_stopped, not_emitted, not_found, not_sealed}
 use Rattle.urna_commands.specs.Emite.{no_files as no_files_made}
@@ -38,7 +38,7 @@ use Rattle.urna_commands.proofs.Once.{one_verdict_on, refused_or_checked}
 use Rattle.urna_commands.proofs.PutFiles.{both_are_there}
 
 -- what a name has of the files that there are
-there : (name bytes : List ℕ) (now x : Files) → Some now ≡ Some x → Holds name bytes now → Holds name bytes x
+pub there : (name bytes : List ℕ) (now x : Files) → Some now ≡ Some x → Holds name bytes now → Holds name bytes x
 there name bytes now x is held =
     let same : now ≡ x = cc in
     subst (Holds name bytes) same held
@@ -99,7 +99,7 @@ voted_is_accepted names c d m n t r es section s files is last out run opened cl
         accepted_after now names.tables names.out t section last o k
         (tables_stay names.tables t files now (both.others names.tables own) is.call.given.tables) is.found.loaded.section_fits.listed valid at both.report d told
 
-store_not_done : (e : StoreError) → store_status e ≡ status.Done → ⊥
+pub store_not_done : (e : StoreError) → store_status e ≡ status.Done → ⊥
 store_not_done store.Memory is = absurd (cc)
 store_not_done (store.Flash dev.Internal) is = absurd (cc)
 store_not_done (store.Flash dev.External) is = absurd (cc)
@@ -114,13 +114,14 @@ bad_not_done _ bytes _ (count un) = λ done. absurd (cc)
 bad_not_done _ bytes _ (roll_line has) = λ done. absurd (cc)
 bad_not_done _ bytes _ (line is) = λ done. absurd (cc)
 bad_not_done _ bytes _ (name_line is) = λ done. absurd (cc)
+bad_not_done _ bytes _ (record_line is) = λ done. absurd (cc)
 
 fault_not_done : {files : Option Files} {name : List ℕ} {d : Doc} {s : Status} → IsFault files name d s → s ≢ status.Done
 fault_not_done (lacks h) done = absurd (cc)
 fault_not_done (longer h) done = absurd (cc)
 fault_not_done {d = d} {s = s} (bad {bytes} taken is) done = bad_not_done d bytes s is done
 
-first_not_done : {files : Option Files} {tables : List ℕ} {d : Doc} {name : List ℕ} {s : Status} → IsFirstFault files tables d name s → s ≢ status.Done
+pub first_not_done : {files : Option Files} {tables : List ℕ} {d : Doc} {name : List ℕ} {s : Status} → IsFirstFault files tables d name s → s ≢ status.Done
 first_not_done (first_tables h) done = fault_not_done h done
 first_not_done (first_other has h) done = fault_not_done h done
 

@@ -33,28 +33,35 @@ use Rattle.contingency.proofs.Going.{one_cause}
 use Rattle.station.specs.Start.{FailsToStart}
 use Rattle.station.specs.declared.station.StartError.{StartError}
 use Rattle.station.specs.declared.station.StartError.TheVariants as start
+use Rattle.record_audit.specs.Finding.{finding}
+use Rattle.record_audit.specs.declared.finding.Finding.{Finding}
+use Rattle.record_audit.specs.declared.finding.Finding.TheVariants as found
+use Rattle.urna_commands.specs.Answering.{Answers, answered, cut_short}
 use Rattle.urna_commands.specs.Carga.{CargaEnds, IsSectionAsked, load_no_cabinet, load_no_memory, load_refused, loaded, no_section, not_loaded, not_told}
-use Rattle.urna_commands.specs.Command.{Carga, Command, Confere, Emite, Repoe, ToCheck, ToEmit, ToLoad, ToRehearse, ToReplace, ToTotal, ToVote, Totaliza, Vota, command_of}
-use Rattle.urna_commands.specs.Completion.{CanCheck, CanEmit, CanLoad, CanReplace, CanTotal, CanVote, IsByVerdicts, CanDo, Completes, CompletesWhereItCan, IsDoneOrMemory, TellsOfRisenCounts, tells_of_count}
+use Rattle.urna_commands.specs.Command.{Carga, Command, Confere, Emite, Reconta, Repoe, ToCheck, ToEmit, ToLoad, ToRecount, ToRehearse, ToReplace, ToTotal, ToVote, Totaliza, Vota, command_of}
+use Rattle.urna_commands.specs.Completion.{CanCheck, CanEmit, CanLoad, CanRecount, CanReplace, CanTotal, CanVote, IsByFinding, IsByVerdicts, CanDo, Completes, CompletesWhereItCan, IsDoneOrMemory, TellsOfRisenCounts, tells_of_count}
 use Rattle.urna_commands.specs.Confere.{ConfereEnds, check_no_cabinet, check_no_memory, check_not_told, check_refused, checked}
-use Rattle.urna_commands.specs.Documents.{HasDocuments, IsBad, IsFault, IsFirstFault, bad, count, first_other, first_tables, lacks, line, longer, name_line, no_document, roll_line, rule}
+use Rattle.urna_commands.specs.Documents.{HasDocuments, IsBad, IsFault, IsFirstFault, bad, count, first_other, first_tables, lacks, line, longer, name_line, no_document, record_line, roll_line, rule}
 use Rattle.urna_commands.specs.Emite.{EmiteEnds, emit_no_cabinet, emit_no_memory, emit_refused, emitted, files_stopped, no_files, not_emitted, not_found, not_sealed}
 use Rattle.urna_commands.specs.Ending.{CommandEnds}
 use Rattle.urna_commands.specs.Ensaio.{EnsaioEnds, not_rehearsed, rehearsal_files, rehearsal_not_put, rehearsal_not_told, rehearsed}
 use Rattle.urna_commands.specs.Errors.{load_status, port_status, replace_status, start_status, store_status}
 use Rattle.urna_commands.specs.FaultLines.{Tells, fault_text}
+use Rattle.urna_commands.specs.Findings.{finding_line, finding_status}
 use Rattle.urna_commands.specs.Laws.{FoundOnce}
 use Rattle.urna_commands.specs.Putting.{PutsResults, StopPutting, no_results, result_files, results_not_made, results_not_put, results_put}
+use Rattle.urna_commands.specs.Reconta.{HasRecordAndReport, HasNoReport, IsNoReport, RecontaEnds, fields_fault, no_recount, parts_fault, recount_no_cabinet, recount_no_memory, record_at_fault, recounted, report_at_fault}
 use Rattle.urna_commands.specs.Repoe.{RepoeEnds, not_replaced, replace_no_cabinet, replace_no_memory, replace_refused, replaced, replaced_untold}
 use Rattle.urna_commands.specs.Taking.{HasTaken}
 use Rattle.urna_commands.specs.Totaliza.{HasOffered, IsListed, TotalizaEnds, list_no_cabinet, list_no_memory, list_refused, refused_count, refused_status, report_no_cabinet, report_no_memory, report_refused, totalled, totals_not_told, verdict_not_told}
-use Rattle.urna_commands.specs.Verdicts.{verdict_status}
+use Rattle.urna_commands.specs.Verdicts.{verdict_line, verdict_status}
 use Rattle.urna_commands.specs.Vota.{HasVotedTo, IsGiven, IsRefused, VotaEnds, cut, documents, keys, no_cabinet, no_memory, not_started, refused, session_held}
 use Rattle.urna_commands.specs.declared.status.Doc.{Doc}
 use Rattle.urna_commands.specs.declared.status.Doc.TheVariants as doc
 use Rattle.urna_commands.specs.declared.status.Status.{Status}
 use Rattle.urna_commands.specs.declared.status.Status.TheVariants as status
-use Rattle.urna_commands.proofs.Once.{refused_or_documents, refused_or_given, refused_or_listed, report_not_fault, same_names, same_roll, same_tables, tables_not_fault}
+use Rattle.urna_commands.proofs.Once.{record_not_fault, refused_or_documents, refused_or_given, refused_or_listed, report_not_fault, same_names, same_roll, same_tables, tables_not_fault}
+use Rattle.urna_commands.proofs.Recounts.{no_report_not_read}
 use Rattle.urna_commands.proofs.Totals.{none_at_fault}
 use Rattle.urna_commands.proofs.Endings.{ends_as}
 
@@ -316,6 +323,32 @@ confere_completes names c d m b s files told none calm can (checked {v} given ta
     by_verdict (verdict.Repeated zone number) = inr (verdict.Repeated zone number, refl)
     by_verdict (verdict.Conflict zone number) = inr (verdict.Conflict zone number, refl)
 
+-- ---- reconta
+
+-- a result line that was shown gives its status
+answers_calm : (text : List ℕ) (given : Status) (m b : Told) (s : Status) → Calm s m b → Answers text given m b s → s ≡ given
+answers_calm text given m b _ still (answered shown) = refl
+answers_calm text given m b _ still (cut_short off) = absurd (still Display refl off.faults.rose)
+
+pub reconta_completes : (names : Reconta) (c d : CabinetTold) (m b : Told) (s : Status) (files : Files) → c.files ≡ Some files
+    → ¬ Rose c.tally.faults d.tally.faults → Calm s m b → CanRecount names (Some files) → RecontaEnds names c d m b s
+    → IsByFinding names (Some files) s ⊎ (s ≡ status.Memory)
+reconta_completes names c d m b s files told none calm can (report_at_fault h taken untouched) =
+    absurd (report_not_fault files names.report can.given.report.bytes s (subst (λ (f : Option Files). IsFault f names.report doc.Report s) told h) can.given.report.taken)
+reconta_completes names c d m b s files told none calm can (record_at_fault has h taken untouched) =
+    absurd (record_not_fault files names.rdv s can.r (subst (λ (f : Option Files). IsFault f names.rdv doc.Record s) told h) can.given.rdv)
+reconta_completes names c d m b s files told none calm can (recount_no_memory taken untouched) = inr refl
+reconta_completes names c d m b s files told none calm can (recount_no_cabinet taken untouched) = absurd (none taken.counts.faults.rose)
+reconta_completes names c d m b s files told none calm can (no_recount {v} given taken tells) =
+    absurd (no_report_not_read files names.report v can.p (subst (λ (f : Option Files). HasNoReport f names.report v) told given) can.given.report)
+reconta_completes names c d m b s files told none calm can (recounted {r} {p} given taken tells) =
+    inl (record {
+      r = r;
+      p = p;
+      given = subst (λ (f : Option Files). HasRecordAndReport f names r p) told given;
+      is = answers_calm (finding_line r p) (finding_status (finding r p)) m b s calm tells;
+    })
+
 -- ---- ensaio
 
 ensaio_completes : (voters : ℕ) (c d : CabinetTold) (m b : Told) (s : Status) → ¬ Rose c.tally.faults d.tally.faults → Calm s m b → EnsaioEnds voters c d m b s
@@ -348,6 +381,9 @@ completes_as either decoded once answers (ToCheck names) c d m b s (Some f) flas
 completes_as either decoded once answers (ToTotal names) c d m b s None flashes told shown none calm ends can = absurd can
 completes_as either decoded once answers (ToTotal names) c d m b s (Some f) flashes told shown none calm ends can =
     totaliza_completes answers names c d m b s f told none calm can ends
+completes_as either decoded once answers (ToRecount names) c d m b s None flashes told shown none calm ends can = absurd can
+completes_as either decoded once answers (ToRecount names) c d m b s (Some f) flashes told shown none calm ends can =
+    reconta_completes names c d m b s f told none calm can ends
 completes_as either decoded once answers (ToRehearse voters) c d m b s files flashes told shown none calm ends can =
     ensaio_completes voters c d m b s none calm ends
 completes_as either decoded once answers (ToReplace names) c d m b s None flashes told shown none calm ends can = absurd can
@@ -378,6 +414,7 @@ not_bad x bytes s (count h) = refl
 not_bad x bytes s (roll_line h) = refl
 not_bad x bytes s (line h) = refl
 not_bad x bytes s (name_line h) = refl
+not_bad x bytes s (record_line h) = refl
 
 fault_counts : (files : Option Files) (name : List ℕ) (x : Doc) (most : ℕ) (c d : CabinetTold) (s : Status) (m b : Told) → NothingCounted c d s m b
     → HasTaken most s c d → IsFault files name x s → tells_of_count s ≡ false
@@ -485,6 +522,27 @@ confere_counts names c d m b s none (checked {v} given taken shown) = by_verdict
     by_verdict (verdict.Repeated zone number) = refl
     by_verdict (verdict.Conflict zone number) = refl
 
+finding_counts : (f : Finding) → tells_of_count (finding_status f) ≡ false
+finding_counts found.Agree = refl
+finding_counts found.Heading = refl
+finding_counts (found.Office k) = refl
+finding_counts (found.Differs panel c lines said) = refl
+
+no_report_counts : (bytes : List ℕ) (v : Verdict) → IsNoReport bytes v → tells_of_count (verdict_status v) ≡ false
+no_report_counts bytes _ (parts_fault h) = refl
+no_report_counts bytes _ (fields_fault of h) = refl
+
+reconta_counts : (names : Reconta) (c d : CabinetTold) (m b : Told) (s : Status) → NothingCounted c d s m b → RecontaEnds names c d m b s
+    → tells_of_count s ≡ false
+reconta_counts names c d m b s none (report_at_fault h taken untouched) = fault_counts c.files names.report doc.Report 1 c d s m b none taken h
+reconta_counts names c d m b s none (record_at_fault has h taken untouched) = fault_counts c.files names.rdv doc.Record 2 c d s m b none taken h
+reconta_counts names c d m b s none (recount_no_memory taken untouched) = refl
+reconta_counts names c d m b s none (recount_no_cabinet taken untouched) = absurd (none.faults taken.counts.faults.rose)
+reconta_counts names c d m b s none (no_recount {v} given taken tells) =
+    ap tells_of_count (answers_calm (verdict_line v) (verdict_status v) m b s none.calm tells) ∙ no_report_counts given.bytes v given.refused
+reconta_counts names c d m b s none (recounted {r} {p} given taken tells) =
+    ap tells_of_count (answers_calm (finding_line r p) (finding_status (finding r p)) m b s none.calm tells) ∙ finding_counts (finding r p)
+
 totaliza_counts : (names : Totaliza) (c d : CabinetTold) (m b : Told) (s : Status) → NothingCounted c d s m b → TotalizaEnds names c d m b s
     → tells_of_count s ≡ false
 totaliza_counts names c d m b s none (list_refused h taken untouched) =
@@ -510,6 +568,7 @@ command_counts (Some (ToVote names)) c d m b s none ends = vota_counts names c d
 command_counts (Some (ToLoad names)) c d m b s none ends = carga_counts names c d m b s none ends
 command_counts (Some (ToEmit names)) c d m b s none ends = emite_counts names c d m b s none ends
 command_counts (Some (ToCheck names)) c d m b s none ends = confere_counts names c d m b s none ends
+command_counts (Some (ToRecount names)) c d m b s none ends = reconta_counts names c d m b s none ends
 command_counts (Some (ToTotal names)) c d m b s none ends = totaliza_counts names c d m b s none ends
 command_counts (Some (ToRehearse voters)) c d m b s none ends = done_or_memory s (ensaio_completes voters c d m b s none.faults none.calm ends)
 command_counts (Some (ToReplace names)) c d m b s none ends = repoe_counts names c d m b s none ends

@@ -13,6 +13,8 @@ use Rattle.election_tables.specs.TablesData.{TablesData}
 use Rattle.key_script.specs.declared.keys.Event.{Event}
 use Rattle.section_intake.specs.declared.verdict.Verdict.{Verdict}
 use Rattle.section_intake.specs.declared.verdict.Verdict.TheVariants as verdict
+use Rattle.record_audit.specs.declared.finding.Finding.{Finding}
+use Rattle.record_audit.specs.declared.finding.Finding.TheVariants as found
 use Rattle.state_store.specs.Calls.{IsUntouched}
 use Rattle.state_store.specs.declared.store.LoadError.{LoadError}
 use Rattle.state_store.specs.declared.store.LoadError.TheVariants as load
@@ -22,10 +24,12 @@ use Rattle.contingency.specs.declared.replacement.ReplaceError.{ReplaceError}
 use Rattle.contingency.specs.declared.replacement.ReplaceError.TheVariants as replace
 use Rattle.station.specs.declared.station.StartError.{StartError}
 use Rattle.station.specs.declared.station.StartError.TheVariants as start
+use Rattle.urna_commands.specs.Answering.{Answers, answered, cut_short}
 use Rattle.urna_commands.specs.Command.{Command, Vota, command_of}
 use Rattle.urna_commands.specs.Documents.{HasKeys, HasRoll, HasTables}
 use Rattle.urna_commands.specs.Ending.{CommandEnds}
 use Rattle.urna_commands.specs.Errors.{load_status, port_status, replace_status, start_status, store_status}
+use Rattle.urna_commands.specs.Findings.{finding_status}
 use Rattle.urna_commands.specs.Holding.{FailsToHold, hold_status}
 use Rattle.urna_commands.specs.Taking.{CountsFor, HasTaken, status_in}
 use Rattle.urna_commands.specs.Totaliza.{refused_status}
@@ -109,6 +113,18 @@ counts_verdict (verdict.Fields f) old new same = same
 counts_verdict verdict.Strange old new same = same
 counts_verdict (verdict.Repeated zone number) old new same = same
 counts_verdict (verdict.Conflict zone number) old new same = same
+
+pub counts_finding : (f : Finding) (old new : Tally) → new ≡ old → CountsFor (finding_status f) old new
+counts_finding found.Agree old new same = same
+counts_finding found.Heading old new same = same
+counts_finding (found.Office k) old new same = same
+counts_finding (found.Differs panel c lines said) old new same = same
+
+-- an answer that was told, or whose line the display cut off, counts as it does
+pub counts_answer : (line : List ℕ) (given : Status) (m n : Told) (s : Status) (old new : Tally) → Answers line given m n s
+    → CountsFor given old new → new ≡ old → CountsFor s old new
+counts_answer line given m n _ old new (answered shown) counts same = counts
+counts_answer line given m n _ old new (cut_short off) counts same = same
 
 -- a session that was not held ends the command
 pub not_held : (names : Vota) (c d : CabinetTold) (m n : Told) (t : TablesData) (r : RollData) (es : List Event) (e : HoldError) → IsGiven c.files names t r es

@@ -29,17 +29,21 @@ use Rattle.contingency.specs.declared.replacement.ReplaceError.TheVariants as re
 use Rattle.station.specs.Start.{FailsToStart}
 use Rattle.station.specs.declared.station.StartError.{StartError}
 use Rattle.station.specs.declared.station.StartError.TheVariants as starting
+use Rattle.record_audit.specs.Finding.{finding}
+use Rattle.urna_commands.specs.Answering.{Answers, answered, cut_short}
 use Rattle.urna_commands.specs.Carga.{CargaEnds, load_no_cabinet, load_no_memory, load_refused, no_section, not_loaded, not_told, loaded}
-use Rattle.urna_commands.specs.Command.{Carga, Command, Confere, Repoe, ToLoad, ToVote, Totaliza, Vota, command_of, ToCheck, ToEmit, ToRehearse, ToReplace, ToTotal}
+use Rattle.urna_commands.specs.Command.{Carga, Command, Confere, Reconta, Repoe, ToLoad, ToVote, Totaliza, Vota, command_of, ToCheck, ToEmit, ToRecount, ToRehearse, ToReplace, ToTotal}
 use Rattle.urna_commands.specs.Confere.{ConfereEnds, check_no_cabinet, check_no_memory, check_not_told, check_refused, checked}
 use Rattle.urna_commands.specs.Ending.{CommandEnds}
 use Rattle.urna_commands.specs.Ensaio.{EnsaioEnds, not_rehearsed, rehearsal_not_put, rehearsal_not_told, rehearsed}
 use Rattle.urna_commands.specs.FaultLines.{fault_text}
+use Rattle.urna_commands.specs.Findings.{finding_line, finding_status}
 use Rattle.urna_commands.specs.Idle.{IdleEndings, IdleLeavesNoMore, IsIdleEnding, IsNoneOf, LoadIsKeptOut, OpenedIsInUse}
+use Rattle.urna_commands.specs.Reconta.{RecontaEnds, no_recount, recount_no_cabinet, recount_no_memory, record_at_fault, recounted, report_at_fault}
 use Rattle.urna_commands.specs.Repoe.{RepoeEnds, not_replaced, replace_no_cabinet, replace_no_memory, replace_refused, replaced, replaced_untold}
 use Rattle.urna_commands.specs.Replaced.{StandingIsInUse}
 use Rattle.urna_commands.specs.Totaliza.{TotalizaEnds, list_no_cabinet, list_no_memory, list_refused, report_no_cabinet, report_no_memory, report_refused, totalled, totals_not_told, verdict_lines, verdict_not_told}
-use Rattle.urna_commands.specs.Verdicts.{verdict_line}
+use Rattle.urna_commands.specs.Verdicts.{verdict_line, verdict_status}
 use Rattle.urna_commands.specs.Vota.{VotaEnds, cut, no_cabinet, no_memory, not_started, refused, session_held}
 use Rattle.urna_commands.specs.declared.status.Status.{Status}
 use Rattle.urna_commands.proofs.Idle.{Idles, cut_idles, emite_idles, idle_left, idle_stop, idles-append, shown_idles, synced_idles, told_idles, untouched_idles}
@@ -53,6 +57,18 @@ confere_idles names c d m b _ (check_no_memory taken un) = untouched_idles m b u
 confere_idles names c d m b _ (check_no_cabinet taken un) = untouched_idles m b un
 confere_idles names c d m b _ (check_not_told {v} has taken off) = cut_idles (verdict_line v ∷ []) m b off
 confere_idles names c d m b _ (checked {v} has taken shown) = shown_idles (verdict_line v ∷ []) m b shown
+
+answer_idles : (line : List ℕ) (given : Status) (m b : Told) (s : Status) → Answers line given m b s → Idles m b
+answer_idles line given m b _ (answered shown) = shown_idles (line ∷ []) m b shown
+answer_idles line given m b _ (cut_short off) = cut_idles (line ∷ []) m b off
+
+reconta_idles : (names : Reconta) (c d : CabinetTold) (m b : Told) (s : Status) → RecontaEnds names c d m b s → Idles m b
+reconta_idles names c d m b _ (report_at_fault why taken un) = untouched_idles m b un
+reconta_idles names c d m b _ (record_at_fault has why taken un) = untouched_idles m b un
+reconta_idles names c d m b _ (recount_no_memory taken un) = untouched_idles m b un
+reconta_idles names c d m b _ (recount_no_cabinet taken un) = untouched_idles m b un
+reconta_idles names c d m b s (no_recount {v} has taken tells) = answer_idles (verdict_line v) (verdict_status v) m b s tells
+reconta_idles names c d m b s (recounted {r} {p} has taken tells) = answer_idles (finding_line r p) (finding_status (finding r p)) m b s tells
 
 totaliza_idles : (names : Totaliza) (c d : CabinetTold) (m b : Told) (s : Status) → TotalizaEnds names c d m b s → Idles m b
 totaliza_idles names c d m b _ (list_refused why taken un) = untouched_idles m b un
@@ -249,6 +265,7 @@ command_idles (Some (ToVote names)) c d m b answer h is = vota_idles names c d m
 command_idles (Some (ToLoad names)) c d m b answer h is = carga_ends_idles names c d m b answer h is
 command_idles (Some (ToEmit names)) c d m b answer h is = emite_idles names c d m b answer h
 command_idles (Some (ToCheck names)) c d m b answer h is = confere_idles names c d m b answer h
+command_idles (Some (ToRecount names)) c d m b answer h is = reconta_idles names c d m b answer h
 command_idles (Some (ToTotal names)) c d m b answer h is = totaliza_idles names c d m b answer h
 command_idles (Some (ToRehearse voters)) c d m b answer h is = ensaio_idles voters c d m b answer h
 command_idles (Some (ToReplace names)) c d m b answer h is = repoe_idles names c d m b answer h is

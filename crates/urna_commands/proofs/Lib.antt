@@ -1,4 +1,5 @@
 mod Again
+mod Agreeing
 mod Asked
 mod AtRest
 mod PutFiles
@@ -20,6 +21,7 @@ mod Accepting
 mod Leaving
 mod Opened
 mod Others
+mod Recounts
 mod Replacing
 mod Refused
 mod Touching

@@ -19,7 +19,7 @@ use Rattle.state_store.specs.declared.store.LoadError.TheVariants as load
 use Rattle.state_store.proofs.Resting.{clean_image}
 use Rattle.urna_commands.specs.Carga.{CargaEnds, load_no_cabinet, load_no_memory, load_refused, loaded, loaded_line, no_section, not_loaded, not_told}
 use Rattle.urna_commands.specs.Command.{Carga, ToLoad}
-use Rattle.urna_commands.specs.Documents.{IsBad, IsFault, IsFirstFault, bad, count, first_other, first_tables, lacks, line, longer, name_line, no_document, roll_line, rule}
+use Rattle.urna_commands.specs.Documents.{IsBad, IsFault, IsFirstFault, bad, count, first_other, first_tables, lacks, line, longer, name_line, no_document, record_line, roll_line, rule}
 use Rattle.urna_commands.specs.Errors.{load_status}
 use Rattle.urna_commands.specs.FaultLines.{fault_text}
 use Rattle.urna_commands.specs.NeverBusy.{LoadIsNotBusy, LoadLeavesFree}
@@ -154,6 +154,7 @@ bad_not_busy d bytes _ e (count h) is = absurd (cc)
 bad_not_busy d bytes _ e (roll_line h) is = absurd (cc)
 bad_not_busy d bytes _ e (line h) is = absurd (cc)
 bad_not_busy d bytes _ e (name_line h) is = absurd (cc)
+bad_not_busy d bytes _ e (record_line h) is = absurd (cc)
 
 fault_not_busy : (files : Option Files) (name : List ℕ) (d : Doc) (s : Status) (e : Dev) → IsFault files name d s → s ≢ status.Busy e
 fault_not_busy files name d _ e (lacks h) is = absurd (cc)

@@ -6,7 +6,7 @@ use Rattle.election_tables.specs.Roll.{RollData}
 use Rattle.election_tables.specs.TablesData.{TablesData}
 use Rattle.section_intake.specs.declared.verdict.Verdict.{Verdict}
 use Rattle.urna_commands.specs.Carga.{CargaEnds, load_no_cabinet, load_no_memory, load_refused, loaded, no_section, not_loaded, not_told}
-use Rattle.urna_commands.specs.Command.{Carga, Command, Confere, Emite, Repoe, ToCheck, ToEmit, ToLoad, ToRehearse, ToReplace, ToTotal, ToVote, Vota, command_of}
+use Rattle.urna_commands.specs.Command.{Carga, Command, Confere, Emite, Repoe, ToCheck, ToEmit, ToLoad, ToRecount, ToRehearse, ToReplace, ToTotal, ToVote, Vota, command_of}
 use Rattle.urna_commands.specs.Confere.{ConfereEnds, HasVerdict, check_no_cabinet, check_no_memory, check_not_told, check_refused, checked}
 use Rattle.urna_commands.specs.Documents.{HasDocuments, IsFirstFault}
 use Rattle.urna_commands.specs.Emite.{EmiteEnds, emit_no_cabinet, emit_no_memory, emit_refused, emitted, files_stopped, no_files, not_emitted, not_found, not_sealed}
@@ -18,6 +18,7 @@ use Rattle.urna_commands.specs.Vota.{IsGiven, IsRefused, VotaEnds, cut, no_cabin
 use Rattle.urna_commands.specs.declared.status.Doc.TheVariants as doc
 use Rattle.urna_commands.specs.declared.status.Status.{Status}
 use Rattle.urna_commands.specs.declared.status.Status.TheVariants as status
+use Rattle.urna_commands.proofs.Recounts.{recount_refused}
 use Rattle.urna_commands.proofs.Once.{first_once, one_verdict_on, refused_once, refused_or_checked, refused_or_documents, refused_or_given}
 
 abbrev EndsRefused : Status → Status → Type 0
@@ -95,6 +96,7 @@ module _ (c d : CabinetTold) (m n : Told) (files : Files) (told : c.files ≡ So
   refused_so (Some (ToTotal names)) e s why ends = absurd why
   refused_so (Some (ToRehearse voters)) e s why ends = absurd why
   refused_so (Some (ToReplace names)) e s why ends = repoe_refused names e s why ends
+  refused_so (Some (ToRecount names)) e s why ends = recount_refused names c d m n files e s told why ends
   refused_so None e s why ends = absurd why
 
 pub refused_end_so : RefusedEndSo

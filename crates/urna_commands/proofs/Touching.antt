@@ -26,14 +26,18 @@ use Rattle.state_store.specs.declared.store.StoreError.TheVariants as store
 use Rattle.contingency.specs.Calls.{FailsToReplace}
 use Rattle.contingency.specs.declared.replacement.ReplaceError.{ReplaceError}
 use Rattle.contingency.specs.declared.replacement.ReplaceError.TheVariants as replace
+use Rattle.record_audit.specs.Finding.{finding}
+use Rattle.urna_commands.specs.Answering.{Answers, answered, cut_short}
 use Rattle.urna_commands.specs.Carga.{CargaEnds, load_no_cabinet, load_no_memory, load_refused, loaded, no_section, not_loaded, not_told, loaded_line}
-use Rattle.urna_commands.specs.Command.{Carga, Command, Confere, Emite, Repoe, ToCheck, ToEmit, ToLoad, ToRehearse, ToReplace, ToTotal, ToVote, Totaliza, Vota, command_of}
+use Rattle.urna_commands.specs.Command.{Carga, Command, Confere, Emite, Reconta, Repoe, ToCheck, ToEmit, ToLoad, ToRecount, ToRehearse, ToReplace, ToTotal, ToVote, Totaliza, Vota, command_of}
 use Rattle.urna_commands.specs.Confere.{ConfereEnds, check_no_cabinet, check_no_memory, check_not_told, check_refused, checked}
 use Rattle.urna_commands.specs.Emite.{EmiteEnds, emit_no_cabinet, emit_no_memory, emit_refused, emitted, emitted_line, files_stopped, no_files, not_emitted, not_found, not_sealed}
 use Rattle.urna_commands.specs.Ending.{CommandEnds, NoCommandEnds}
 use Rattle.urna_commands.specs.Ensaio.{EnsaioEnds, not_rehearsed, rehearsal_files, rehearsal_names, rehearsal_not_put, rehearsal_not_told, rehearsed}
 use Rattle.urna_commands.specs.FaultLines.{Tells, fault_line, fault_text}
+use Rattle.urna_commands.specs.Findings.{finding_line, finding_status}
 use Rattle.urna_commands.specs.Putting.{HavePut, PutsResults, StopPutting, no_results, result_files, result_names, results_not_made, results_not_put, results_put}
+use Rattle.urna_commands.specs.Reconta.{RecontaEnds, no_recount, recount_no_cabinet, recount_no_memory, record_at_fault, recounted, report_at_fault}
 use Rattle.urna_commands.specs.Repoe.{RepoeEnds, not_replaced, replace_no_cabinet, replace_no_memory, replace_refused, replaced, replaced_line, replaced_untold}
 use Rattle.urna_commands.specs.Taking.{HasTaken, calls_made}
 use Rattle.urna_commands.specs.Totaliza.{TotalizaEnds, list_no_cabinet, list_no_memory, list_refused, report_no_cabinet, report_no_memory, report_refused, totalled, totals_not_told, verdict_lines, verdict_not_told, IsListed}
@@ -42,7 +46,7 @@ use Rattle.urna_outside.specs.Shows.{AreShows}
 use Rattle.urna_outside.proofs.Showing.{are_shows-append}
 use Rattle.urna_outside.proofs.ShowingLines.{cut_front, shows_lines}
 use Rattle.urna_commands.proofs.Calls.{calls_more}
-use Rattle.urna_commands.specs.Verdicts.{verdict_line}
+use Rattle.urna_commands.specs.Verdicts.{verdict_line, verdict_status}
 use Rattle.urna_commands.specs.Vota.{VotaEnds, cut, no_cabinet, no_memory, not_started, refused, session_held}
 use Rattle.urna_commands.specs.declared.status.Status.{Status}
 use Rattle.urna_commands.proofs.PutFiles.{put_stays, stop_stays}
@@ -159,6 +163,20 @@ confere_touches names c d m b s (check_no_memory taken un) = took AreShows [] 2 
 confere_touches names c d m b s (check_no_cabinet taken un) = took AreShows [] 2 2 s c d m b (omega arith) (untouched_so m b un) taken
 confere_touches names c d m b s (check_not_told {v} has taken off) = took AreShows [] 2 2 s c d m b (omega arith) (cut_so (verdict_line v ∷ []) m b off) taken
 confere_touches names c d m b s (checked {v} has taken shown) = took AreShows [] 2 2 s c d m b (omega arith) (shown_so (verdict_line v ∷ []) m b shown) taken
+
+answer_so : (line : List ℕ) (given : Status) (m b : Told) (s : Status) → Answers line given m b s → Shown m b
+answer_so line given m b _ (answered shown) = shown_so (line ∷ []) m b shown
+answer_so line given m b _ (cut_short off) = cut_so (line ∷ []) m b off
+
+reconta_touches : (names : Reconta) (c d : CabinetTold) (m b : Told) (s : Status) → RecontaEnds names c d m b s → Touches AreShows [] 2 c d m b
+reconta_touches names c d m b s (report_at_fault why taken un) = took AreShows [] 2 1 s c d m b (omega arith) (untouched_so m b un) taken
+reconta_touches names c d m b s (record_at_fault has why taken un) = took AreShows [] 2 2 s c d m b (omega arith) (untouched_so m b un) taken
+reconta_touches names c d m b s (recount_no_memory taken un) = took AreShows [] 2 2 s c d m b (omega arith) (untouched_so m b un) taken
+reconta_touches names c d m b s (recount_no_cabinet taken un) = took AreShows [] 2 2 s c d m b (omega arith) (untouched_so m b un) taken
+reconta_touches names c d m b s (no_recount {v} has taken tells) =
+    took AreShows [] 2 1 s c d m b (omega arith) (answer_so (verdict_line v) (verdict_status v) m b s tells) taken
+reconta_touches names c d m b s (recounted {r} {p} has taken tells) =
+    took AreShows [] 2 2 s c d m b (omega arith) (answer_so (finding_line r p) (finding_status (finding r p)) m b s tells) taken
 
 -- the reports that are listed
 listed_touches : (names : Totaliza) (c d : CabinetTold) (m b : Told) (s : Status) (t : TablesData) (listed : List (List ℕ)) → IsListed c.files names t listed → Shown m b
@@ -320,6 +338,7 @@ touches_so (Some (ToVote names)) c d m b n s h shown = then_told AreAny (result_
 touches_so (Some (ToLoad names)) c d m b n s h shown = then_told AreAny [] 2 c d m b n (λ xs ys before more. tt) (carga_touches names c d m b s h) shown
 touches_so (Some (ToEmit names)) c d m b n s h shown = then_told AreSyncsAndShows (result_names names.out) 4 c d m b n synced-append (emite_touches names c d m b s h) shown
 touches_so (Some (ToCheck names)) c d m b n s h shown = then_told AreShows [] 2 c d m b n are_shows-append (confere_touches names c d m b s h) shown
+touches_so (Some (ToRecount names)) c d m b n s h shown = then_told AreShows [] 2 c d m b n are_shows-append (reconta_touches names c d m b s h) shown
 touches_so (Some (ToTotal names)) c d m b n s h shown =
     let (k, of, are) = totaliza_touches names c d m b s h in
     (k, of, then_told AreShows [] (k + 2) c d m b n are_shows-append are shown)

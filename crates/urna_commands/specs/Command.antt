@@ -43,6 +43,11 @@ pub record Repoe : Type 0 where
   pub roll : List ℕ
   pub replaced : Dev
 
+-- reconta REPORT RECORD: the names of the files of a report and of a digital vote record
+pub record Reconta : Type 0 where
+  pub report : List ℕ
+  pub rdv : List ℕ
+
 -- a command and its names, or its number of voters
 pub data Command : Type 0 where
   ToVote : Vota → Command
@@ -52,6 +57,7 @@ pub data Command : Type 0 where
   ToTotal : Totaliza → Command
   ToRehearse : ℕ → Command
   ToReplace : Repoe → Command
+  ToRecount : Reconta → Command
 
 -- the words behind vota: TABLES ROLL KEYS OUT
 abbrev pub vota_of : List (List ℕ) → Option Command
@@ -133,6 +139,13 @@ repoe_of (a ∷ []) = None
 repoe_of (a ∷ b ∷ []) = None
 repoe_of (a ∷ b ∷ c ∷ d ∷ more) = None
 
+-- the words behind reconta: REPORT RECORD
+abbrev pub reconta_of : List (List ℕ) → Option Command
+reconta_of (report ∷ rdv ∷ []) = Some (ToRecount (record { report = report; rdv = rdv }))
+reconta_of [] = None
+reconta_of (a ∷ []) = None
+reconta_of (a ∷ b ∷ c ∷ more) = None
+
 -- the command of the words, if they are one: the first one says which
 abbrev pub command_of : List (List ℕ) → Option Command
 command_of [] = None
@@ -144,4 +157,5 @@ command_of (word ∷ names) =
     else if bytes_eq word (codes "totaliza") then totaliza_of names
     else if bytes_eq word (codes "ensaio") then ensaio_of names
     else if bytes_eq word (codes "repoe") then repoe_of names
+    else if bytes_eq word (codes "reconta") then reconta_of names
     else None

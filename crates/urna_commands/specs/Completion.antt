@@ -13,12 +13,17 @@ use Rattle.turnout.specs.declared.phase.Phase.TheVariants as phase
 use Rattle.image_codec.specs.State.{State}
 use Rattle.section_intake.specs.Accepted.{File}
 use Rattle.section_intake.specs.declared.verdict.Verdict.{Verdict}
+use Rattle.poll_report.specs.declared.report.Report.{Report}
+use Rattle.record_audit.specs.Finding.{finding}
+use Rattle.record_audit.specs.declared.text.RecordText.{RecordText}
 use Rattle.state_store.specs.Calls.{AreFound, AreFree}
 use Rattle.contingency.specs.Replaced.{IsReplaced}
 use Rattle.urna_commands.specs.Carga.{IsSectionAsked}
-use Rattle.urna_commands.specs.Command.{Carga, Command, Confere, Emite, Repoe, ToCheck, ToEmit, ToLoad, ToRehearse, ToReplace, ToTotal, ToVote, Totaliza, Vota, command_of}
+use Rattle.urna_commands.specs.Command.{Carga, Command, Confere, Emite, Reconta, Repoe, ToCheck, ToEmit, ToLoad, ToRecount, ToRehearse, ToReplace, ToTotal, ToVote, Totaliza, Vota, command_of}
 use Rattle.urna_commands.specs.Documents.{HasDocuments, HasTables, IsTaken}
 use Rattle.urna_commands.specs.Ending.{Ends}
+use Rattle.urna_commands.specs.Findings.{finding_status}
+use Rattle.urna_commands.specs.Reconta.{HasRecordAndReport}
 use Rattle.urna_commands.specs.Totaliza.{AreTaken, HasOffered, IsListed, refused_count, refused_status}
 use Rattle.urna_commands.specs.Vota.{IsGiven}
 use Rattle.urna_commands.specs.declared.status.Doc.TheVariants as doc
@@ -52,6 +57,8 @@ tells_of_count (status.RollLine k) = false
 tells_of_count (status.Line k) = false
 tells_of_count (status.ReportRefused v) = false
 tells_of_count (status.SomeRefused k) = false
+tells_of_count (status.RecordLine k) = false
+tells_of_count (status.Disagrees f) = false
 tells_of_count (status.Foreign d) = false
 tells_of_count status.NoImage = false
 tells_of_count (status.Busy d) = false
@@ -117,6 +124,12 @@ pub record CanReplace (names : Repoe) (files : Option Files) (flashes : Flashes)
   pub given : HasDocuments files names.tables names.roll t r
   pub replaced : IsReplaced t r section state names.replaced flashes
 
+-- the files of these names are that of a report and the text of a record
+pub record CanRecount (names : Reconta) (files : Option Files) : Type 0 where
+  pub r : RecordText
+  pub p : Report
+  pub given : HasRecordAndReport files names r p
+
 -- the status that the verdicts on all listed reports give
 pub record IsByVerdicts (names : Totaliza) (files : Option Files) (s : Status) : Type 0 where
   pub t : TablesData
@@ -126,6 +139,13 @@ pub record IsByVerdicts (names : Totaliza) (files : Option Files) (s : Status) :
   pub accepted : List File
   pub offered : HasOffered files t listed [] verdicts accepted
   pub is : s ≡ refused_status (refused_count verdicts)
+
+-- the status that the recount of the files gives
+pub record IsByFinding (names : Reconta) (files : Option Files) (s : Status) : Type 0 where
+  pub r : RecordText
+  pub p : Report
+  pub given : HasRecordAndReport files names r p
+  pub is : s ≡ finding_status (finding r p)
 
 -- ---- and then they complete
 
@@ -138,8 +158,9 @@ CanDo (ToCheck names) files flashes = IsSomeAnd files (λ f. CanCheck names (Som
 CanDo (ToTotal names) files flashes = IsSomeAnd files (λ f. CanTotal names (Some f))
 CanDo (ToRehearse voters) files flashes = Unit
 CanDo (ToReplace names) files flashes = IsSomeAnd files (λ f. IsSomeAnd flashes (CanReplace names (Some f)))
+CanDo (ToRecount names) files flashes = IsSomeAnd files (λ f. CanRecount names (Some f))
 
--- and so it ends: a check may refuse the report besides, and of the totals the verdicts say
+-- and so it ends: a check may refuse the report besides, of the totals the verdicts say, and of a recount what it finds
 abbrev pub Completes : Command → Option Files → Status → Type 0
 Completes (ToVote names) files s = IsDoneOrMemory s
 Completes (ToLoad names) files s = IsDoneOrMemory s
@@ -148,6 +169,7 @@ Completes (ToCheck names) files s = IsDoneOrMemory s ⊎ ((v : Verdict) × (s �
 Completes (ToTotal names) files s = IsByVerdicts names files s ⊎ (s ≡ status.Memory)
 Completes (ToRehearse voters) files s = IsDoneOrMemory s
 Completes (ToReplace names) files s = IsDoneOrMemory s
+Completes (ToRecount names) files s = IsByFinding names files s ⊎ (s ≡ status.Memory)
 
 -- Where the cabinet tells its files and the machine its flashes, a call of the program that has what its command needs, and in which no
 -- count of faults rose, does all its steps, or memory was wanted.

@@ -4,11 +4,12 @@ use Rattle.urna_outside.specs.Cabinet.{CabinetTold}
 use Rattle.urna_outside.specs.Told.{Told}
 use Rattle.state_store.specs.Calls.{IsUntouched}
 use Rattle.urna_commands.specs.Carga.{CargaEnds}
-use Rattle.urna_commands.specs.Command.{Command, ToCheck, ToEmit, ToLoad, ToRehearse, ToReplace, ToTotal, ToVote, command_of}
+use Rattle.urna_commands.specs.Command.{Command, ToCheck, ToEmit, ToLoad, ToRecount, ToRehearse, ToReplace, ToTotal, ToVote, command_of}
 use Rattle.urna_commands.specs.Confere.{ConfereEnds}
 use Rattle.urna_commands.specs.Emite.{EmiteEnds}
 use Rattle.urna_commands.specs.Ensaio.{EnsaioEnds}
 use Rattle.urna_commands.specs.FaultLines.{Tells, fault_text}
+use Rattle.urna_commands.specs.Reconta.{RecontaEnds}
 use Rattle.urna_commands.specs.Repoe.{RepoeEnds}
 use Rattle.urna_commands.specs.Taking.{HasTaken}
 use Rattle.urna_commands.specs.Totaliza.{TotalizaEnds}
@@ -32,6 +33,7 @@ CommandEnds (Some (ToCheck names)) c d m n s = ConfereEnds names c d m n s
 CommandEnds (Some (ToTotal names)) c d m n s = TotalizaEnds names c d m n s
 CommandEnds (Some (ToRehearse voters)) c d m n s = EnsaioEnds voters c d m n s
 CommandEnds (Some (ToReplace names)) c d m n s = RepoeEnds names c d m n s
+CommandEnds (Some (ToRecount names)) c d m n s = RecontaEnds names c d m n s
 
 -- How a call of the program ends, by what the cabinet and the machine told before and after: as its command, and then the line
 -- that tells a fault was shown, where the status has one.

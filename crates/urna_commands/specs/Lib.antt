@@ -1,5 +1,6 @@
 pub mod Accepting
 pub mod Again
+pub mod Answering
 pub mod AtRest
 pub mod Carga
 pub mod Codes
@@ -12,6 +13,7 @@ pub mod Ending
 pub mod Ensaio
 pub mod Errors
 pub mod FaultLines
+pub mod Findings
 pub mod Headline
 pub mod Holding
 pub mod Idle
@@ -19,6 +21,8 @@ pub mod Laws
 pub mod NeverBusy
 pub mod Offering
 pub mod Putting
+pub mod Reconta
+pub mod Recounts
 pub mod Repoe
 pub mod Replaced
 pub mod Results

@@ -6,7 +6,7 @@ use Rattle.urna_outside.specs.Shows.{AreShows}
 use Rattle.urna_outside.specs.Told.{Runs, Told}
 use Rattle.election_tables.specs.TablesData.{TablesData}
 use Rattle.state_store.specs.Calls.{IsFrontOfSyncs}
-use Rattle.urna_commands.specs.Command.{Command, ToCheck, ToEmit, ToLoad, ToRehearse, ToReplace, ToTotal, ToVote, Totaliza, command_of}
+use Rattle.urna_commands.specs.Command.{Command, ToCheck, ToEmit, ToLoad, ToRecount, ToRehearse, ToReplace, ToTotal, ToVote, Totaliza, command_of}
 use Rattle.urna_commands.specs.Ending.{Ends}
 use Rattle.urna_commands.specs.Ensaio.{rehearsal_names}
 use Rattle.urna_commands.specs.Putting.{OthersStay, result_names}
@@ -39,12 +39,13 @@ pub record Touches (does : List Op → Type 0) (own : List (List ℕ)) (most : �
 abbrev pub AreToTake : CabinetTold → Totaliza → ℕ → Type 0
 AreToTake c names k = (k ≡ 0) ⊎ ((t : TablesData) × (listed : List (List ℕ)) × IsListed c.files names t listed × (k ≡ length listed))
 
--- What each command may touch, however it ends. Words of no command, confere, totaliza and ensaio put and sync nothing on a flash; emite syncs
--- each at most once, and puts nothing; confere, totaliza, carga and repoe leave each file as it is; vota and emite change their two files of
+-- What each command may touch, however it ends. Words of no command, confere, totaliza, reconta and ensaio put and sync nothing on a flash; emite
+-- syncs each at most once, and puts nothing; confere, totaliza, reconta, carga and repoe leave each file as it is; vota and emite change their two files of
 -- results alone, and ensaio its six.
 abbrev pub TouchesAtMost : Option Command → CabinetTold → CabinetTold → Told → Told → Type 0
 TouchesAtMost None c d m n = Touches AreShows [] 0 c d m n
 TouchesAtMost (Some (ToCheck names)) c d m n = Touches AreShows [] 2 c d m n
+TouchesAtMost (Some (ToRecount names)) c d m n = Touches AreShows [] 2 c d m n
 TouchesAtMost (Some (ToTotal names)) c d m n = (k : ℕ) × AreToTake c names k × Touches AreShows [] (k + 2) c d m n
 TouchesAtMost (Some (ToRehearse voters)) c d m n = Touches AreShows rehearsal_names 6 c d m n
 TouchesAtMost (Some (ToEmit names)) c d m n = Touches AreSyncsAndShows (result_names names.out) 4 c d m n

@@ -1,7 +1,7 @@
 -- What a command of the code stands for
 use Rattle.std.specs.Prelude.{◌≤◌}
 use Rattle.election_tables.specs.Limits.{most_voters}
-use Rattle.urna_commands.specs.Command.{Command, ToCheck, ToEmit, ToLoad, ToRehearse, ToReplace, ToTotal, ToVote}
+use Rattle.urna_commands.specs.Command.{Command, ToCheck, ToEmit, ToLoad, ToRecount, ToRehearse, ToReplace, ToTotal, ToVote}
 use Rattle.urna_commands.specs.declared.command.Command as declared
 use Rattle.urna_commands.specs.declared.command.Command.TheVariants as code
 
@@ -14,6 +14,7 @@ meant (code.Confere n) = ToCheck (record { tables = n.tables.now; report = n.rep
 meant (code.Totaliza n) = ToTotal (record { tables = n.tables.now; list = n.list.now })
 meant (code.Ensaio voters) = ToRehearse voters
 meant (code.Repoe n) = ToReplace (record { tables = n.tables.now; roll = n.roll.now; replaced = n.replaced })
+meant (code.Reconta n) = ToRecount (record { report = n.report.now; rdv = n.rdv.now })
 
 -- the voters of a rehearsal are as many as a section may have
 abbrev pub HasVoters : declared.Command → Type 0
@@ -24,3 +25,4 @@ HasVoters (code.Emite n) = Unit
 HasVoters (code.Confere n) = Unit
 HasVoters (code.Totaliza n) = Unit
 HasVoters (code.Repoe n) = Unit
+HasVoters (code.Reconta n) = Unit

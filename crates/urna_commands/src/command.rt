@@ -3,7 +3,7 @@ ghost use Rattle.std.specs.Prelude.{◌≡◌, ◌≤◌, IfSome, map, string_by
 ghost use Rattle.std.specs.Option.{option_map};
 ghost use Rattle.election_tables.specs.Limits.{most_voters};
 ghost use Rattle.urna_commands.specs.Words.{HasVoters, meant};
-ghost use Rattle.urna_commands.specs.Command.{carga_of, command_of, confere_of, emite_of, ensaio_of, named_device, named_number, named_voters, repoe_of, totaliza_of, vota_of};
+ghost use Rattle.urna_commands.specs.Command.{carga_of, command_of, confere_of, emite_of, ensaio_of, named_device, named_number, named_voters, reconta_of, repoe_of, totaliza_of, vota_of};
 
 use election_tables::{GREATEST_SECTION, MOST_VOTERS};
 use urna_base::decimal;
@@ -57,6 +57,13 @@ pub(crate) struct RepoeNames<'a> {
     pub replaced: Dev,
 }
 
+/// The names of the files of `reconta`.
+#[derive(Clone, Copy)]
+pub(crate) struct RecontaNames<'a> {
+    pub report: &'a str,
+    pub rdv: &'a str,
+}
+
 /// A command, with the names of its files, or its number of voters.
 #[derive(Clone, Copy)]
 pub(crate) enum Command<'a> {
@@ -67,6 +74,7 @@ pub(crate) enum Command<'a> {
     Totaliza(TotalizaNames<'a>),
     Ensaio(u32),
     Repoe(RepoeNames<'a>),
+    Reconta(RecontaNames<'a>),
 }
 
 /// The command of some words: the first one says which, and the others are its names.
@@ -85,6 +93,7 @@ pub(crate) fn command_of(words: &[String]) -> Option<Command<'_>>
         "totaliza" => totaliza_of(names),
         "ensaio" => ensaio_of(names),
         "repoe" => repoe_of(names),
+        "reconta" => reconta_of(names),
         _ => None,
     }
 }
@@ -184,6 +193,19 @@ fn repoe_of(names: &[String]) -> Option<Command<'_>>
         tables: tables.as_str(),
         roll: roll.as_str(),
         replaced,
+    }))
+}
+
+/// REPORT RECORD.
+fn reconta_of(names: &[String]) -> Option<Command<'_>>
+    ensures { option_map meant result ≡ reconta_of (map string_bytes names.now) }
+{
+    let [report, rdv] = names else {
+        return None;
+    };
+    Some(Command::Reconta(RecontaNames {
+        report: report.as_str(),
+        rdv: rdv.as_str(),
     }))
 }
 

@@ -2,13 +2,14 @@
 ghost use Rattle.std.specs.Prelude.{◌≡◌, ◌≢◌, ℕ, IfErr, IfOk, List, Option};
 ghost use Rattle.urna_outside.specs.Cabinet.{Files};
 ghost use Rattle.election_tables.specs.TablesData.{IsTables};
-ghost use Rattle.urna_commands.specs.Documents.{HasNames, HasTables, HasRoll, HasKeys, IsFault, IsFirstFault, IsTaken, limit_of};
+ghost use Rattle.urna_commands.specs.Documents.{HasNames, HasRecord, HasTables, HasRoll, HasKeys, IsFault, IsFirstFault, IsTaken, limit_of};
 ghost use Rattle.urna_commands.specs.Taking.{HasTaken, status_in};
 
 use crate::errors::not_taken;
 use crate::status::{Doc, Status};
 use election_tables::{Roll, Tables};
 use key_script::{Names, Script};
+use record_audit::{RecordText, read_record};
 use result_files::MOST_REPORT_BYTES;
 use std::alloc::Global;
 use urna_outside::Cabinet;
@@ -21,6 +22,8 @@ const KEYS_LIMIT: u32 = 16_777_216;
 
 const LIST_LIMIT: u32 = 1_048_576;
 
+const RECORD_LIMIT: u32 = 1_048_576;
+
 /// The most bytes that a document may have.
 fn limit(doc: Doc) -> u32
     ensures { result ≡ limit_of doc }
@@ -31,6 +34,7 @@ fn limit(doc: Doc) -> u32
         Doc::Keys => KEYS_LIMIT,
         Doc::Report => MOST_REPORT_BYTES,
         Doc::List => LIST_LIMIT,
+        Doc::Record => RECORD_LIMIT,
     }
 }
 
@@ -131,6 +135,24 @@ impl Document for Names {
         let bytes = take(alloc, cabinet, name, Doc::List)?;
         let names = Names::read(bytes)?;
         Ok(names)
+    }
+}
+
+impl Document for RecordText {
+    ghost use Rattle.urna_commands.specs.declared.status.Doc.TheVariants as kind;
+
+    ghost doc = { kind.Record };
+
+    ghost held = { HasRecord };
+
+    fn take_document<C: Cabinet>(
+        alloc: Global,
+        cabinet: &mut C,
+        name: &str,
+    ) -> Result<RecordText, Status> {
+        let bytes = take(alloc, cabinet, name, Doc::Record)?;
+        let text = read_record(alloc, &bytes)?;
+        Ok(text)
     }
 }
 

@@ -1,6 +1,6 @@
 //! The headline (`specs/Headline.antt`), and the same of any calls and exchanges one after the other (`specs/Again.antt`); what is done over a
 //! replaced flash (`specs/Replaced.antt`); laws of what lies at rest
-//! (`specs/AtRest.antt`), of reports that are accepted (`specs/Accepting.antt`), of what puts nothing on a flash (`specs/Idle.antt`,
+//! (`specs/AtRest.antt`), of reports that are accepted (`specs/Accepting.antt`) and agree with their records (`specs/Recounts.antt`), of what puts nothing on a flash (`specs/Idle.antt`,
 //! `specs/NeverBusy.antt`), of what each command may touch (`specs/Touching.antt`), of endings (`specs/Laws.antt`, `specs/Completion.antt`), and of
 //! files that are put (`specs/Putting.antt`, `specs/Ensaio.antt`).
 ghost use Rattle.urna_commands.specs.Accepting.{EmittedIsAccepted, VotedIsAccepted};
@@ -10,14 +10,16 @@ ghost use Rattle.urna_commands.specs.Completion.{CompletesWhereItCan, TellsOfRis
 ghost use Rattle.urna_commands.specs.Ensaio.{SixAreThere};
 ghost use Rattle.urna_commands.specs.Headline.{AloneFromTheFirstShow, KeysHaveRun, VotesAreKept};
 ghost use Rattle.urna_commands.specs.Idle.{IdleEndings, IdleLeavesNoMore, LoadIsKeptOut, OpenedIsInUse, OthersAreKeptOut};
-ghost use Rattle.urna_commands.specs.Laws.{FoundOnce, OneTotalStatus, RefusedEndSo, RefusedOnce, RefusedOrGiven, TotalEndsSo, VerdictEndsSo};
+ghost use Rattle.urna_commands.specs.Laws.{FoundOnce, OneRecountStatus, OneTotalStatus, RecountEndsSo, RefusedEndSo, RefusedOnce, RefusedOrGiven, TotalEndsSo, VerdictEndsSo};
 ghost use Rattle.urna_commands.specs.NeverBusy.{LoadIsNotBusy, LoadLeavesFree};
 ghost use Rattle.urna_commands.specs.Putting.{BothAreThere};
+ghost use Rattle.urna_commands.specs.Recounts.{EmittedAgree, SealedAgree, VotedAgree};
 ghost use Rattle.urna_commands.specs.Replaced.{ReplacedIsForeign, ReplacedIsLoaded, StandingIsInUse};
 ghost use Rattle.urna_commands.specs.Touching.{EachTouchesAtMost};
 
-/// Where the cabinet tells its files, the words and the files determine whether they are refused, with which status, and which verdict
-/// `confere` gives. A command ends so, unless memory was wanted, or the cabinet or, of `confere` and `totaliza`, the display failed.
+/// Where the cabinet tells its files, the words and the files determine whether they are refused, with which status, which verdict `confere`
+/// gives, and what `reconta` finds. A command ends so, unless memory was wanted, or the cabinet or, of `confere`, `totaliza` and `reconta`, the
+/// display failed.
 pub fn one_ending()
     ensures once { RefusedOnce }
     ensures either { RefusedOrGiven }
@@ -25,6 +27,8 @@ pub fn one_ending()
     ensures verdict { VerdictEndsSo }
     ensures total { OneTotalStatus }
     ensures so { TotalEndsSo }
+    ensures recount { OneRecountStatus }
+    ensures recounted { RecountEndsSo }
 {
     key_script::laws::names_or_bad_line();
 }
@@ -38,7 +42,8 @@ pub fn one_poll()
 }
 
 /// Where the cabinet tells its files and the machine its flashes, a call that has what its command needs, and in which nothing failed,
-/// does all its steps, or memory was wanted; `confere` may refuse the report besides, and `totaliza` some of the listed ones. A rehearsal
+/// does all its steps, or memory was wanted; `confere` may refuse the report besides, `totaliza` some of the listed ones, and `reconta` may find that
+/// both disagree. A rehearsal
 /// does so over any cabinet and machine, and over any a call in which no count rose tells of none.
 pub fn completion()
     ensures done { CompletesWhereItCan }
@@ -108,6 +113,14 @@ pub fn what_vota_leaves()
 pub fn put_and_accepted()
     ensures voted { VotedIsAccepted }
     ensures emitted { EmittedIsAccepted }
+{}
+
+/// The record and the report of a sealed poll are read and agree. So over the two files that a `vota` or an `emite` put that is Done `reconta`
+/// tells that they agree; or memory was wanted, or the cabinet or the display failed.
+pub fn recounts()
+    ensures sealed { SealedAgree }
+    ensures voted { VotedAgree }
+    ensures emitted { EmittedAgree }
 {}
 
 /// Where neither flash is in use when `carga` has synced both, neither is at any later stop of the call; and where neither is, `carga`

@@ -2,7 +2,7 @@
 //!
 //! `urna` is the call by which the program does its command. What it says of the files, of the text that is shown and of each
 //! status stands in `specs/Ending.antt`, and by command in `specs/Vota.antt`, `specs/Carga.antt`, `specs/Emite.antt`,
-//! `specs/Confere.antt`, `specs/Totaliza.antt`, `specs/Ensaio.antt` and `specs/Repoe.antt` (docs/RULES.md, "The run"; docs/FORMATS.md, "Statuses").
+//! `specs/Confere.antt`, `specs/Totaliza.antt`, `specs/Ensaio.antt`, `specs/Repoe.antt` and `specs/Reconta.antt` (docs/RULES.md, "The run"; docs/FORMATS.md, "Statuses").
 #![tactic(auto)]
 
 ghost use Rattle.std.specs.Prelude.{map, string_bytes};
@@ -19,7 +19,9 @@ mod emite;
 mod ensaio;
 mod errors;
 mod fault;
+mod finding;
 mod laws;
+mod reconta;
 mod repoe;
 mod results;
 mod status;
@@ -34,6 +36,7 @@ use confere::confere;
 use emite::emite;
 use ensaio::ensaio;
 use fault::tell_fault;
+use reconta::reconta;
 use repoe::repoe;
 pub use status::{Doc, Status};
 use std::alloc::Global;
@@ -50,7 +53,8 @@ use vota::vota;
 /// nothing on a flash. `confere TABLES REPORT` tells whether the file of a report is whole and fits the tables. `totaliza TABLES LIST` tells
 /// that of each report that the list names, and the sums and the seats, or the elected, of each office over those that are accepted.
 /// `ensaio N` rehearses a whole election of N voters in memory, puts its files and tells its lines. `repoe TABLES ROLL interna` or
-/// `externa` loads the flash that was replaced from the other one. Where the command was refused, a line tells why.
+/// `externa` loads the flash that was replaced from the other one. `reconta REPORT RECORD` tells whether the votes of the text of a record are
+/// those of the file of a report. Where the command was refused, a line tells why.
 pub fn urna<M: Machine, C: Cabinet>(
     alloc: Global,
     words: &[String],
@@ -87,5 +91,6 @@ fn run_command<M: Machine, C: Cabinet>(
         Some(Command::Totaliza(names)) => totaliza(alloc, names, machine, cabinet),
         Some(Command::Ensaio(voters)) => ensaio(alloc, voters, machine, cabinet),
         Some(Command::Repoe(names)) => repoe(alloc, names, machine, cabinet),
+        Some(Command::Reconta(names)) => reconta(alloc, names, machine, cabinet),
     }
 }

@@ -1,5 +1,5 @@
 ghost use Rattle.std.specs.Prelude.{◌≡◌, ◌≤◌, ◌<◌, IfNone, IfSome};
-ghost use Rattle.vote_kinds.specs.Choice.{kind_of, number_of, choice_with, choice_le};
+ghost use Rattle.vote_kinds.specs.Choice.{kind_of, number_of, choice_with, choice_le, is_same};
 
 /// What a voter chose on one line of the ballot.
 #[derive(Clone, Copy, Debug, Default, PartialEq, Eq)]
@@ -54,6 +54,13 @@ impl Choice {
             4 if number == 0 => Some(Choice::Null),
             _ => None,
         }
+    }
+
+    /// Whether it is the same choice as `other`.
+    pub fn is_same(self, other: Choice) -> bool
+        ensures { result ≡ is_same self other }
+    {
+        self.kind() == other.kind() && self.number() == other.number()
     }
 
     /// Whether it stands before `other` in the order of choices, or is it.

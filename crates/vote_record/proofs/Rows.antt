@@ -12,7 +12,7 @@ use Rattle.vote_kinds.specs.Ballot.{BallotLine, choices_of}
 use Rattle.vote_kinds.specs.Choice.{choice_le}
 use Rattle.vote_record.specs.Bag.{count_of, with_choice, with_choices, with_vote}
 use Rattle.vote_record.specs.Counters.{bag_with, counts_of}
-use Rattle.vote_record.specs.RecordText.{election_words, heading, panel_text, record_text, section_words}
+use Rattle.vote_record.specs.RecordText.{heading_words, office_words, record_lines, record_text}
 
 -- nominal rising, party rising, blank, null
 numbers_rise : choice_le (choice.Nominal 13001) (choice.Nominal 45001) ≡ true
@@ -78,7 +78,7 @@ text lines = flat_map (λ line. line ++ 10 ∷ []) lines
 
 one_vote : record_text (tables_of (mayor ∷ [])) (section_of 1) ((choice.Nominal 13 ∷ []) ∷ [])
     ≡ text (codes "RDV U1" ∷ codes "PROC 7 DTPL 20261004 TURN 1 ZONA 1 SECA 42" ∷ codes "CARG 11 1" ∷ codes "N 13" ∷ codes "FIM" ∷ [])
-unfolding record_text heading election_words section_words panel_text digits padded
+unfolding record_text record_lines heading_words office_words digits padded
 one_vote = refl
 
 two_panels : record_text (tables_of (councillors ∷ mayor ∷ [])) (section_of 3)
@@ -86,10 +86,10 @@ two_panels : record_text (tables_of (councillors ∷ mayor ∷ [])) (section_of 
     ≡ text (codes "RDV U1" ∷ codes "PROC 7 DTPL 20261004 TURN 1 ZONA 1 SECA 42"
     ∷ codes "CARG 13 3" ∷ codes "N 13001" ∷ codes "L 45" ∷ codes "B"
     ∷ codes "CARG 11 3" ∷ codes "N 13" ∷ codes "N 45" ∷ codes "X" ∷ codes "FIM" ∷ [])
-unfolding record_text heading election_words section_words panel_text digits padded
+unfolding record_text record_lines heading_words office_words digits padded
 two_panels = refl
 
 nobody_voted : record_text (tables_of (mayor ∷ [])) (section_of 1) ([] ∷ [])
     ≡ text (codes "RDV U1" ∷ codes "PROC 7 DTPL 20261004 TURN 1 ZONA 1 SECA 42" ∷ codes "CARG 11 0" ∷ codes "FIM" ∷ [])
-unfolding record_text heading election_words section_words panel_text digits padded
+unfolding record_text record_lines heading_words office_words digits padded
 nobody_voted = refl

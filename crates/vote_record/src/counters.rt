@@ -2,7 +2,7 @@
 ghost use Rattle.std.specs.Prelude.{◌≡◌, ◌<◌, ◌≤◌, ◌+◌, ◌^◌, ◌++◌, false, length, map, take, IfOk, IfSome, IsNone, Some, slice_get, vec_len, vec_capacity};
 ghost use Rattle.election_tables.specs.TablesData.{IsTables, candidates_at};
 ghost use Rattle.vote_kinds.specs.Ballot.{choices_of, line_of};
-ghost use Rattle.vote_kinds.specs.Choice.{AreRising, is_same};
+ghost use Rattle.vote_kinds.specs.Choice.{AreRising};
 ghost use Rattle.vote_record.specs.Bag.{count_of, with_choices};
 ghost use Rattle.vote_record.specs.Counters.{counters_before, most_counters};
 ghost use Rattle.vote_record.specs.BagData.{IsPlace, choices_in, members_of, no_votes, stands_at};
@@ -148,7 +148,7 @@ fn stands_at(counters: &[Counter], place: usize, choice: Choice) -> bool
     ensures { result ≡ stands_at choice counters.now place }
 {
     match counters.get(place) {
-        Some(counter) => is_same(choice, counter.choice),
+        Some(counter) => choice.is_same(counter.choice),
         None => false,
     }
 }
@@ -166,11 +166,4 @@ pub fn member(counters: &[Counter], i: u32) -> Choice
         left -= counter.votes;
     }
     unreachable!()
-}
-
-/// Whether two choices are the same.
-fn is_same(a: Choice, b: Choice) -> bool
-    ensures { result ≡ is_same a b }
-{
-    a.kind() == b.kind() && a.number() == b.number()
 }

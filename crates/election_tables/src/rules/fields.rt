@@ -49,8 +49,8 @@ fn is_printable(bytes: &[u8]) -> bool
     bytes.iter().all(|b| 0x20 <= *b && *b != 0x7f)
 }
 
-/// Whether a number has exactly so many digits, the first not zero.
-pub(crate) fn has_digits(digits: u8, n: u64) -> bool
+/// Whether a number has exactly so many digits, the first not zero. The caller owes that they are at most 5.
+pub fn has_digits(digits: u8, n: u64) -> bool
     requires { digits ≤ 5 }
     ensures { result ≡ has_digits digits n }
 {

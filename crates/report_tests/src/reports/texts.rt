@@ -2,7 +2,7 @@
 
 /// Three voters, who all came: a vote for candidate 13001, a party vote and a blank one; then one for candidate 13, one for
 /// candidate 45 and a null one.
-pub(super) const TWO_OFFICES: &str =
+pub(crate) const TWO_OFFICES: &str =
     "ORIG:VOTA PROC:7 DTPL:20261004 TURN:1 ZONA:1 SECA:42 APTO:3 COMP:3 FALT:0 \
      DTAB:20261004 HRAB:080000 DTFC:20261004 HRFC:170000 \
      CARG:13 TIPO:1 PART:13 13001:1 LEGP:0 TOTP:1 PART:45 LEGP:1 TOTP:1 APTA:3 NOMI:1 LEGC:1 BRAN:1 NULO:0 TOTC:3 \

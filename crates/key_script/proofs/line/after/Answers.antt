@@ -1,9 +1,0 @@
-use Rattle.std.proofs.lemmas.Bool.Decides.{Decides-eqb}
-use Rattle.std.proofs.lemmas.Slice.Eq.{strip_prefix_is}
-use Rattle.urna_base.proofs.WordLaws.{after_word-stripped}
-use Rattle.key_script.proofs.line.after.Goals as goal
-
-pub returns : goal.returns
-returns c =
-    after_word-stripped c.args.word.now c.args.line.now c.strip_prefix.result
-    (strip_prefix_is Decides-eqb c.args.line.now c.args.word.now c.strip_prefix.result c.strip_prefix.ensures.cases)

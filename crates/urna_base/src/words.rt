@@ -1,0 +1,28 @@
+//! What follows a word in a text, and a text cut at a byte.
+ghost use Rattle.std.specs.Prelude.{◌≡◌, ◌==◌, position, MatchOption, None, Some};
+ghost use Rattle.std.specs.Option.{option_copied};
+ghost use Rattle.urna_base.specs.Words.{after_word, cut_at};
+
+/// What follows a word, where the text begins with it.
+pub fn after<'a>(word: &[u8], text: &'a [u8]) -> Option<&'a [u8]>
+    ensures { option_copied result ≡ after_word word.now text.now }
+{
+    text.strip_prefix(word)
+}
+
+/// What stands in front of the first such byte of a text, and what stands behind it.
+pub fn cut_at(byte: u8, text: &[u8]) -> Option<(&[u8], &[u8])>
+    ensures { MatchOption result (cut_at byte text.now ≡ None) (λ x. cut_at byte text.now ≡ Some (x.0.now, x.1.now)) }
+{
+    match first_place(byte, text) {
+        Some(end) => Some((&text[..end], &text[end + 1..])),
+        None => None,
+    }
+}
+
+/// Where the first such byte stands.
+fn first_place(byte: u8, text: &[u8]) -> Option<usize>
+    ensures { result ≡ position (λ b. b == byte) text.now }
+{
+    text.iter().position(|other| *other == byte)
+}
