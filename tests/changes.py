@@ -1,10 +1,11 @@
-"""Inputs that are cut at each length, or of which each byte is another: a command ends with a status that docs/FORMATS.md has, and no
-changed report is accepted."""
+"""Inputs that are cut at each length, or of which each byte is another: a command ends with a status that docs/FORMATS.md has, no
+changed report is accepted, and of a changed record what a reader of its own tells."""
 
 import itertools
 import re
 
 import memory
+import recounts
 from commands import CARGA, VOTA, want
 from held import with_flashes
 from polls import FLASHES, Day
@@ -66,6 +67,12 @@ def try_report(runs, files, what):
     ended = runs.run(files, memory.TOTALIZA)
     is_left_out = re.match(rb"1 " + VERDICT + rb"SECOES 0 DE 1\n", ended.shown)
     want(ended.status == 6 and is_left_out, f"{what}, totaliza: {ended.told()}")
+
+
+def try_record(runs, files, what):
+    ended = runs.run(files, memory.RECONTA)
+    shown, _, status = recounts.answer(files["a.bu"].decode(), files["a.rdv"]).partition(" = ")
+    want((ended.status, ended.shown) == (int(status or 0), f"{shown}\n".encode()), f"{what}, reconta: {ended.told()}, not {shown}")
 
 
 def verdict_on(name, is_first):
@@ -140,6 +147,7 @@ def inputs():
     return [
         ("a.bu", {**listed, "list": b"a.bu\n"}, try_report),
         ("list", listed, try_list),
+        ("a.rdv", listed, try_record),
         ("tables", loaded, try_load),
         ("roll", loaded, try_load),
         ("keys", {**loaded, "keys": KEYS}, try_keys),

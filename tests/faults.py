@@ -90,7 +90,7 @@ def drawn_case(runs, draw):
         return case(runs, EMITE, {**files, **dict.fromkeys(draw.choice([(), ("p.bu", "p.rdv")]), b"old")})
     if kind == "ensaio":
         return case(runs, memory.ENSAIO, dict.fromkeys(draw.choice([(), memory.REHEARSED]), b"old"))
-    return case(runs, draw.choice((memory.TOTALIZA, memory.CONFERE)), memory.listed_reports())
+    return case(runs, draw.choice((memory.TOTALIZA, memory.CONFERE, memory.RECONTA)), memory.listed_reports())
 
 
 def is_harmless(case, other, how):

@@ -10,6 +10,7 @@ from parts import parts_file
 from polls import FLASHES, LENGTH
 
 CONFERE, TOTALIZA, ENSAIO = ["confere", "tables", "a.bu"], ["totaliza", "tables", "list"], ["ensaio", "1"]
+RECONTA = ["reconta", "a.bu", "a.rdv"]
 # The files of a rehearsal.
 REHEARSED = tuple(f"ensaio.{end}" for end in ("toml", "rol", "teclas", "flash", "bu", "rdv"))
 # How many allocations one run refuses, each in a copy of its process.
@@ -54,10 +55,10 @@ def worked_list():
 
 
 def listed_reports():
-    """The tables of the three ballots, their report, a copy of it, and the same with another digit, and the list of the three."""
+    """The tables of the three ballots, their report, a copy of it, and the same with another digit, the list of the three, and the record."""
     report = parts_file(polls.THREE_BALLOTS_FIELDS).encode()
     changed = report.replace(b"TOTP:1", b"TOTP:2", 1)
-    return {**polls.three_ballots([]), "a.bu": report, "b.bu": report, "c.bu": changed, "list": b"a.bu\nb.bu\nc.bu\n"}
+    return {**polls.three_ballots([]), "a.bu": report, "b.bu": report, "c.bu": changed, "list": b"a.bu\nb.bu\nc.bu\n", "a.rdv": polls.THREE_BALLOTS_RECORD.encode()}
 
 
 def life(runs):
@@ -74,7 +75,7 @@ def cases(runs):
     *_, (_, sealed) = life(runs)
     day = polls.Day(3)
     opened = {**day.documents(day.keys(3)), **dict(zip(FLASHES, day.flashes(1, 3)))}
-    found = [(TOTALIZA, listed), (ENSAIO, {}), (CONFERE, listed), (VOTA, sealed), (VOTA, opened), (CARGA, day.documents(""))]
+    found = [(TOTALIZA, listed), (ENSAIO, {}), (CONFERE, listed), (RECONTA, listed), (VOTA, sealed), (VOTA, opened), (CARGA, day.documents(""))]
     return found + [(words, {**opened, name: bytes(LENGTH)}) for words, name in zip(REPOE, FLASHES)]
 
 

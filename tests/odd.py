@@ -168,6 +168,7 @@ def read_only_cases(runs, draw):
     yield missing, draw.choice((CARGA, VOTA, EMITE)), 21
     yield memory.listed_reports(), memory.ENSAIO, 20
     yield memory.listed_reports(), memory.CONFERE, 0
+    yield memory.listed_reports(), memory.RECONTA, 0
 
 
 def want_read_only(ended, files, words, status, what):
