@@ -9,7 +9,7 @@ use Rattle.urna_outside.specs.declared.device.Dev.{Dev}
 use Rattle.urna_outside.specs.declared.device.Dev.TheVariants.{Internal, External}
 use Rattle.urna_outside.proofs.Stages.{left_image}
 use Rattle.twin_image.specs.Slots.{beside}
-use Rattle.state_store.specs.Calls.{both_synced}
+use Rattle.flash_store.specs.Syncs.{both_synced}
 
 pub differs_back : (d : Dev) → d ≢ beside d
 differs_back Internal same = cc

@@ -16,7 +16,7 @@ use Rattle.image_codec.specs.Decoded.{decoded, rank_in}
 use Rattle.image_codec.specs.Layout.{body_size}
 use Rattle.image_codec.specs.State.{State}
 use Rattle.twin_image.specs.Held.{bodies_on, held_alone, held_body}
-use Rattle.state_store.specs.Calls.{IsSynced, both_synced}
+use Rattle.flash_store.specs.Syncs.{IsSynced, both_synced}
 use Rattle.state_store.specs.Held.{HasFrameOf, HasNoFrame}
 use Rattle.state_store.specs.Load.{IsSectionOf}
 use Rattle.contingency.specs.Calls.{EndsTesting, FailsToReplace, IsBare, IsBusyBeside}

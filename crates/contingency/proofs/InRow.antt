@@ -1,7 +1,5 @@
 -- Runs in a row, of which one was cut off.
-use Rattle.std.proofs.Common.{◌≡◌, inl, inr, Option, Some, None, IsSome, option_map, List, ◌++◌, refl, sym, ap, subst, ◌∙◌}
-use Rattle.std.proofs.lemmas.List.{append_cancel_left}
-use Rattle.std.proofs.lemmas.Option.{same_Some}
+use Rattle.std.proofs.Common.{◌≡◌, inl, inr, Some, List, ◌++◌, refl, sym, subst}
 use Rattle.std.specs.Option.{ForSome}
 use Rattle.urna_outside.specs.Flash.{Flashes, Op, after}
 use Rattle.urna_outside.specs.Told.{Does, Runs, Told}
@@ -43,14 +41,3 @@ module _ (P Q R : Flashes → List Op → Type 0) (a b c : Told) (joins : (start
         does-append one.0 two.0 a b c one.1 two.1,
         up_to_behind (Q mid) (R start) one.0 two.0 (λ ys is. joins start told one.0 ys one.1 one.2 is) two.2,
       )
-
--- What holds of some operations up to a fault holds of all that were done, where the trail is told.
-pub traced_up_to : (P : List Op → Type 0) (a b : Told) (ops : List Op) → IsSome a.trail → Does ops a b → Runs (IsUpTo P) a b → IsUpTo P ops
-traced_up_to P a b ops told does run = go a.trail refl
-  where
-    go : (o : Option (List Op)) → a.trail ≡ o → IsUpTo P ops
-    go None none = let nothing : Option (List Op) = None in let some : IsSome nothing = subst (λ (o : Option (List Op)). IsSome o) none told in absurd (cc)
-    go (Some before) is =
-        let both : Some (before ++ run.0) ≡ Some (before ++ ops) =
-        ap (option_map (λ (l : List Op). l ++ run.0)) (sym is) ∙ sym run.1.trail ∙ does.trail ∙ ap (option_map (λ (l : List Op). l ++ ops)) is in
-        subst (IsUpTo P) (append_cancel_left before run.0 ops (same_Some (before ++ run.0) (before ++ ops) both)) run.2

@@ -26,14 +26,14 @@ use Rattle.twin_image.specs.Level.{IsLevel}
 use Rattle.twin_image.specs.Slots.{beside}
 use Rattle.twin_image.proofs.Laid.{frame_image, frame_kept}
 use Rattle.twin_image.proofs.Renewing.{content_image}
-use Rattle.state_store.specs.Calls.{AreFound, IsSynced, both_synced}
+use Rattle.flash_store.specs.Syncs.{IsSynced, both_synced}
+use Rattle.state_store.specs.Calls.{AreFound}
 use Rattle.state_store.specs.Held.{HasFrameOf, HeldAlone, HeldByBoth}
 use Rattle.state_store.specs.Laws.{AreWhole}
 use Rattle.state_store.specs.Load.{IsSectionOf, header, load_of}
 use Rattle.state_store.specs.Rest.{AreAtRest, IsInUse, device_size}
 use Rattle.state_store.specs.Store.{AreDevices}
-use Rattle.state_store.proofs.Resting.{at_end}
-use Rattle.state_store.proofs.Standing.{level_rests}
+use Rattle.flash_store.proofs.Resting.{at_end, level_rests}
 use Rattle.state_store.proofs.Stored.{header_long, long_state}
 use Rattle.contingency.specs.Calls.{FailsToReplace, IsReplacement, Replaces}
 use Rattle.contingency.specs.Replaced.{IsReplaced, LeavesStanding}
@@ -42,7 +42,8 @@ use Rattle.contingency.specs.declared.replacement.ReplaceError.TheVariants as er
 use Rattle.contingency.proofs.Alone.{body_alone, first_alone}
 use Rattle.contingency.proofs.Devices.{content_synced, on_two}
 use Rattle.contingency.proofs.Finding.{content_before}
-use Rattle.contingency.proofs.InRow.{both_done, second_cut, traced_up_to}
+use Rattle.contingency.proofs.InRow.{both_done, second_cut}
+use Rattle.flash_store.proofs.Tracing.{traced}
 
 -- what was found: the section, whose frame the standing device has, the body that it holds, and the state of that
 pub record IsFound (t : TablesData) (r : RollData) (section : Section) (s : State) (body : List ℕ) (replaced : Dev) (told : Told) : Type 0 where
@@ -196,7 +197,7 @@ module _ (t : TablesData) (r : RollData) (section : Section) (s : State) (body :
           λ done_ops stop left is. leaves start told left (run.2.stops (after both_synced start) (told_after both_synced a c start begun told) done_ops stop left is),
         );
         order = λ trail start told.
-            traced_up_to (AreReplaced start) a d (both_synced ++ run.0) trail does_all (second_cut AreSynced AreRestored AreReplaced a c d replacement first_synced up_to start told);
+            traced (IsUpTo (AreReplaced start)) a d (both_synced ++ run.0) trail does_all (second_cut AreSynced AreRestored AreReplaced a c d replacement first_synced up_to start told);
       }
 
       -- a device failed
@@ -217,7 +218,7 @@ module _ (t : TablesData) (r : RollData) (section : Section) (s : State) (body :
           let other = content_left standing fs _ left.standing.frame in
           let top_long = ap length named ∙ header_long t r (load_of t r section) replaced (record { tables = found.tables; roll = found.roll; section = found.fits; same = refl }) in
           let own = subst (λ (l : List ℕ). HasFrame body_size l (flash_of replaced fs).content) named (frame_image body_size top (flash_of replaced fs) (flash_of replaced fs).content top_long (stands fs told_d) (content_image (flash_of replaced fs))) in
-          level_rests t (load_of t r section) s d.sizes fs (subst AreDevices (sym run.1.sizes) devices_then) (sized_d fs told_d) (long_state t voters s found.tables found.roll.count.1 found.encoding.state) (level fs told_d)
+          level_rests body_size (header (load_of t r section)) (encode t s) (long_state t voters s found.tables found.roll.count.1 found.encoding.state) d.sizes fs (subst AreDevices (sym run.1.sizes) devices_then) (sized_d fs told_d) (level fs told_d)
           (on_two (λ e. HasFrameOf t r section e (flash_of e fs).content) replaced other own))
         where
           -- the content is what is left where the power stays

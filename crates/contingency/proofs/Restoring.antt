@@ -30,11 +30,12 @@ use Rattle.twin_image.specs.Twin.{HoldsEither, IsOfTwin, IsTwin}
 use Rattle.twin_image.proofs.Committing.{differs, other_kept}
 use Rattle.twin_image.proofs.Renewing.{live_image, stage_rest, twin_bounded}
 use Rattle.state_store.specs.Held.{HeldAlone, HeldByBoth}
-use Rattle.state_store.specs.Rest.{IsInUse, IsUsed, device_size}
+use Rattle.state_store.specs.Load.{magic}
+use Rattle.state_store.specs.Rest.{IsBegun, IsInUse, IsUsed, device_size}
 use Rattle.state_store.specs.Store.{AreDevices}
-use Rattle.state_store.proofs.Resting.{clean_image}
+use Rattle.flash_store.proofs.Resting.{clean_image}
 use Rattle.state_store.proofs.Stored.{known_state, long_state}
-use Rattle.state_store.proofs.Unused.{early_before}
+use Rattle.flash_store.proofs.InUse.{early_before}
 use Rattle.contingency.specs.Restored.{AreBroughtUp, Brings, IsRestored, LeavesHeld, MayBeWritten, Restores}
 use Rattle.contingency.proofs.Alone.{either_alone, either_both}
 use Rattle.contingency.proofs.Devices.{course_in, differs_back, image_of_other, on_two}
@@ -191,7 +192,7 @@ module _ (t : TablesData) (s : State) (tables : IsTables t) (few : length s.came
 
     loaded : (before : List ℕ) (left : Left) → HoldsEither body_size (encode t s) (encode t s) (left_on standing left) → LeavesLaid body_size header (encode t s) before (left_on replaced left)
         → (IsInUse (left_on replaced left) → IsInUse before) ⊎ (HasFrame body_size header (left_on replaced left) × HeldByBoth t voters left.internal left.external s)
-    loaded before left holds (inl early) = inl (early_before before (left_on replaced left) early)
+    loaded before left holds (inl early) = inl (early_before magic body_size IsBegun before (left_on replaced left) early)
     loaded before left holds (inr late) = elim (opened_one (left_on replaced left)) [
       | inl one ↦
           inr (

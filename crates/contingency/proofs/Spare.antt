@@ -22,13 +22,15 @@ use Rattle.image_codec.specs.Valid.{ready_state}
 use Rattle.image_codec.proofs.Decoding.{decoded_back, decoded_takes}
 use Rattle.image_codec.proofs.Loaded.{ready_bags, ready_marks}
 use Rattle.image_codec.proofs.Valid.{IsKept}
-use Rattle.state_store.specs.Held.{HasFrameOf, HaveUpTo, Hold, open_bodies, open_body}
+use Rattle.flash_store.specs.Held.{HaveUpTo, Hold, open_bodies, open_body}
+use Rattle.state_store.specs.Held.{HasFrameOf, poll}
 use Rattle.state_store.specs.Load.{header, load_of, magic}
 use Rattle.state_store.specs.Rest.{IsInUse, IsUsed}
 use Rattle.state_store.specs.declared.load.Load.{Load}
-use Rattle.state_store.proofs.Holding.{hold_encoding, one_held}
+use Rattle.flash_store.proofs.Holding.{hold_encoding, up_to_held}
 use Rattle.contingency.specs.Laws.{SpareIsFound}
 use Rattle.contingency.proofs.Going.{few_voters}
+use Rattle.state_store.proofs.Stored.{reads}
 
 -- ---- the ready state
 
@@ -84,7 +86,7 @@ module _ (t : TablesData) (voters : ℕ) where
   abbrev AreReady : List (List ℕ) → Type 0
   AreReady bodies = AllByRecursion IsReady bodies
 
-  unused_slot : (index : ℕ) (image : List ℕ) → ¬ IsUsed index image → AreReady (open_body index image)
+  unused_slot : (index : ℕ) (image : List ℕ) → ¬ IsUsed index image → AreReady (open_body body_size index image)
   unused_slot index image unused = go (gate_in body_size index image == open_gate) refl
     where
       go : (opened : Bool) → (gate_in body_size index image == open_gate) ≡ opened → AreReady (cond opened (body_in body_size index image ∷ []) [])
@@ -95,10 +97,10 @@ module _ (t : TablesData) (voters : ℕ) where
         tt,
       )
 
-  unused_ready : (image : List ℕ) → take 8 image ≡ magic → ¬ IsInUse image → AreReady (open_bodies image)
+  unused_ready : (image : List ℕ) → take 8 image ≡ magic → ¬ IsInUse image → AreReady (open_bodies body_size image)
   unfolding open_bodies
   unused_ready image begins unused =
-      both_bodies IsReady (open_body 0 image) (open_body 1 image)
+      both_bodies IsReady (open_body body_size 0 image) (open_body body_size 1 image)
       (unused_slot 0 image (λ used. unused (record { begins = begins; used = inl used })))
       (unused_slot 1 image (λ used. unused (record { begins = begins; used = inr used })))
 
@@ -106,7 +108,7 @@ module _ (t : TablesData) (voters : ℕ) where
   least : (u : State) → u ≡ ready_state t voters → rank_of u ≡ 0
   least u is = ap rank_of is
 
-  ready_up_to : (bodies : List (List ℕ)) (rank : ℕ) → AreReady bodies → HaveUpTo t voters rank bodies
+  ready_up_to : (bodies : List (List ℕ)) (rank : ℕ) → AreReady bodies → HaveUpTo (poll t voters) rank bodies
   ready_up_to [] rank ready = tt
   ready_up_to (body ∷ bodies) rank ready =
       (λ u encoding. let zero = least u (ready.0 u encoding) in omega arith, ready_up_to bodies rank ready.1)
@@ -115,37 +117,27 @@ module _ (t : TablesData) (voters : ℕ) where
     abbrev UpTo : List ℕ → Type 0
     UpTo body = (u : State) → IsEncoding t voters u body → rank_of u ≤ rank_of s
 
-    -- none of the bodies that hold a state is above it
-    held_up_to : (bodies : List (List ℕ)) → Hold t voters bodies s → HaveUpTo t voters (rank_of s) bodies
-    held_up_to [] holds = absurd holds
-    held_up_to (body ∷ bodies) (inl first) = (
-      λ u encoding. let same = ap rank_of (one_held t voters tables few (body ∷ []) u s (inl (encoding, tt)) (inl (first.0, tt))) in omega arith,
-      first.1,
-    )
-    held_up_to (body ∷ bodies) (inr behind) =
-        (λ u encoding. let under = behind.0 u encoding in omega arith, held_up_to bodies behind.1)
-
     -- so it is held with bodies of the ready state behind them
-    held_before : (bodies more : List (List ℕ)) → Hold t voters bodies s → AreReady more → Hold t voters (bodies ++ more) s
+    held_before : (bodies more : List (List ℕ)) → Hold (poll t voters) bodies s → AreReady more → Hold (poll t voters) (bodies ++ more) s
     held_before [] more holds ready = absurd holds
     held_before (body ∷ bodies) more (inl first) ready = inl (first.0, both_bodies UpTo bodies more first.1 (ready_up_to more (rank_of s) ready))
     held_before (body ∷ bodies) more (inr behind) ready = inr (behind.0, held_before bodies more behind.1 ready)
 
     -- and before them
-    held_behind : (bodies more : List (List ℕ)) → AreReady bodies → Hold t voters more s → Hold t voters (bodies ++ more) s
+    held_behind : (bodies more : List (List ℕ)) → AreReady bodies → Hold (poll t voters) more s → Hold (poll t voters) (bodies ++ more) s
     held_behind [] more ready holds = holds
     held_behind (body ∷ bodies) more ready holds = go (held_behind bodies more ready.1 holds) (decoded t voters body) refl
       where
-        take_first : Hold t voters (bodies ++ more) s → (u : State) → IsEncoding t voters u body → Hold t voters (body ∷ (bodies ++ more)) s
+        take_first : Hold (poll t voters) (bodies ++ more) s → (u : State) → IsEncoding t voters u body → Hold (poll t voters) (body ∷ (bodies ++ more)) s
         take_first rest u encoding = elim (cases_lt 0 (rank_of s)) [
           | inl above ↦ inr (λ v is. let zero = least v (ready.0 v is) in omega arith, rest)
           | inr zero ↦
-              let s_ready = one_ready t voters s (hold_encoding t voters more s holds).1.state (ready_rank s.phase _ zero) in
+              let s_ready = one_ready t voters s (hold_encoding (poll t voters) more s holds).1.state (ready_rank s.phase _ zero) in
               let same : u ≡ s = ready.0 u encoding ∙ sym s_ready in
-              inl (subst (λ (x : State). IsEncoding t voters x body) same encoding, both_bodies UpTo bodies more (ready_up_to bodies (rank_of s) ready.1) (held_up_to more holds))
+              inl (subst (λ (x : State). IsEncoding t voters x body) same encoding, both_bodies UpTo bodies more (ready_up_to bodies (rank_of s) ready.1) (up_to_held (poll t voters) (decoded t voters) (reads t voters tables few) more (rank_of s) s (omega arith) holds))
         ]
 
-        go : Hold t voters (bodies ++ more) s → (o : Option State) → decoded t voters body ≡ o → Hold t voters (body ∷ (bodies ++ more)) s
+        go : Hold (poll t voters) (bodies ++ more) s → (o : Option State) → decoded t voters body ≡ o → Hold (poll t voters) (body ∷ (bodies ++ more)) s
         go rest None none = inr (λ u is. let known = decoded_back t voters body u tables few is in absurd (cc), rest)
         go rest (Some u) is = take_first rest u (decoded_takes t voters body u tables few is)
 
@@ -166,7 +158,7 @@ spare_is_found t r section s Internal flashes tables is frame =
     let ready = unused_ready t (length r.titles) internal (begins_so t r section Internal internal frame) is.unused in
     record {
       loaded = record { section_fits = is.standing.section_fits; internal_frame = frame; external_frame = is.standing.frame };
-      held = held_behind t (length r.titles) tables few s (open_bodies internal) (open_bodies flashes.external.content) ready is.standing.held;
+      held = held_behind t (length r.titles) tables few s (open_bodies body_size internal) (open_bodies body_size flashes.external.content) ready is.standing.held;
     }
 spare_is_found t r section s External flashes tables is frame =
     let few = few_voters t r section tables is.standing.section_fits in
@@ -174,5 +166,5 @@ spare_is_found t r section s External flashes tables is frame =
     let ready = unused_ready t (length r.titles) external (begins_so t r section External external frame) is.unused in
     record {
       loaded = record { section_fits = is.standing.section_fits; internal_frame = is.standing.frame; external_frame = frame };
-      held = held_before t (length r.titles) tables few s (open_bodies flashes.internal.content) (open_bodies external) is.standing.held ready;
+      held = held_before t (length r.titles) tables few s (open_bodies body_size flashes.internal.content) (open_bodies body_size external) is.standing.held ready;
     }

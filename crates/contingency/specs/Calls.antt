@@ -14,13 +14,15 @@ use Rattle.gate_slot.specs.Device.{OnFlash}
 use Rattle.gate_slot.specs.Front.{IsUpTo}
 use Rattle.image_codec.specs.State.{State}
 use Rattle.twin_image.specs.Slots.{beside}
-use Rattle.state_store.specs.Calls.{FromSyncs, IsFirstOf, IsSynced, IsUntouched, both_synced}
-use Rattle.state_store.specs.Held.{HasFrameOf, HasNoFrame, HoldNone, open_bodies}
+use Rattle.flash_store.specs.Held.{IsFirstOf, HoldNone, open_bodies}
+use Rattle.flash_store.specs.Syncs.{FromSyncs, IsSynced, IsUntouched, both_synced}
+use Rattle.state_store.specs.Held.{HasFrameOf, HasNoFrame, poll}
 use Rattle.state_store.specs.Load.{IsSectionOf, header, load_of}
 use Rattle.state_store.specs.Rest.{IsInUse}
 use Rattle.contingency.specs.Replaced.{IsReplaced, IsStanding, LeavesStanding}
 use Rattle.contingency.specs.Restored.{IsRestored, MayBeWritten}
 use Rattle.contingency.specs.declared.replacement.ReplaceError.{ReplaceError}
+use Rattle.image_codec.specs.Layout.{body_size}
 use Rattle.contingency.specs.declared.replacement.ReplaceError.TheVariants as error
 
 -- All that a replacement does over these flashes, of which the standing one holds a state. The body that it holds is the first of those of
@@ -28,7 +30,7 @@ use Rattle.contingency.specs.declared.replacement.ReplaceError.TheVariants as er
 -- that body; and then the replaced device is loaded with it.
 pub record IsReplacement (t : TablesData) (r : RollData) (section : Section) (s : State) (replaced : Dev) (start : Flashes) (ops : List Op) : Type 0 where
   pub body : List ℕ
-  pub held : IsFirstOf t (length r.titles) s (open_bodies (flash_of (beside replaced) start).content) body
+  pub held : IsFirstOf (poll t (length r.titles)) s (open_bodies body_size (flash_of (beside replaced) start).content) body
   pub writes : List Op
   pub restored : IsRestored t s replaced (header (load_of t r section) replaced) body start writes
   pub in_row : ops ≡ both_synced ++ writes
@@ -46,7 +48,7 @@ pub record Replaces (t : TablesData) (r : RollData) (section : Section) (s : Sta
 pub record IsBare (t : TablesData) (r : RollData) (section : Section) (d : Dev) (content : List ℕ) : Type 0 where
   pub section_fits : IsSectionOf t r section
   pub frame : HasFrameOf t r section d content
-  pub none : HoldNone t (length r.titles) (open_bodies content)
+  pub none : HoldNone (poll t (length r.titles)) (open_bodies body_size content)
 
 -- the device is in use, and the one beside it stands for a state
 pub record IsBusyBeside (t : TablesData) (r : RollData) (section : Section) (d : Dev) (flashes : Flashes) : Type 0 where

@@ -1,11 +1,11 @@
 //! Bringing a device that was replaced to the state that the one beside it holds.
-ghost use Rattle.std.specs.Prelude.{◌≡◌, ◌++◌, List, length, IfOk, IfErr, OnOk};
+ghost use Rattle.std.specs.Prelude.{◌≡◌, ◌++◌, List, IfOk, IfErr, OnOk};
 ghost use Rattle.std.specs.Option.{ForSome};
 ghost use Rattle.urna_outside.specs.Faults.{IsFaultless};
 ghost use Rattle.urna_outside.specs.Flash.{Op};
 ghost use Rattle.urna_outside.specs.Told.{Runs};
 ghost use Rattle.image_codec.specs.Encoding.{IsStateOf};
-ghost use Rattle.state_store.specs.Calls.{both_synced};
+ghost use Rattle.flash_store.specs.Syncs.{both_synced};
 ghost use Rattle.state_store.specs.Load.{IsSectionOf, load_of};
 ghost use Rattle.state_store.specs.Rest.{AreAtRest};
 ghost use Rattle.state_store.specs.Store.{AreDevices};
@@ -14,8 +14,9 @@ ghost use Rattle.contingency.specs.Calls.{FailsToReplace, IsReplacement, Replace
 use crate::find::find;
 use crate::restore::restore;
 use election_tables::{Roll, Section, Tables};
+use flash_store::sync_both;
 use image_codec::State;
-use state_store::{Room, header, sync_both};
+use state_store::{Room, header};
 use std::alloc::Global;
 use urna_outside::{Dev, Machine};
 

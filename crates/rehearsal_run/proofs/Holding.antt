@@ -14,17 +14,19 @@ use Rattle.election_tables.specs.TablesData.{IsTables, TablesData}
 use Rattle.election_tables.specs.declared.tables.sections.Section.{Section}
 use Rattle.image_codec.specs.State.{State}
 use Rattle.state_store.specs.Calls.{AreFound, FailsToLoad}
-use Rattle.state_store.specs.Held.{bodies_of_both}
+use Rattle.flash_store.specs.Held.{bodies_of_both}
 use Rattle.state_store.specs.Load.{load_of}
 use Rattle.state_store.specs.Rest.{IsInUse, device_size}
 use Rattle.state_store.specs.Store.{AreDevices}
 use Rattle.state_store.specs.declared.store.LoadError.{LoadError}
 use Rattle.state_store.specs.declared.store.LoadError.TheVariants as load
 use Rattle.state_store.proofs.Going.{found_once, loaded_once, loaded_or_foreign}
-use Rattle.state_store.proofs.Holding.{hold_or_none}
+use Rattle.flash_store.proofs.Holding.{hold_or_none}
 use Rattle.station.specs.Start.{FailsToStart, IsStarted}
 use Rattle.station.specs.Station.{StationData}
 use Rattle.station.specs.declared.station.StartError.{StartError}
+use Rattle.state_store.specs.Held.{poll}
+use Rattle.image_codec.specs.Layout.{body_size}
 use Rattle.station.specs.declared.station.StartError.TheVariants as start
 
 -- ---- no call fails
@@ -73,7 +75,7 @@ module _ (t : TablesData) (r : RollData) (section : Section) (s : State) (m n : 
   starts (start.Foreign d) h =
       absurd (loaded_or_foreign t r section d (flashes_in m.chips).internal.content (flashes_in m.chips).external.content tables found.loaded (h.1 (flashes_in m.chips) refl))
   starts start.NoImage h =
-      absurd (hold_or_none t (length r.titles) (bodies_of_both (flashes_in m.chips).internal.content (flashes_in m.chips).external.content) s
+      absurd (hold_or_none (poll t (length r.titles)) (bodies_of_both body_size (flashes_in m.chips).internal.content (flashes_in m.chips).external.content) s
       ((h.1.2 (flashes_in m.chips) refl).1) found.held)
 
   -- and it stands at that poll

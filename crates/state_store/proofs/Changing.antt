@@ -1,78 +1,43 @@
 -- What a commit does to the states, and flashes at rest after it.
 use Rattle.std.proofs.Common.{◌≡◌, ℕ, ◌≤◌, Option, Some, List, length, option_map, sym, ap, subst, ◌∙◌, arith}
 use Rattle.std.specs.Option.{ForSome}
-use Rattle.urna_outside.specs.Flash.{Op, flash_of, after}
-use Rattle.urna_outside.specs.Stop.{AtEachStop}
 use Rattle.urna_outside.specs.Told.{Told, Runs, AreSized}
-use Rattle.urna_outside.proofs.Doing.{then_told}
 use Rattle.twin_image.specs.Held.{IsNotOutranked}
 use Rattle.twin_image.specs.Level.{CommitsTo, HasTokens, IsLevel, Stands, body_of}
 use Rattle.twin_image.specs.declared.level.Level.{Level}
 use Rattle.election_tables.specs.Limits.{most_voters}
 use Rattle.election_tables.specs.TablesData.{IsTables, TablesData}
-use Rattle.image_codec.specs.Decoded.{rank_in}
+use Rattle.image_codec.specs.Decoded.{decoded, rank_in}
 use Rattle.image_codec.specs.Encoding.{IsStateOf, encode}
 use Rattle.image_codec.specs.State.{State, rank_of}
 use Rattle.image_codec.specs.Layout.{body_size}
-use Rattle.state_store.specs.Calls.{Commits, KeepFrames}
 use Rattle.state_store.specs.Load.{header}
 use Rattle.state_store.specs.Rest.{AreAtRest}
 use Rattle.state_store.specs.Store.{AreDevices, Keeps, StoreData}
 use Rattle.state_store.specs.declared.load.Load.{Load}
-use Rattle.state_store.proofs.Holding.{IsKnown, hold_either}
-use Rattle.state_store.proofs.Resting.{frames_at_end}
-use Rattle.state_store.proofs.Standing.{AreFramed, level_rests, rest_framed, stands_again}
-use Rattle.state_store.proofs.Stored.{known_state, long_state}
-use Rattle.twin_image.proofs.Laid.{frame_kept}
-
--- the rank of an encoding is that of its state
-pub rank_known : (t : TablesData) (voters : ℕ) (s : State) → IsKnown t voters s → rank_in t voters (encode t s) ≡ Some (rank_of s)
-rank_known t voters s known = ap (option_map rank_of) known
+use Rattle.flash_store.specs.Calls.{Commits}
+use Rattle.flash_store.proofs.Holding.{hold_either, outranks}
+use Rattle.flash_store.proofs.Resting.{rest_framed, rests_after, stands_again}
+use Rattle.state_store.specs.Held.{poll}
+use Rattle.state_store.proofs.Stored.{known_state, long_state, reads}
 
 -- the ranks by the same tables and number of voters, under other names
 pub rank_named : (t tables : TablesData) (voters count : ℕ) → tables ≡ t → count ≡ voters → rank_in t voters ≡ rank_in tables count
 rank_named t tables voters count same as_many = ap (λ (x : TablesData). rank_in x voters) (sym same) ∙ ap (rank_in tables) (sym as_many)
 
--- a state of no lesser rank has an encoding of no lesser rank
-pub outranks : (t : TablesData) (voters : ℕ) (s u : State) → IsKnown t voters s → IsKnown t voters u → rank_of s ≤ rank_of u → IsNotOutranked (rank_in t voters) (encode t u) (encode t s)
-outranks t voters s u s_known u_known below =
-    record {
-      lower = rank_of s;
-      higher = rank_of u;
-      old_rank = rank_known t voters s s_known;
-      new_rank = rank_known t voters u u_known;
-      no_lower = below;
-    }
-
 -- a commit of encodings is one of states
-pub commits : (t : TablesData) (voters : ℕ) (s u : State) (a b : Told) → IsTables t → voters ≤ most_voters → IsKnown t voters s → IsKnown t voters u → Runs (CommitsTo a (rank_in t voters) body_size (encode t s) (encode t u)) a b → Runs (Commits t voters s u a) a b
+pub commits : (t : TablesData) (voters : ℕ) (s u : State) (a b : Told) → IsTables t → voters ≤ most_voters → decoded t voters (encode t s) ≡ Some s → decoded t voters (encode t u) ≡ Some u → Runs (CommitsTo a (rank_in t voters) body_size (encode t s) (encode t u)) a b → Runs (Commits (poll t voters) s u a) a b
 commits t voters s u a b tables few s_known u_known run = (
   run.0,
   run.1,
   record {
     slots = record { within = run.2.within; syncs = run.2.syncs };
     stops = λ start told done stop left is. (
-      hold_either t voters tables few s u s_known u_known left (run.2.stops start told done stop left is),
+      hold_either (poll t voters) (decoded t voters) (reads t voters tables few) s u (encode t s) (encode t u) s_known u_known left (run.2.stops start told done stop left is),
       run.2.frames start told done stop left is,
     );
   },
 )
-
--- what keeps the frames at each stop keeps those of a load
-pub framed_after : (load : Load) (P : List Op → Type 0) (a b : Told) → AreDevices a.sizes → ForSome a.flashes (AreSized a.sizes) → ForSome a.flashes (AreFramed load) → (run : Runs P a b) → ForSome a.flashes (λ start. AtEachStop start run.0 (KeepFrames start))
-    → ForSome b.flashes (AreFramed load)
-framed_after load P a b devices sized framed run keeps =
-    then_told run.0 a b (AreFramed load) run.1 (λ start told d.
-    frame_kept body_size (header load d) (flash_of d start).content (flash_of d (after run.0 start)).content (omega (arith, (sized start told).content d, devices d))
-    (frames_at_end start start run.0 (keeps start told) d) (framed start told d))
-
--- and where all is level at its end, the flashes are at rest
-pub rests_after : (t : TablesData) (load : Load) (u : State) (P : List Op → Type 0) (a b : Told) → AreDevices a.sizes → ForSome a.flashes (AreSized a.sizes) → ForSome b.flashes (AreSized b.sizes) → length (encode t u) ≡ body_size
-    → ForSome a.flashes (AreFramed load) → (run : Runs P a b) → ForSome a.flashes (λ start. AtEachStop start run.0 (KeepFrames start)) → ForSome b.flashes (IsLevel body_size (encode t u)) → ForSome b.flashes (AreAtRest t load u)
-rests_after t load u P a b devices sized sized_b long framed run keeps level =
-    let kept = framed_after load P a b devices sized framed run keeps in
-    let devices_b : AreDevices b.sizes = subst AreDevices (sym run.1.sizes) devices in
-    λ fs told. level_rests t load u b.sizes fs devices_b (sized_b fs told) long (level fs told) (kept fs told)
 
 -- A state whose encoding some bytes are, the one that is written today, is to be followed by one whose encoding other bytes are. The tables and the number of voters
 -- that rank them have names of their own.
@@ -105,10 +70,10 @@ module _ (t tables : TablesData) (voters count : ℕ) (s u : State) (old new : L
   few_voters : voters ≤ most_voters
   few_voters = omega (arith, is.few, is.as_many)
 
-  old_known : IsKnown t voters s
+  old_known : decoded t voters (encode t s) ≡ Some s
   old_known = known_state t voters s is.whole few_voters is.old_state
 
-  new_known : IsKnown t voters u
+  new_known : decoded t voters (encode t u) ≡ Some u
   new_known = known_state t voters u is.whole few_voters is.new_state
 
   old_fills : length (encode t s) ≡ body_size
@@ -127,7 +92,7 @@ module _ (t tables : TablesData) (voters count : ℕ) (s u : State) (old new : L
   followed_outranks below =
       subst (λ (body : List ℕ). IsNotOutranked (rank_in tables count) new body) (sym is.old_body)
       (subst (λ (body : List ℕ). IsNotOutranked (rank_in tables count) body (encode t s)) (sym is.new_body)
-      (subst (λ (rank : List ℕ → Option ℕ). IsNotOutranked rank (encode t u) (encode t s)) same_rank (outranks t voters s u old_known new_known below)))
+      (subst (λ (rank : List ℕ → Option ℕ). IsNotOutranked rank (encode t u) (encode t s)) same_rank (outranks (poll t voters) (decoded t voters) (reads t voters is.whole few_voters) s u (encode t s) (encode t u) old_known new_known below)))
 
   -- what is so of the bytes is so of the encodings
   pub followed_as : (F : List ℕ → List ℕ → Type 0) → F old new → F (encode t s) (encode t u)
@@ -137,7 +102,7 @@ module _ (t tables : TablesData) (voters count : ℕ) (s u : State) (old new : L
   -- flashes at rest with the first state stand for its bytes
   pub followed_stands : (level : Level body_size) (told : Told) (load : Load) → HasTokens level → AreDevices told.sizes → ForSome told.flashes (AreSized told.sizes) → body_of level ≡ old → ForSome told.flashes (AreAtRest t load s) → Stands told level
   followed_stands level told load tokens devices sized holds rest =
-      stands_again t level told load s tokens devices sized old_fills (holds ∙ is.old_body) rest
+      stands_again body_size (header load) (encode t s) old_fills level told tokens devices sized (holds ∙ is.old_body) rest
 
   module _ (a b : Told) (run : Runs (CommitsTo a (rank_in tables count) body_size old new) a b) where
     moved : Runs (CommitsTo a (rank_in t voters) body_size (encode t s) (encode t u)) a b
@@ -147,12 +112,12 @@ module _ (t tables : TablesData) (voters count : ℕ) (s u : State) (old new : L
         (subst (λ (body : List ℕ). Runs (CommitsTo a (rank_in tables count) body_size body new) a b) is.old_body run))
 
     -- at each stop one of the states is held
-    pub followed_commits : Runs (Commits t voters s u a) a b
+    pub followed_commits : Runs (Commits (poll t voters) s u a) a b
     followed_commits = commits t voters s u a b is.whole few_voters old_known new_known moved
 
     -- and where all is level at the end, the flashes are at rest with the second
     pub followed_rests : (load : Load) → AreDevices a.sizes → ForSome a.flashes (AreSized a.sizes) → ForSome b.flashes (AreSized b.sizes) → ForSome a.flashes (AreAtRest t load s) → ForSome b.flashes (IsLevel body_size new) → ForSome b.flashes (AreAtRest t load u)
     followed_rests load devices sized sized_b rest level =
-        rests_after t load u _ a b devices sized sized_b new_fills
-        (λ fs told. rest_framed t load s a.sizes fs devices (sized fs told) old_fills (rest fs told)) run run.2.frames
+        rests_after body_size (header load) (encode t u) _ a b devices sized sized_b new_fills
+        (λ fs told. rest_framed body_size (header load) (encode t s) old_fills a.sizes fs devices (sized fs told) (rest fs told)) run run.2.frames
         (λ fs told. subst (λ (body : List ℕ). IsLevel body_size body fs) is.new_body (level fs told))

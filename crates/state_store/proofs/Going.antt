@@ -3,9 +3,9 @@ use Rattle.std.proofs.Common.{◌≡◌, inl, inr, ℕ, ◌+◌, ◌≤◌, List
 use Rattle.std.specs.Prelude.{Contains, slice_get}
 use Rattle.std.proofs.lemmas.Option.{get_or_from_slice_get, slice_get_within}
 use Rattle.std.proofs.lemmas.List.Elements.{All-contains, Contains-get_or}
-use Rattle.urna_outside.specs.Flash.{Flash, Flashes, IsImage, Op, Sync, after, after_one, part, shown_by, synced}
+use Rattle.urna_outside.specs.Flash.{Flashes, after, part, shown_by}
 use Rattle.urna_outside.specs.Started.{clean_flashes}
-use Rattle.urna_outside.specs.Stop.{IsLeft, IsStop, Left}
+use Rattle.urna_outside.specs.Stop.{Left}
 use Rattle.urna_outside.specs.declared.device.Dev.{Dev}
 use Rattle.urna_outside.specs.declared.device.Dev.TheVariants.{Internal, External}
 use Rattle.election_tables.specs.Limits.{most_voters}
@@ -15,16 +15,20 @@ use Rattle.election_tables.specs.declared.tables.sections.Section.{Section}
 use Rattle.image_codec.specs.State.{State}
 use Rattle.twin_image.proofs.Laid.{frame_kept}
 use Rattle.image_codec.specs.Layout.{body_size}
-use Rattle.state_store.specs.Calls.{AreFound, KeepFrames, both_synced}
-use Rattle.state_store.specs.Held.{HasFrameOf, HeldByBoth, bodies_of_both}
-use Rattle.state_store.specs.Laws.{AreWhole, EndGoesOn, ForeignOnce, IsPollOf, LoadedOnce, LoadedOrForeign, RecoveryGoesOn, SessionGoesOn, SyncsLeaveNoMore}
+use Rattle.state_store.specs.Calls.{AreFound}
+use Rattle.state_store.specs.Held.{HasFrameOf, HeldByBoth, KeepFrames, poll}
+use Rattle.state_store.specs.Laws.{AreWhole, EndGoesOn, ForeignOnce, IsPollOf, LoadedOnce, LoadedOrForeign, RecoveryGoesOn, SessionGoesOn}
 use Rattle.state_store.specs.Load.{IsSectionOf, header, load_of}
-use Rattle.state_store.specs.Played.{IsStateOrNext, Survives}
-use Rattle.state_store.specs.Pieces.{commits_in}
-use Rattle.state_store.proofs.Holding.{one_held}
+use Rattle.state_store.specs.Played.{Survives}
+use Rattle.flash_store.specs.Held.{bodies_of_both}
+use Rattle.flash_store.specs.Pieces.{commits_in}
+use Rattle.flash_store.specs.Played.{IsStateOrNext}
+use Rattle.flash_store.specs.Syncs.{both_synced}
+use Rattle.flash_store.proofs.Holding.{one_held}
+use Rattle.flash_store.proofs.Resting.{at_end}
+use Rattle.image_codec.specs.Decoded.{decoded}
+use Rattle.state_store.proofs.Stored.{reads}
 use Rattle.state_store.proofs.Named.{named_there}
-use Rattle.state_store.proofs.Resting.{at_end}
-use Rattle.urna_outside.proofs.Keeping.{synced_clean}
 
 -- the frame of a device is that of one section
 pub one_section : (t : TablesData) (r : RollData) (section other : Section) (d : Dev) (content : List ℕ) → IsTables t → IsSectionOf t r section → IsSectionOf t r other
@@ -59,7 +63,9 @@ found_few t r section s flashes tables found =
 pub found_once : (t : TablesData) (r : RollData) (section : Section) (s u : State) (flashes : Flashes) → IsTables t → AreFound t r section s flashes
     → HeldByBoth t (length r.titles) flashes.internal.content flashes.external.content u → u ≡ s
 found_once t r section s u flashes tables found also =
-    one_held t (length r.titles) tables (found_few t r section s flashes tables found) (bodies_of_both flashes.internal.content flashes.external.content) u s also found.held
+    let voters = length r.titles in
+    one_held (poll t voters) (decoded t voters) (reads t voters tables (found_few t r section s flashes tables found))
+    (bodies_of_both body_size flashes.internal.content flashes.external.content) u s also found.held
 
 -- the frames stay those of the load
 module _ (t : TablesData) (r : RollData) (section : Section) (s u : State) (states : List State) (start : Flashes) (left : Left) (whole : AreWhole start) (found : AreFound t r section s start)
@@ -137,27 +143,3 @@ end_goes_on t r section s pieces start ops whole found survives =
     whole_end : (end : Flashes) → AreWhole (clean_flashes end.internal.content end.external.content) → AreWhole end
     whole_end end is Internal = is Internal
     whole_end end is External = is External
-
--- ---- before the second sync
-
--- a sync takes images away, and adds none
-synced_image : (f : Flash) (image : List ℕ) → IsImage (synced f) image → IsImage f image
-synced_image f image is = record { same_length = is.same_length; clean = λ k clean. is.clean k (synced_clean f k) }
-
-pub sync_leaves : (d : Dev) (flashes : Flashes) (text : List ℕ) (left : Left) → IsLeft (after_one (Sync d) flashes) text left → IsLeft flashes text left
-sync_leaves Internal flashes text left is = record { internal = synced_image flashes.internal left.internal is.internal; external = is.external; shown = is.shown }
-sync_leaves External flashes text left is = record { internal = is.internal; external = synced_image flashes.external left.external is.external; shown = is.shown }
-
-within_second : (flashes : Flashes) (done : List Op) (left : Left) → IsStop (Sync External ∷ []) done → IsLeft (after done flashes) (shown_by done) left → IsLeft flashes [] left
-within_second flashes [] left stop is = is
-within_second flashes (one ∷ []) left (inl whole) is =
-    sync_leaves External flashes [] left (subst (λ (op : Op). IsLeft (after_one op flashes) (shown_by (op ∷ [])) left) whole.0 is)
-within_second flashes (one ∷ two ∷ done) left (inl whole) is = absurd whole.1
-within_second flashes (one ∷ done) left (inr part) is = absurd part.0
-
-pub syncs_leave_no_more : SyncsLeaveNoMore
-syncs_leave_no_more start [] left stop is = is
-syncs_leave_no_more start (one ∷ done) left (inl whole) is =
-    sync_leaves Internal start [] left
-    (within_second (after_one (Sync Internal) start) done left whole.1 (subst (λ (op : Op). IsLeft (after done (after_one op start)) (shown_by (op ∷ done)) left) whole.0 is))
-syncs_leave_no_more start (one ∷ done) left (inr part) is = absurd part.0

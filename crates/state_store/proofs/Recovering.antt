@@ -1,15 +1,14 @@
 -- A recovery: two syncs, a look at the flashes, a heal, and the change to the encoding that is written today.
-use Rattle.std.proofs.Common.{◌≡◌, inl, inr, ℕ, Option, Some, None, ◌≤◌, List, [], ◌++◌, append_assoc, arith, length, option_map, IsSome, refl, sym, subst}
+use Rattle.std.proofs.Common.{◌≡◌, inl, inr, ℕ, Some, ◌≤◌, List, [], ◌++◌, append_assoc, arith, length, refl, sym, subst}
 use Rattle.std.specs.Option.{ForSome}
 use Rattle.urna_outside.specs.Faults.{EndsAt, IsFaultless}
 use Rattle.urna_outside.specs.Flash.{Op, Flashes, after}
-use Rattle.urna_outside.specs.Stop.{AtEachStop, Left}
+use Rattle.urna_outside.specs.Stop.{AtEachStop}
 use Rattle.urna_outside.specs.Told.{Told, Does, Runs, port_of}
 use Rattle.urna_outside.specs.declared.device.Dev.{Dev}
 use Rattle.urna_outside.specs.declared.device.Dev.TheVariants.{Internal, External}
-use Rattle.urna_outside.proofs.Doing.{does-append, then_told, told_after}
+use Rattle.urna_outside.proofs.Doing.{does-append, told_after}
 use Rattle.urna_outside.proofs.Faults.{ends_later, faultless_trans}
-use Rattle.urna_outside.proofs.Keeping.{synced_clean}
 use Rattle.urna_outside.specs.Told.{AreSized}
 use Rattle.urna_outside.proofs.Courses.{in-append, in_shows}
 use Rattle.urna_outside.proofs.Runs.{syncs-append}
@@ -19,7 +18,6 @@ use Rattle.gate_slot.proofs.Fronts.{up_to_as, up_to_first, up_to_later}
 use Rattle.twin_image.specs.Heal.{Heals, IsHeal}
 use Rattle.twin_image.specs.Level.{IsLevel}
 use Rattle.twin_image.specs.Held.{HoldsBody, held_on}
-use Rattle.twin_image.specs.Slots.{AreClean}
 use Rattle.twin_image.specs.Twin.{IsOfTwin}
 use Rattle.twin_image.proofs.Mending.{cases_bytes}
 use Rattle.twin_image.proofs.Ordering.{renewal_is, renewal_ops, renewals_join}
@@ -29,35 +27,25 @@ use Rattle.election_tables.specs.TablesData.{IsTables, TablesData}
 use Rattle.election_tables.specs.declared.tables.sections.Section.{Section}
 use Rattle.image_codec.specs.Decoded.{decoded, rank_in}
 use Rattle.image_codec.specs.Encoding.{IsEncoding, encode}
-use Rattle.image_codec.specs.State.{State, rank_of}
+use Rattle.image_codec.specs.State.{State}
 use Rattle.image_codec.proofs.Decoding.{decoded_back}
 use Rattle.image_codec.specs.Layout.{body_size}
-use Rattle.state_store.specs.Calls.{AreFound, BringsUp, FailsToPeek, FailsToRecover, IsBroughtUp, IsFirstOf, IsRecovery, IsSynced, KeepFrames, Recovers, both_synced}
+use Rattle.state_store.specs.Calls.{AreFound, BringsUp, FailsToPeek, FailsToRecover, IsBroughtUp, IsRecovery, Recovers}
 use Rattle.state_store.specs.Finding.{EndsFinding}
-use Rattle.state_store.specs.Held.{AreLoaded, HeldByBoth, HeldByNone, IsForeign, bodies_of_both}
-use Rattle.state_store.specs.Load.{IsSectionOf, load_of}
+use Rattle.state_store.specs.Held.{AreLoaded, HeldByBoth, HeldByNone, IsForeign, KeepFrames, poll}
+use Rattle.state_store.specs.Load.{IsSectionOf, header, load_of}
 use Rattle.state_store.specs.Rest.{AreAtRest}
 use Rattle.state_store.specs.Store.{AreDevices}
 use Rattle.state_store.specs.declared.store.StoreError.{StoreError}
 use Rattle.state_store.specs.declared.store.StoreError.TheVariants as store
-use Rattle.state_store.proofs.Changing.{framed_after, rests_after}
-use Rattle.state_store.proofs.Holding.{both_ranked, found_first, found_held}
-use Rattle.state_store.proofs.Putting.{traced}
-use Rattle.state_store.proofs.Resting.{frames_at_end, frames_trans}
-use Rattle.state_store.proofs.Standing.{AreFramed}
-use Rattle.state_store.proofs.Stored.{long_state}
-
--- after both syncs nothing is dirty
-both_clean : (start : Flashes) → AreClean (after both_synced start)
-both_clean start Internal = synced_clean start.internal
-both_clean start External = synced_clean start.external
-
-pub clean_after : (a b : Told) → Does both_synced a b → ForSome b.flashes AreClean
-clean_after a b does = then_told both_synced a b AreClean does (λ start told. both_clean start)
-
--- the syncs change no content
-pub told_before : (a b : Told) (P : List ℕ → List ℕ → Type 0) → Does both_synced a b → ForSome b.flashes (λ fs. P fs.internal.content fs.external.content) → ForSome a.flashes (λ fs. P fs.internal.content fs.external.content)
-told_before a b P does holds start told = holds (after both_synced start) (told_after both_synced a b start does told)
+use Rattle.flash_store.specs.Calls.{KeepsHeld}
+use Rattle.flash_store.specs.Held.{IsFirstOf, bodies_of_both}
+use Rattle.flash_store.specs.Syncs.{IsSynced, both_synced}
+use Rattle.flash_store.proofs.Holding.{held_first, held_state}
+use Rattle.flash_store.proofs.Resting.{AreFramed, frames_at_end, frames_trans, framed_after, rests_after}
+use Rattle.flash_store.proofs.Syncing.{frames_before, told_before}
+use Rattle.flash_store.proofs.Tracing.{traced}
+use Rattle.state_store.proofs.Stored.{long_state, reads}
 
 -- finding no poll behind the syncs
 pub fails_finding : (t : TablesData) (r : RollData) (a b c : Told) (error : StoreError) → IsSynced a b → Does [] b c → EndsFinding t r b c error → FailsToRecover t r a c error
@@ -87,30 +75,18 @@ fails_peeking t r a b c (store.Flash d) synced done ends =
 fails_peeking t r a b c (store.Foreign d) synced done ends = fails_finding t r a b c (store.Foreign d) synced done ends
 fails_peeking t r a b c store.NoImage synced done ends = fails_finding t r a b c store.NoImage synced done ends
 
--- bytes with a rank are a state
-pub ranked_state : (t : TablesData) (voters : ℕ) (body : List ℕ) → IsSome (rank_in t voters body) → (s : State) × (decoded t voters body ≡ Some s)
-ranked_state t voters body ranked = go (decoded t voters body) refl ranked
-  where
-    go : (o : Option State) → decoded t voters body ≡ o → IsSome (option_map rank_of o) → (s : State) × (decoded t voters body ≡ Some s)
-    go None is some = absurd (cc)
-    go (Some s) is some = (s, is)
-
-frames_before : (start : Flashes) (left : Left) → KeepFrames (after both_synced start) left → KeepFrames start left
-frames_before start left keeps Internal = keeps Internal
-frames_before start left keeps External = keeps External
-
 module _ (t : TablesData) (r : RollData) (section : Section) (tables : IsTables t) (few : length r.titles ≤ most_voters) (s : State) (body : List ℕ) (known : decoded t (length r.titles) body ≡ Some s) where
   -- what is held as a body is held as a state
-  held_state : (internal external : List ℕ) → held_on (rank_in t (length r.titles)) body_size internal external ≡ Some body
+  held_now : (internal external : List ℕ) → held_on (rank_in t (length r.titles)) body_size internal external ≡ Some body
       → HeldByBoth t (length r.titles) internal external s
-  held_state internal external is =
-      found_held t (length r.titles) tables few (bodies_of_both internal external) _ (both_ranked t (length r.titles) internal external) body s is known
+  held_now internal external is =
+      held_state (poll t (length r.titles)) (decoded t (length r.titles)) (reads t (length r.titles) tables few) internal external body s known is
 
   -- and it is the first that is an encoding of the state
-  first_state : (internal external : List ℕ) → held_on (rank_in t (length r.titles)) body_size internal external ≡ Some body
-      → IsFirstOf t (length r.titles) s (bodies_of_both internal external) body
-  first_state internal external is =
-      found_first t (length r.titles) tables few (bodies_of_both internal external) _ (both_ranked t (length r.titles) internal external) body s is known
+  first_now : (internal external : List ℕ) → held_on (rank_in t (length r.titles)) body_size internal external ≡ Some body
+      → IsFirstOf (poll t (length r.titles)) s (bodies_of_both body_size internal external) body
+  first_now internal external is =
+      held_first (poll t (length r.titles)) (decoded t (length r.titles)) (reads t (length r.titles) tables few) internal external body s known is
 
   -- what is found behind the syncs was there before them
   pub found_before : (a b : Told) → Does both_synced a b → ForSome b.flashes (λ fs. AreLoaded t r section fs.internal.content fs.external.content)
@@ -118,7 +94,7 @@ module _ (t : TablesData) (r : RollData) (section : Section) (tables : IsTables 
   found_before a b synced loaded held start told =
       let mid = after both_synced start in
       let told_b = told_after both_synced a b start synced told in
-      record { loaded = loaded mid told_b; held = held_state mid.internal.content mid.external.content (held mid told_b) }
+      record { loaded = loaded mid told_b; held = held_now mid.internal.content mid.external.content (held mid told_b) }
 
   -- what the body's change to the encoding that is written today does
   change_is : (ops : List Op) × IsBroughtUp t s body ops
@@ -153,7 +129,7 @@ module _ (t : TablesData) (r : RollData) (section : Section) (tables : IsTables 
         let mid = after both_synced start in
         record {
           body = body;
-          held = first_state mid.internal.content mid.external.content (held mid (told_after both_synced a b start synced told));
+          held = first_now mid.internal.content mid.external.content (held mid (told_after both_synced a b start synced told));
           heal = xs;
           heals = heals;
           change = ys;
@@ -220,10 +196,10 @@ module _ (t : TablesData) (r : RollData) (section : Section) (tables : IsTables 
         let mid = after both_synced start in
         let told_b = told_after both_synced a b start synced told in
         let told_c = told_after [] b c mid done told_b in (
-          record { loaded = loaded mid told_b; held = held_state mid.internal.content mid.external.content (held mid told_b) },
+          record { loaded = loaded mid told_b; held = held_now mid.internal.content mid.external.content (held mid told_b) },
           λ done stop left is. (
-            held_state left.internal left.external ((run.2.stops mid told_c done stop left is).both (rank_in t (length r.titles)) (held mid told_b)),
-            frames_before start left (run.2.frames mid told_c done stop left is),
+            held_now left.internal left.external ((run.2.stops mid told_c done stop left is).both (rank_in t (length r.titles)) (held mid told_b)),
+            frames_before body_size start left (run.2.frames mid told_c done stop left is),
           ),
         )
 
@@ -250,12 +226,12 @@ module _ (t : TablesData) (r : RollData) (section : Section) (tables : IsTables 
                 let told_c = told_after [] b c mid done told_b in
                 let told_d = told_after run.0 c d mid run.1 told_c in
                 let first = recovers_stops start told in
-                let kept = frames_at_end start mid run.0 (λ stop_ops stop left is. (first.1 stop_ops stop left is).1) in (
+                let kept = frames_at_end body_size start mid run.0 (λ stop_ops stop left is. (first.1 stop_ops stop left is).1) in (
                   first.0,
                   stops-append_silent mid run.0 second.0 (λ left. HeldByBoth t (length r.titles) left.internal left.external s × KeepFrames start left) (in_shows (λ d k. IsOfTwin body_size k) run.0 run.2.within) first.1
                       (λ stop_ops stop left is.
                       let then = second.2.stops (after run.0 mid) told_d stop_ops stop left is in
-                      (then.0.both, frames_trans start (after run.0 mid) left kept then.1)),
+                      (then.0.both, frames_trans body_size start (after run.0 mid) left kept then.1)),
                 );
             order = λ trail start told.
                 traced (IsUpTo (IsRecovery t (length r.titles) s start)) a e (both_synced ++ (run.0 ++ second.0)) trail does_both (cut_in_change a b c d synced done held e heals change start told);
@@ -292,7 +268,7 @@ pub up_to_front : (P : List Op → Type 0) (a b : Told) → ForSome a.flashes (�
 up_to_front P a b cut start told = let run = cut start told in (run.0, run.1, inr run.2)
 
 -- the frames of a section's load
-framed_of : (t : TablesData) (r : RollData) (section : Section) (fs : Flashes) → AreLoaded t r section fs.internal.content fs.external.content → AreFramed (load_of t r section) fs
+framed_of : (t : TablesData) (r : RollData) (section : Section) (fs : Flashes) → AreLoaded t r section fs.internal.content fs.external.content → AreFramed body_size (header (load_of t r section)) fs
 framed_of t r section fs loaded Internal = loaded.internal_frame
 framed_of t r section fs loaded External = loaded.external_frame
 
@@ -308,10 +284,29 @@ module _ (t : TablesData) (r : RollData) (section : Section) (tables : IsTables 
       → Runs (Heals c body_size body) c d → Runs (BringsUp t (length r.titles) s d) d e → ForSome e.flashes (IsLevel body_size (encode t s)) → ForSome e.flashes (AreAtRest t (load_of t r section) s)
   rests_brought c d e devices sized sized_d sized_e loaded run second level =
       let load = load_of t r section in
-      let framed = framed_after load _ c d devices sized (λ fs told. framed_of t r section fs (loaded fs told)) run run.2.frames in
-      rests_after t load s _ d e (subst AreDevices (sym run.1.sizes) devices) sized_d sized_e (long_state t (length r.titles) s tables roll.count.1 is.state) framed second
+      let framed = framed_after body_size (header load) _ c d devices sized (λ fs told. framed_of t r section fs (loaded fs told)) run run.2.frames in
+      rests_after body_size (header load) (encode t s) _ d e (subst AreDevices (sym run.1.sizes) devices) sized_d sized_e (long_state t (length r.titles) s tables roll.count.1 is.state) framed second
       (λ start told done stop left at. (second.2.stops start told done stop left at).1) level
 
   -- by the number of those whom the state has
   pub brought_named : (d e : Told) → Runs (BringsUp t (length s.came) s d) d e → Runs (BringsUp t (length r.titles) s d) d e
   brought_named d e run = subst (λ (n : ℕ). Runs (BringsUp t n s d) d e) is.state.roll run
+
+-- what recovers a state keeps it held
+pub recovers_keep : (t : TablesData) (r : RollData) (section : Section) (s : State) (a b : Told) → Runs (λ ops. (rest : List Op) × (ops ≡ both_synced ++ rest) × Recovers t r section s a rest) a b
+    → Runs (λ ops. (rest : List Op) × (ops ≡ both_synced ++ rest) × KeepsHeld (poll t section.voters) s a rest) a b
+recovers_keep t r section s a b (ops, does, (rest, is, recovers)) = (
+  ops,
+  does,
+  (
+    rest,
+    is,
+    record {
+      within = recovers.slots.within;
+      stops = λ start told done stop left leaves.
+          let there = recovers.stops start told in
+          let holds = there.1 done stop left leaves in
+          (subst (λ (n : ℕ). HeldByBoth t n left.internal left.external s) (sym there.0.loaded.section_fits.voters) holds.0, holds.1);
+    },
+  ),
+)

@@ -13,8 +13,11 @@ use Rattle.election_tables.specs.TablesData.{IsTables, TablesData}
 use Rattle.image_codec.specs.Decoded.{decoded, rank_in}
 use Rattle.image_codec.specs.Layout.{body_size}
 use Rattle.image_codec.specs.State.{State, rank_of}
-use Rattle.state_store.specs.Calls.{BringsUp, HoldAll, KeepFrames}
-use Rattle.state_store.proofs.Holding.{hold_all}
+use Rattle.flash_store.specs.Held.{HoldAll}
+use Rattle.flash_store.proofs.Holding.{hold_all}
+use Rattle.state_store.specs.Calls.{BringsUp}
+use Rattle.state_store.specs.Held.{KeepFrames, poll}
+use Rattle.state_store.proofs.Stored.{reads}
 
 module _ (t : TablesData) (voters : ℕ) (tables : IsTables t) (few : voters ≤ most_voters) (s : State) where
   -- a commit of one encoding of a state over another keeps the state
@@ -25,7 +28,7 @@ module _ (t : TablesData) (voters : ℕ) (tables : IsTables t) (few : voters ≤
     record {
       slots = record { within = run.2.within; syncs = run.2.syncs };
       stops = λ start told done stop left is. (
-        hold_all t voters tables few s old new old_is new_is left (run.2.stops start told done stop left is),
+        hold_all (poll t voters) (decoded t voters) (reads t voters tables few) s old new old_is new_is left (run.2.stops start told done stop left is),
         run.2.frames start told done stop left is,
       );
     },
@@ -38,9 +41,9 @@ module _ (t : TablesData) (voters : ℕ) (tables : IsTables t) (few : voters ≤
         let image = left_image d start [] left is in
         record { same_length = image.same_length; bytes = λ k out. image.clean k (level.clean d k) }
 
-    none_done : (start : Flashes) → IsLevel body_size body start → AtEachStop start [] (λ left. HoldAll t voters s left × KeepFrames start left)
+    none_done : (start : Flashes) → IsLevel body_size body start → AtEachStop start [] (λ left. HoldAll (poll t voters) s left × KeepFrames start left)
     none_done start level [] stop left is = (
-      hold_all t voters tables few s body body known known left (level_holds (rank_in t voters) body_size body (rank_of s) (ap (option_map rank_of) known) long start level left is.internal is.external),
+      hold_all (poll t voters) (decoded t voters) (reads t voters tables few) s body body known known left (level_holds (rank_in t voters) body_size body (rank_of s) (ap (option_map rank_of) known) long start level left is.internal is.external),
       keeps_clean start left level is,
     )
     none_done start level (one ∷ done) stop left is = absurd stop

@@ -5,6 +5,7 @@ use Rattle.election_tables.specs.TablesData.{IsTables, TablesData}
 use Rattle.vote_kinds.specs.Ballot.{ballot_lines}
 use Rattle.vote_kinds.specs.declared.choice.Choice.{Choice}
 use Rattle.gate_slot.specs.Page.{changed_pages, page_size}
+use Rattle.flash_store.specs.Played.{bytes_along as bytes_along_of}
 use Rattle.image_codec.specs.Encoding.{IsStateOf, encode}
 use Rattle.image_codec.specs.State.{IsBallot, State, opened_at, sealed_at, with_ballot}
 
@@ -15,8 +16,7 @@ commit_bytes t s u = 4 * (page_size * length (changed_pages (encode t s) (encode
 
 -- and the commits of these states, each over the one before it
 abbrev pub bytes_along : TablesData → State → List State → ℕ
-bytes_along t s [] = 0
-bytes_along t s (u ∷ states) = commit_bytes t s u + bytes_along t u states
+bytes_along t s states = bytes_along_of (commit_bytes t) s states
 
 -- each of these states costs at most so many bytes over the one before it
 abbrev pub CostAtMost : TablesData → ℕ → State → List State → Type 0

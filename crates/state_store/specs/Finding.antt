@@ -6,7 +6,7 @@ use Rattle.urna_outside.specs.Told.{Told, port_of}
 use Rattle.election_tables.specs.Roll.{RollData}
 use Rattle.election_tables.specs.TablesData.{TablesData}
 use Rattle.election_tables.specs.declared.tables.sections.Section.{Section}
-use Rattle.state_store.specs.Calls.{IsBusy}
+use Rattle.state_store.specs.Rest.{IsBusy}
 use Rattle.state_store.specs.Held.{AreLoaded, IsForeign, HeldByNone}
 use Rattle.state_store.specs.Load.{IsSectionOf}
 use Rattle.state_store.specs.declared.store.LoadError.{LoadError}

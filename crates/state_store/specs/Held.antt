@@ -1,14 +1,15 @@
--- What flashes hold: the frame of a load, and the state of greatest rank that stands in their slots
-use Rattle.std.specs.Prelude.{◌⊎◌, ℕ, ◌<◌, ◌≤◌, ◌==◌, if◌then◌else◌, List, [], ◌∷◌, ◌++◌}
-use Rattle.std.specs.List.{AllByRecursion}
+-- What flashes hold: the frame of a load, and a state of a poll
+use Rattle.std.specs.Prelude.{ℕ, List}
+use Rattle.urna_outside.specs.Flash.{Flashes}
+use Rattle.urna_outside.specs.Stop.{Left}
 use Rattle.urna_outside.specs.declared.device.Dev.{Dev}
 use Rattle.urna_outside.specs.declared.device.Dev.TheVariants.{Internal, External}
 use Rattle.election_tables.specs.Roll.{RollData}
 use Rattle.election_tables.specs.TablesData.{TablesData}
 use Rattle.election_tables.specs.declared.tables.sections.Section.{Section}
-use Rattle.gate_slot.specs.Slot.{open_gate, gate_in, body_in}
 use Rattle.twin_image.specs.Frame.{HasFrame}
-use Rattle.image_codec.specs.Encoding.{IsEncoding, IsNoEncoding}
+use Rattle.flash_store.specs.Held.{Codec, HeldAlone as HeldAloneOf, HeldByBoth as HeldByBothOf, HeldByNone as HeldByNoneOf, KeepFrames as KeepFramesOf}
+use Rattle.image_codec.specs.Encoding.{IsEncoding}
 use Rattle.image_codec.specs.State.{State, rank_of}
 use Rattle.image_codec.specs.Layout.{body_size}
 use Rattle.state_store.specs.Load.{IsSectionOf, header, load_of}
@@ -35,42 +36,22 @@ IsForeign t r External internal external =
 
 -- ---- the held state
 
--- the body of a slot, if its gate is open
-abbrev pub open_body : ℕ → List ℕ → List (List ℕ)
-open_body index image = if gate_in body_size index image == open_gate then body_in body_size index image ∷ [] else []
-
--- the bodies of the open slots of an image, in order
-unfoldable pub open_bodies : List ℕ → List (List ℕ)
-open_bodies image = open_body 0 image ++ open_body 1 image
-
--- no state whose encoding is among these bodies has a rank above this one
-abbrev pub HaveUpTo : TablesData → ℕ → ℕ → List (List ℕ) → Type 0
-HaveUpTo t voters rank bodies = AllByRecursion (λ body. (u : State) → IsEncoding t voters u body → rank_of u ≤ rank) bodies
-
--- Among these bodies, in their order, is the encoding of this state. No state of a greater rank stands behind it, and none of its
--- rank or a greater one before it.
-abbrev pub Hold : TablesData → ℕ → List (List ℕ) → State → Type 0
-Hold t voters [] s = ⊥
-Hold t voters (body ∷ bodies) s =
-    (IsEncoding t voters s body × HaveUpTo t voters (rank_of s) bodies)
-    ⊎ (((u : State) → IsEncoding t voters u body → rank_of u < rank_of s) × Hold t voters bodies s)
-
--- none of these bodies is the encoding of a state
-abbrev pub HoldNone : TablesData → ℕ → List (List ℕ) → Type 0
-HoldNone t voters bodies = AllByRecursion (IsNoEncoding t voters) bodies
-
--- the bodies of the open slots of both images: internal 0, internal 1, external 0, external 1
-abbrev pub bodies_of_both : List ℕ → List ℕ → List (List ℕ)
-bodies_of_both internal external = open_bodies internal ++ open_bodies external
+-- how the states of a poll of these tables with so many voters are written: in either version
+abbrev pub poll : TablesData → ℕ → Codec State
+poll t voters = record { size = body_size; IsEncoding = IsEncoding t voters; rank = rank_of }
 
 -- both images together hold this state of a poll of these tables with so many voters
 abbrev pub HeldByBoth : TablesData → ℕ → List ℕ → List ℕ → State → Type 0
-HeldByBoth t voters internal external s = Hold t voters (bodies_of_both internal external) s
+HeldByBoth t voters internal external s = HeldByBothOf (poll t voters) internal external s
 
 -- no state stands in their slots
 abbrev pub HeldByNone : TablesData → ℕ → List ℕ → List ℕ → Type 0
-HeldByNone t voters internal external = HoldNone t voters (bodies_of_both internal external)
+HeldByNone t voters internal external = HeldByNoneOf (poll t voters) internal external
 
 -- one image alone holds this state
 abbrev pub HeldAlone : TablesData → ℕ → List ℕ → State → Type 0
-HeldAlone t voters image s = Hold t voters (open_bodies image) s
+HeldAlone t voters image s = HeldAloneOf (poll t voters) image s
+
+-- each image has its device's frame
+abbrev pub KeepFrames : Flashes → Left → Type 0
+KeepFrames start left = KeepFramesOf body_size start left

@@ -2,9 +2,9 @@
 use Rattle.std.specs.Prelude.{◌≡◌, ◌⊎◌, ◌↔◌, ◌≤◌, ◌*◌, ℕ, List, [], ◌∷◌, Option, Some, None, IsSome, length, Contains}
 use Rattle.std.specs.Option.{option_and_then}
 use Rattle.urna_outside.specs.Confined.{count_syncs}
-use Rattle.urna_outside.specs.Flash.{Flashes, Op, after, flash_of, shown_by}
+use Rattle.urna_outside.specs.Flash.{Flashes, Op, after, flash_of}
 use Rattle.urna_outside.specs.Started.{clean_flashes}
-use Rattle.urna_outside.specs.Stop.{AtEachStop, IsLeft, IsStop, Left}
+use Rattle.urna_outside.specs.Stop.{AtEachStop, Left}
 use Rattle.urna_outside.specs.Told.{Told}
 use Rattle.urna_outside.specs.declared.device.Dev.{Dev}
 use Rattle.urna_outside.specs.declared.device.Dev.TheVariants.{Internal, External}
@@ -19,14 +19,19 @@ use Rattle.image_codec.specs.State.{State}
 use Rattle.gate_slot.specs.Page.{put_bytes}
 use Rattle.twin_image.specs.Held.{held_on}
 use Rattle.twin_image.specs.Held.{held_alone as body_alone}
+use Rattle.flash_store.specs.Held.{Hold, HoldNone, bodies_of_both, open_bodies}
+use Rattle.flash_store.specs.Pieces.{commits_in}
+use Rattle.flash_store.specs.Played.{AreInOrder, AreInOrderTo, shows_in}
+use Rattle.flash_store.specs.Syncs.{both_synced}
 use Rattle.image_codec.specs.Layout.{body_size}
-use Rattle.state_store.specs.Calls.{AreFound, KeepFrames, both_synced}
+use Rattle.state_store.specs.Calls.{AreFound}
 use Rattle.state_store.specs.Cost.{bytes_along}
-use Rattle.state_store.specs.Held.{AreLoaded, HeldByBoth, Hold, HoldNone, IsForeign, bodies_of_both, open_bodies}
+use Rattle.state_store.specs.Held.{AreLoaded, HeldByBoth, IsForeign, KeepFrames, poll}
 use Rattle.state_store.specs.Load.{IsSectionOf, load_of}
-use Rattle.state_store.specs.Played.{AreInOrder, AreInOrderTo, Survives, shows_in}
+use Rattle.state_store.specs.Played.{Survives, kept_poll}
 use Rattle.state_store.specs.Rest.{AreAtRest, device_size}
-use Rattle.state_store.specs.Pieces.{Piece, commits_in}
+use Rattle.state_store.specs.Pieces.{Piece}
+use Rattle.state_store.specs.declared.load.Load.{Load}
 
 -- two flashes are loaded for one section at most
 abbrev pub LoadedOnce : Type 0
@@ -68,8 +73,8 @@ SessionGoesOn =
 -- them off.
 abbrev pub CostsAreBounded : Type 0
 CostsAreBounded =
-    (t : TablesData) (told : Told) (at : Port) (s : State) (pieces : List Piece) (ops : List Op)
-    → AreInOrder t told s pieces ops ⊎ AreInOrderTo t told at s pieces ops
+    (t : TablesData) (load : Load) (told : Told) (at : Port) (s : State) (pieces : List Piece) (ops : List Op)
+    → AreInOrder (kept_poll t load) told s pieces ops ⊎ AreInOrderTo (kept_poll t load) told at s pieces ops
     → (count_syncs ops ≤ 12 * length (commits_in pieces)) × (IsSome told.trail → put_bytes ops ≤ bytes_along t s (commits_in pieces))
     × (commits_in pieces ≡ [] → ops ≡ shows_in ops)
 
@@ -83,19 +88,19 @@ RecoveryGoesOn =
 -- together, and of each alone. Where it makes none, none is held.
 abbrev pub IsDecodedFrom : TablesData → ℕ → List (List ℕ) → Option State → Type 0
 IsDecodedFrom t voters bodies answer =
-    ((s : State) → Hold t voters bodies s ↔ (answer ≡ Some s)) × (HoldNone t voters bodies ↔ (answer ≡ None))
+    ((s : State) → Hold (poll t voters) bodies s ↔ (answer ≡ Some s)) × (HoldNone (poll t voters) bodies ↔ (answer ≡ None))
 
 abbrev pub HeldIsDecoded : Type 0
 HeldIsDecoded =
     (t : TablesData) (voters : ℕ) (internal external : List ℕ) → IsTables t → voters ≤ most_voters
-    → IsDecodedFrom t voters (bodies_of_both internal external) (option_and_then (decoded t voters) (held_on (rank_in t voters) body_size internal external))
-    × IsDecodedFrom t voters (open_bodies internal) (option_and_then (decoded t voters) (body_alone (rank_in t voters) body_size internal))
+    → IsDecodedFrom t voters (bodies_of_both body_size internal external) (option_and_then (decoded t voters) (held_on (rank_in t voters) body_size internal external))
+    × IsDecodedFrom t voters (open_bodies body_size internal) (option_and_then (decoded t voters) (body_alone (rank_in t voters) body_size internal))
 
 -- one state is held at most
 abbrev pub OneIsHeld : Type 0
 OneIsHeld =
     (t : TablesData) (voters : ℕ) (bodies : List (List ℕ)) (s u : State) → IsTables t → voters ≤ most_voters
-    → Hold t voters bodies s → Hold t voters bodies u → s ≡ u
+    → Hold (poll t voters) bodies s → Hold (poll t voters) bodies u → s ≡ u
 
 -- Flashes at rest with a state of a poll are a poll that the next call finds: so is what a load leaves, and a session that is held.
 abbrev pub RestIsFound : Type 0
@@ -110,8 +115,3 @@ EndGoesOn =
     → AreFound t r section s start → AtEachStop (after both_synced start) ops (Survives t (load_of t r section) s pieces start)
     → (u : State) × Contains (s ∷ commits_in pieces) u × AreWhole (after ops (after both_synced start))
     × AreFound t r section u (after ops (after both_synced start))
-
--- Where the power stops a call before its second sync, it leaves what it might have left before the call, and nothing was shown.
-abbrev pub SyncsLeaveNoMore : Type 0
-SyncsLeaveNoMore =
-    (start : Flashes) (done : List Op) (left : Left) → IsStop both_synced done → IsLeft (after done start) (shown_by done) left → IsLeft start [] left

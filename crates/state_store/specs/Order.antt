@@ -1,15 +1,13 @@
 -- In which order a commit and a load go through the slots
-use Rattle.std.specs.Prelude.{◌≡◌, List, ◌++◌}
+use Rattle.std.specs.Prelude.{List}
 use Rattle.urna_outside.specs.Flash.{Op, Flashes}
-use Rattle.urna_outside.specs.declared.device.Dev.TheVariants.{Internal, External}
 use Rattle.election_tables.specs.TablesData.{TablesData}
 use Rattle.image_codec.specs.Encoding.{encode}
 use Rattle.image_codec.specs.State.{State}
 use Rattle.gate_slot.specs.Front.{IsFrontOfSome}
-use Rattle.twin_image.specs.Lay.{load_ops}
+use Rattle.flash_store.specs.InUse.{IsLoad as IsLoadOf}
 use Rattle.twin_image.specs.Order.{AreRenewals}
 use Rattle.image_codec.specs.Layout.{body_size}
-use Rattle.state_store.specs.Calls.{both_synced}
 use Rattle.state_store.specs.Load.{header}
 use Rattle.state_store.specs.declared.load.Load.{Load}
 
@@ -19,12 +17,9 @@ use Rattle.state_store.specs.declared.load.Load.{Load}
 abbrev pub IsCommit : TablesData → State → State → List Op → Type 0
 IsCommit t s u ops = AreRenewals body_size (encode t s) (encode t u) ops
 
--- All that a load with a state does over these flashes: both are synced, and then the internal one is loaded and after it the external
--- one. Of each the gates that read open are shut, both bodies are put, header and paddings are written, and both gates are opened.
--- Header and paddings are synced together, every other write by itself.
+-- All that a load with a state does over these flashes.
 abbrev pub IsLoad : TablesData → Load → State → Flashes → List Op → Type 0
-IsLoad t load s start ops =
-    ops ≡ both_synced ++ load_ops body_size (header load Internal) (header load External) (encode t s) start
+IsLoad t load s start ops = IsLoadOf body_size (header load) (encode t s) start ops
 
 -- a front of such a load: its first operations as they are, and of the next one a part or nothing
 abbrev pub IsFrontOfLoad : TablesData → Load → State → Flashes → List Op → Type 0

@@ -1,70 +1,27 @@
-//! Looking at the frame of a device: its header and the paddings behind its gates.
-ghost use Rattle.std.specs.Prelude.{◌≡◌, ◌≤◌, ◌+◌, ◌↔◌, [], length, take, drop, IsTrue, IfOk, IfErr, IfSome, IfNone, MatchResult};
+//! The section whose load the frames of the devices tell.
+ghost use Rattle.std.specs.Prelude.{◌≡◌, [], take, drop, IfOk, IfErr, IfSome, IfNone, MatchResult};
 ghost use Rattle.std.specs.Int.{w32, from_be_bytes};
 ghost use Rattle.std.specs.Option.{ForSome};
 ghost use Rattle.urna_outside.specs.Faults.{FailsAt, IsFaultless};
-ghost use Rattle.urna_outside.specs.Flash.{flash_of, part};
+ghost use Rattle.urna_outside.specs.Flash.{flash_of};
 ghost use Rattle.urna_outside.specs.Told.{Does, port_of, size_of};
 ghost use Rattle.urna_outside.specs.declared.device.Dev.TheVariants as dev;
 ghost use Rattle.election_tables.specs.TablesData.{IsTables, section_with};
-ghost use Rattle.gate_slot.specs.Slot.{header_size};
-ghost use Rattle.twin_image.specs.Frame.{HasFrame};
 ghost use Rattle.urna_outside.specs.declared.device.Dev.{Dev};
-ghost use Rattle.image_codec.specs.Layout.{body_size};
 ghost use Rattle.state_store.specs.Held.{AreLoaded, HasFrameOf, HasNoFrame, IsForeign};
 ghost use Rattle.state_store.specs.Looking.{EndsLooking};
 ghost use Rattle.state_store.specs.Load.{IsSectionOf};
 ghost use Rattle.state_store.specs.Rest.{device_size};
 
-use crate::layout::{FIRST_PADDING, SECOND_PADDING};
 use crate::load::header;
 use election_tables::{Roll, Section, Tables};
-use gate_slot::{HEADER_SIZE, PADDING_SIZE};
+use flash_store::has_frame;
+use image_codec::BODY_SIZE;
 use urna_base::be32;
 use urna_outside::{Dev, Machine};
 
-const PADDING: [u8; PADDING_SIZE] = [0; PADDING_SIZE];
-
 /// Where the zone and the section stand in a header, in four bytes each.
 const ZONE: u32 = 9;
-
-/// Whether these bytes, at most as many as a header has, stand on a device from an offset on. It reads and does nothing else.
-pub(crate) fn stand_at<M: Machine>(m: &mut M, dev: Dev, at: u32, bytes: &[u8]) -> Result<bool, Dev>
-    requires range { at + length bytes.now ≤ size_of dev (M.told m.old).sizes }
-    requires short { length bytes.now ≤ header_size }
-    ensures stand { IfOk result (λ stand. ForSome (M.told m.old).flashes
-        (λ flashes. IsTrue stand ↔ (part (flash_of dev flashes).content at (length bytes.now) ≡ bytes.now))) }
-    ensures dev { IfErr result (λ failed. failed ≡ dev) }
-    ensures done { Does [] (M.told m.old) (M.told m.new) }
-    ensures fails { FailsAt port_of result (M.told m.old) (M.told m.new) }
-{
-    let mut buffer = [0; HEADER_SIZE];
-    let read = &mut buffer[..bytes.len()];
-    match m.read(dev, at, read) {
-        Ok(()) => Ok(*read == *bytes),
-        Err(_) => Err(dev),
-    }
-}
-
-/// Whether a device has this header, and zeros behind both gates. It reads and does nothing else.
-#[tactic(auto, using(crate::proofs::Looking::looked, crate::proofs::Looking::looked_twice, urna_outside::proofs::Faults::fails_later))]
-fn has_frame<M: Machine>(m: &mut M, dev: Dev, header: &[u8; HEADER_SIZE]) -> Result<bool, Dev>
-    requires { size_of dev (M.told m.old).sizes ≡ device_size }
-    ensures frame { IfOk result (λ has. ForSome (M.told m.old).flashes
-        (λ flashes. IsTrue has ↔ HasFrame body_size header.now (flash_of dev flashes).content)) }
-    ensures dev { IfErr result (λ failed. failed ≡ dev) }
-    ensures done { Does [] (M.told m.old) (M.told m.new) }
-    ensures fails { FailsAt port_of result (M.told m.old) (M.told m.new) }
-{
-    if !stand_at(m, dev, 0, header)? {
-        return Ok(false);
-    }
-    if !stand_at(m, dev, FIRST_PADDING, &PADDING)? {
-        return Ok(false);
-    }
-    let padded = stand_at(m, dev, SECOND_PADDING, &PADDING)?;
-    Ok(padded)
-}
 
 /// The section of the tables whose zone and number are written in eight bytes.
 fn section_at(tables: &Tables, place: [u8; 8]) -> Option<Section>
@@ -105,7 +62,7 @@ pub fn named_section<M: Machine>(
     if section.voters != roll.len() {
         return Ok(None);
     }
-    if !has_frame(m, dev, &header(tables, roll, section, dev))? {
+    if !has_frame::<M, BODY_SIZE>(m, dev, &header(tables, roll, section, dev))? {
         return Ok(None);
     }
     Ok(Some(section))
@@ -145,7 +102,7 @@ pub(crate) fn loaded_section<M: Machine>(
         return Err(FrameError::Foreign(Dev::Internal));
     };
     let header = header(tables, roll, section, Dev::External);
-    match has_frame(m, Dev::External, &header) {
+    match has_frame::<M, BODY_SIZE>(m, Dev::External, &header) {
         Ok(true) => Ok(section),
         Ok(false) => Err(FrameError::Foreign(Dev::External)),
         Err(dev) => Err(FrameError::Flash(dev)),

@@ -1,40 +1,23 @@
 //! Whether a device is in use, so that it may not be loaded.
-ghost use Rattle.std.specs.Prelude.{◌≡◌, ◌<◌, ◌↔◌, [], slice_index, IsTrue, IfOk, IfErr, OnOk};
+ghost use Rattle.std.specs.Prelude.{◌≡◌, ◌<◌, ◌↔◌, [], IsTrue, IfOk, IfErr, OnOk};
 ghost use Rattle.std.specs.Option.{ForSome};
 ghost use Rattle.urna_outside.specs.Faults.{FailsAt, IsFaultless};
 ghost use Rattle.urna_outside.specs.Flash.{flash_of};
 ghost use Rattle.urna_outside.specs.Told.{Does, port_of, size_of};
-ghost use Rattle.state_store.specs.Calls.{AreFree};
+ghost use Rattle.state_store.specs.Rest.{AreFree};
 ghost use Rattle.state_store.specs.Finding.{EndsTesting};
 ghost use Rattle.state_store.specs.Store.{AreDevices};
 ghost use Rattle.state_store.specs.Rest.{IsInUse, IsUsed, device_size};
 
-use crate::frame::stand_at;
 use crate::layout::{FIRST_GATE, PHASE, SLOT_SIZE};
 use crate::load::MAGIC;
 use crate::store::LoadError;
+use flash_store::{byte_at, stand_at};
 use gate_slot::OPEN;
 use urna_outside::{Dev, Machine};
 
-/// The byte of a device at an offset.
-#[tactic(auto, using(crate::proofs::Bytes::only_byte))]
-fn byte_at<M: Machine>(m: &mut M, dev: Dev, at: u32) -> Result<u8, Dev>
-    requires { at < size_of dev (M.told m.old).sizes }
-    ensures byte { IfOk result (λ byte. ForSome (M.told m.old).flashes
-        (λ flashes. byte ≡ slice_index (flash_of dev flashes).content at)) }
-    ensures dev { IfErr result (λ failed. failed ≡ dev) }
-    ensures done { Does [] (M.told m.old) (M.told m.new) }
-    ensures fails { FailsAt port_of result (M.told m.old) (M.told m.new) }
-{
-    let mut byte = [0; 1];
-    match m.read(dev, at, &mut byte) {
-        Ok(()) => Ok(byte[0]),
-        Err(_) => Err(dev),
-    }
-}
-
 /// Whether a slot is open over the body of a poll that was opened or sealed.
-#[tactic(auto, using(crate::proofs::Looking::looked_twice))]
+#[tactic(auto, using(flash_store::proofs::Looking::looked_twice))]
 fn is_used<M: Machine>(m: &mut M, dev: Dev, index: u8) -> Result<bool, Dev>
     requires index { index < 2 }
     requires size { size_of dev (M.told m.old).sizes ≡ device_size }
@@ -55,7 +38,7 @@ fn is_used<M: Machine>(m: &mut M, dev: Dev, index: u8) -> Result<bool, Dev>
 /// Whether a device is in use: it begins with the magic, and one of its slots is used. It reads and does nothing else.
 ///
 /// The caller owes that the device has the size of a flash. The device is answered only where its count of faults rose.
-#[tactic(auto, using(crate::proofs::Looking::looked_twice))]
+#[tactic(auto, using(flash_store::proofs::Looking::looked_twice))]
 pub fn is_in_use<M: Machine>(m: &mut M, dev: Dev) -> Result<bool, Dev>
     requires { size_of dev (M.told m.old).sizes ≡ device_size }
     ensures used { IfOk result (λ used. ForSome (M.told m.old).flashes

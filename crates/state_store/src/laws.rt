@@ -1,7 +1,7 @@
 //! Laws of what is found on two flashes, and of sessions over them (`specs/Laws.antt`). Each function here does nothing: its
 //! contract is the law.
 ghost use Rattle.state_store.specs.Cost.{BallotCostsFew, OpeningCostsOnePage, SealingCostsOnePage};
-ghost use Rattle.state_store.specs.Laws.{CostsAreBounded, EndGoesOn, ForeignOnce, HeldIsDecoded, LoadedOnce, LoadedOrForeign, OneIsHeld, RecoveryGoesOn, RestIsFound, SessionGoesOn, SyncsLeaveNoMore};
+ghost use Rattle.state_store.specs.Laws.{CostsAreBounded, EndGoesOn, ForeignOnce, HeldIsDecoded, LoadedOnce, LoadedOrForeign, OneIsHeld, RecoveryGoesOn, RestIsFound, SessionGoesOn};
 
 /// Two flashes are loaded for one section at most; loaded flashes are not foreign; and not both sides are.
 pub fn one_finding()
@@ -17,14 +17,12 @@ pub fn one_held()
 {}
 
 /// Wherever the power stops a recovery or a session, or where a session ends, what is left is a poll of the same section: the next
-/// call finds devices of their size, the frames of the load, and a state that both flashes hold. So it is with flashes at rest. A stop
-/// before the second sync leaves no more than there was before the call.
+/// call finds devices of their size, the frames of the load, and a state that both flashes hold. So it is with flashes at rest.
 pub fn goes_on()
     ensures session { SessionGoesOn }
     ensures recovery { RecoveryGoesOn }
     ensures ended { EndGoesOn }
     ensures rest { RestIsFound }
-    ensures syncs { SyncsLeaveNoMore }
 {}
 
 /// What a session does is bounded: at most 12 syncs for each state that its lines tell, and nothing but shows where they tell none. And

@@ -11,10 +11,5 @@ pub(crate) const FIRST_GATE: u32 = HEADER_SIZE as u32;
 
 pub(crate) const SLOT_SIZE: u32 = (FRONT_SIZE + BODY_SIZE) as u32;
 
-/// Where the padding behind the gate of slot 0 begins, and that of slot 1.
-pub(crate) const FIRST_PADDING: u32 = FIRST_GATE + 1;
-
-pub(crate) const SECOND_PADDING: u32 = FIRST_PADDING + SLOT_SIZE;
-
 /// How far behind a gate the phase byte of its slot's body stands.
 pub(crate) const PHASE: u32 = (FRONT_SIZE + PHASE_OFFSET) as u32;

@@ -3,8 +3,8 @@
 //! `Store::format` loads both flashes with a poll before it begins, `Store::recover` finds the poll that they hold after
 //! any power cut, and `Store::commit` brings both to a state of greater rank. `specs/Held.antt` says what flashes hold,
 //! `specs/Rest.antt` when they are at rest or in use, `specs/Calls.antt` what the calls do, also where the power goes,
-//! `specs/Order.antt` in which order. What a call needs besides that works on one device stands beside them: `sync_both`,
-//! `named_section`, `Ranks`, `is_in_use`, and `Room`, which is all the memory.
+//! `specs/Order.antt` in which order. What a call needs besides that works on one device stands beside them: `named_section`,
+//! `Ranks`, `is_in_use`, and `Room`, which is all the memory.
 #![tactic(auto)]
 
 mod find;
@@ -16,7 +16,6 @@ mod load;
 mod ranks;
 mod room;
 mod store;
-mod sync;
 mod version;
 
 pub use frame::named_section;
@@ -26,4 +25,3 @@ pub use load::header;
 pub use ranks::Ranks;
 pub use room::Room;
 pub use store::{LoadError, Store, StoreError};
-pub use sync::sync_both;

@@ -9,11 +9,13 @@ ghost use Rattle.twin_image.specs.Rewrite.{PutsAtMost};
 ghost use Rattle.image_codec.specs.Encoding.{IsStateOf};
 ghost use Rattle.image_codec.specs.State.{State};
 ghost use Rattle.image_codec.specs.Valid.{ready_state};
-ghost use Rattle.state_store.specs.Calls.{AreFound, Commits, FailsToLoad, FailsToPeek, FailsToRecover, IsRecovery, IsSynced, Loads, Recovers, both_synced};
+ghost use Rattle.flash_store.specs.Calls.{Commits};
+ghost use Rattle.flash_store.specs.Syncs.{IsSynced, both_synced};
+ghost use Rattle.state_store.specs.Calls.{AreFound, FailsToLoad, FailsToPeek, FailsToRecover, IsRecovery, Loads, Recovers};
+ghost use Rattle.state_store.specs.Held.{poll};
 ghost use Rattle.state_store.specs.Cost.{commit_bytes};
 ghost use Rattle.state_store.specs.Load.{IsSectionOf, load_of};
 ghost use Rattle.state_store.specs.Order.{IsCommit, IsLoad};
-ghost use Rattle.state_store.specs.Rest.{AreAtRest};
 ghost use Rattle.state_store.specs.Store.{AreDevices, IsBelow, IsLoadedWith, Keeps};
 
 use crate::find::find;
@@ -21,9 +23,9 @@ use crate::in_use::test_free;
 use crate::load::Load;
 use crate::ranks::Ranks;
 use crate::room::Room;
-use crate::sync::sync_both;
 use crate::version::bring_up;
 use election_tables::{Roll, Section, Tables};
+use flash_store::sync_both;
 use image_codec::{BODY_SIZE, State, encode_into};
 use std::alloc::Global;
 use std::marker::Model;
@@ -224,7 +226,7 @@ impl Store {
         ensures load { IfOk result (λ store. store.load ≡ self.load) }
         ensures kept { IfOk result (λ store. Keeps tables.now (M.told m.new) store state.now) }
         ensures ran { (s : State) → Keeps tables.now (M.told m.old) self s
-            → Runs (Commits tables.now self.load.section.voters s state.now (M.told m.old)) (M.told m.old) (M.told m.new) }
+            → Runs (Commits (poll tables.now self.load.section.voters) s state.now (M.told m.old)) (M.told m.old) (M.told m.new) }
         ensures order { (s : State) → Keeps tables.now (M.told m.old) self s → ForSome (M.told m.old).flashes
             (λ start. RunsUpTo result (IsCommit tables.now s state.now) (M.told m.old) (M.told m.new)) }
         // In each slot the pages that change are put, and two gates.

@@ -27,8 +27,8 @@ use Rattle.clerk_term.specs.declared.replies.Mode.TheVariants as mode
 use Rattle.poll_report.specs.Counts.{candidate_line, candidate_lines, count_lines, kind_lines, lines_of_panels, panel_lines, party_line, total_lines, votes_line}
 use Rattle.image_codec.specs.CodecLaws.{Ballot}
 use Rattle.image_codec.specs.State.{State, MayVote, filled_up, with_ballot}
-use Rattle.state_store.specs.Pieces.{commits_in, lines_in, quiet, state_after, text_in}
-use Rattle.state_store.proofs.Counting.{commits_in-append, commits_in-quiet}
+use Rattle.flash_store.specs.Pieces.{commits_in, lines_in, quiet, state_after, text_in}
+use Rattle.flash_store.proofs.Counting.{commits_in-append, commits_in-quiet}
 use Rattle.station.specs.Acts.{last_state}
 use Rattle.station.specs.Output.{Output, Says, Commits, Reports, commits_of, refusal, echo, screen, earlier_for}
 use Rattle.station.specs.Press.{idle_at}

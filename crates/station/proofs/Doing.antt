@@ -5,29 +5,27 @@ use Rattle.election_tables.specs.Roll.{RollData}
 use Rattle.election_tables.specs.TablesData.{TablesData}
 use Rattle.image_codec.specs.Encoding.{IsStateOf}
 use Rattle.image_codec.specs.State.{State}
-use Rattle.state_store.specs.Played.{HasPut}
-use Rattle.state_store.specs.Pieces.{Piece, state_after}
+use Rattle.state_store.specs.Played.{HasPut, kept_poll}
+use Rattle.flash_store.specs.Pieces.{state_after, quiet}
+use Rattle.state_store.specs.Pieces.{Piece}
 use Rattle.state_store.specs.Store.{AreDevices, IsLoadedWith, Keeps, StoreData}
 use Rattle.state_store.specs.declared.load.Load.{Load}
-use Rattle.state_store.proofs.Counting.{state_after-append, state_after-quiet}
-use Rattle.state_store.proofs.Playing.{put_nothing, put_to}
+use Rattle.flash_store.proofs.Counting.{state_after-append, state_after-quiet}
+use Rattle.flash_store.proofs.Playing.{put_nothing, put_to}
 use Rattle.state_store.proofs.Stored.{stored}
-use Rattle.station.specs.Acts.{output_of, outputs_of}
+use Rattle.station.specs.Acts.{output_of, outputs_of, IsAct, act_of, last_state}
 use Rattle.station.specs.Doing.{AreDoable, MayDoAll}
-use Rattle.station.specs.Text.{output_pieces, session_pieces}
+use Rattle.station.specs.Text.{output_pieces, session_pieces, title_text}
 use Rattle.station.specs.declared.perform.Act.{Act}
 use Rattle.key_script.specs.Event.{IsEvent}
 use Rattle.key_script.specs.declared.keys.Event.{Event}
 use Rattle.poll_report.specs.Counts.{count_lines}
 use Rattle.std.specs.List.{AllByRecursion}
-use Rattle.state_store.specs.Pieces.{quiet}
-use Rattle.station.specs.Acts.{IsAct, act_of, last_state}
 use Rattle.station.specs.Output.{Output, Says, Commits, Reports}
 use Rattle.station.specs.Press.{Pressed, Standing, press}
 use Rattle.station.specs.Setting.{setting_of}
 use Rattle.station.specs.Session.{FitsLine}
 use Rattle.station.specs.Station.{IsAsked, IsStationed, StationData}
-use Rattle.station.specs.Text.{title_text}
 use Rattle.station.proofs.Faithful.{press_faithful}
 use Rattle.station.proofs.Leading.{Leads, press_leads}
 use Rattle.station.proofs.Performing.{press_acts, tables_panels, tables_setting}
@@ -54,7 +52,7 @@ acts_begin t r u first acts a loaded state devices may =
       state = state;
       devices = devices;
       kept = λ s kept. kept;
-      put = λ s kept. put_nothing t first.load s a (stored t r first.load s loaded kept.state) kept.rest;
+      put = λ s kept. put_nothing (kept_poll t first.load) s a (stored t r first.load s loaded kept.state) kept.rest;
       may = may;
     }
 
@@ -72,7 +70,7 @@ acts_go_on t r u first now next acts i d a b c below h same kept put =
       devices = subst AreDevices (sym (put h.may.state h.may.kept).does.sizes) h.devices;
       kept = λ s before. subst (λ (x : State). Keeps t c next x) (sym (after s)) (kept (state_after s front) (h.kept s before));
       put = λ s before.
-          put_to t first.load s front piece all a b c (acts_more t u acts i d below) (full_pieces t (outputs_of u (take i acts))) (h.put s before)
+          put_to (kept_poll t first.load) s front piece all a b c (acts_more t u acts i d below) (full_pieces t (outputs_of u (take i acts))) (h.put s before)
           (subst (λ (l : Load). HasPut t l (state_after s front) piece b c) h.load (put (state_after s front) (h.kept s before)));
       may =
           record {
@@ -197,4 +195,4 @@ module _ (t : TablesData) (r : RollData) (told : Told) (from : StationData) (e :
   pub nothing_put : HasPut t from.store.load from.standing.state (session_pieces t (press (setting_of t r.titles) from.standing e).out) told told
   nothing_put =
       subst (λ (l : List Piece). HasPut t from.store.load from.standing.state l told told) (asked_pieces t r told from e x [] is)
-      (put_nothing t from.store.load from.standing.state told (stored t r from.store.load from.standing.state is.before.load is.before.kept.state) is.before.kept.rest)
+      (put_nothing (kept_poll t from.store.load) from.standing.state told (stored t r from.store.load from.standing.state is.before.load is.before.kept.state) is.before.kept.rest)

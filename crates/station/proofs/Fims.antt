@@ -1,5 +1,5 @@
 -- The FIM among the first lines of a session, and what the states that are committed there have beside the first
-use Rattle.std.proofs.Common.{◌≡◌, ◌⊎◌, inl, inr, ℕ, zero, suc, ◌+◌, ◌-◌, ◌<◌, ◌≤◌, Bool, false, cond, Some, List, [], ◌∷◌, ◌++◌, length, take, slice_get, refl, sym, ap, subst, ◌∙◌, arith, length-append}
+use Rattle.std.proofs.Common.{◌≡◌, ◌⊎◌, inl, inr, ℕ, zero, suc, ◌+◌, ◌-◌, ◌≤◌, Bool, false, cond, Some, List, [], ◌∷◌, ◌++◌, length, take, slice_get, refl, sym, ap, subst, ◌∙◌, arith, length-append}
 use Rattle.std.specs.Prelude.{count_by}
 use Rattle.std.specs.List.{AllByRecursion}
 use Rattle.std.specs.Str.{bytes_eq}
@@ -8,8 +8,9 @@ use Rattle.std.proofs.lemmas.List.Sums.{sum_by-cons}
 use Rattle.vote_kinds.specs.Ballot.{BallotLine}
 use Rattle.image_codec.specs.CodecLaws.{Ballot}
 use Rattle.image_codec.specs.State.{State}
-use Rattle.state_store.specs.Pieces.{AreFull, Piece, commits_in, lines_in, lines_reached, quiet, telling, text_in}
-use Rattle.state_store.proofs.Counting.{reached_more}
+use Rattle.flash_store.specs.Pieces.{AreFull, commits_in, lines_in, lines_reached, quiet, telling, text_in}
+use Rattle.state_store.specs.Pieces.{Piece}
+use Rattle.flash_store.proofs.Counting.{reached_more}
 use Rattle.image_codec.specs.Also.{HasAlso}
 use Rattle.image_codec.proofs.Growing.{also_none}
 use Rattle.station.specs.Cast.{fim, fims_reached}

@@ -13,9 +13,10 @@ use Rattle.election_tables.specs.TablesData.{TablesData}
 use Rattle.turnout.specs.Turnout.{number_came}
 use Rattle.image_codec.specs.State.{State}
 use Rattle.state_store.specs.Rest.{AreAtRest}
-use Rattle.state_store.specs.Pieces.{AreFull, Piece, quiet, state_after}
+use Rattle.flash_store.specs.Pieces.{AreFull, quiet, state_after}
+use Rattle.state_store.specs.Pieces.{Piece}
 use Rattle.state_store.specs.Store.{IsLoadedWith, Keeps, StoreData}
-use Rattle.state_store.proofs.Playing.{put_shown}
+use Rattle.flash_store.proofs.Playing.{put_shown}
 use Rattle.state_store.proofs.Stored.{stored}
 use Rattle.election_tables.specs.declared.office.Kind.{Kind}
 use Rattle.election_tables.specs.declared.office.Kind.TheVariants as kind
@@ -37,13 +38,14 @@ use Rattle.station.specs.Output.{Output, Says, Commits, Reports}
 use Rattle.station.specs.Text.{line_text, output_pieces, session_pieces, title_text}
 use Rattle.station.specs.declared.perform.Act.{Act}
 use Rattle.station.specs.declared.perform.Act.TheVariants.{Say, Commit, Report}
-use Rattle.state_store.proofs.Counting.{state_after-quiet}
+use Rattle.flash_store.proofs.Counting.{state_after-quiet}
+use Rattle.state_store.specs.Played.{kept_poll}
 
 -- shown lines leave what a store keeps
 pub keeps_shown : (t : TablesData) (r : RollData) (store : StoreData) (s : State) (lines : List (List ℕ)) (a b : Told) → IsLoadedWith t r store.load → Keeps t a store s → HasShown lines a b
     → Keeps t b store (state_after s (quiet lines))
 keeps_shown t r store s lines a b loaded kept shown =
-    let put = put_shown t store.load s lines a b (stored t r store.load s loaded kept.state) kept.rest shown in
+    let put = put_shown (kept_poll t store.load) s lines a b (stored t r store.load s loaded kept.state) kept.rest shown in
     let same = state_after-quiet s lines in
     subst (λ (u : State). Keeps t b store u) (sym same) (record {
       state = kept.state;
@@ -116,7 +118,7 @@ full_line t (line.Sealed m came) = omega arith
 pub full_opening : (t : TablesData) (s : State) → 0 < length (opening_line t s)
 full_opening t s = full_poll t s.phase (number_came s.came)
 
-pub full_quiet : (lines : List (List ℕ)) → AllByRecursion IsFullLine lines → AreFull (quiet lines)
+pub full_quiet : (lines : List (List ℕ)) → AllByRecursion IsFullLine lines → AreFull (quiet {S = State} lines)
 full_quiet [] all = tt
 full_quiet (x ∷ xs) all = (all.0, full_quiet xs all.1)
 

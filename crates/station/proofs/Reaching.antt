@@ -11,7 +11,8 @@ use Rattle.clerk_term.specs.declared.replies.Mode.{Mode}
 use Rattle.clerk_term.specs.declared.replies.Mode.TheVariants as mode
 use Rattle.image_codec.specs.State.{State}
 use Rattle.station.specs.Setting.{Setting, IsSetting}
-use Rattle.state_store.specs.Pieces.{Piece, state_after}
+use Rattle.flash_store.specs.Pieces.{state_after}
+use Rattle.state_store.specs.Pieces.{Piece}
 use Rattle.station.specs.Acts.{last_state}
 use Rattle.station.specs.Output.{Output, Says, Commits, Reports}
 use Rattle.station.specs.Run.{IsRun, ends}

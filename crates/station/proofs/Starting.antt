@@ -11,11 +11,13 @@ use Rattle.election_tables.specs.TablesData.{TablesData}
 use Rattle.turnout.specs.Turnout.{number_came}
 use Rattle.turnout.specs.declared.phase.Phase.{Phase}
 use Rattle.image_codec.specs.State.{State}
-use Rattle.state_store.specs.Calls.{FailsToRecover, IsRecovery, Recovers, both_synced}
+use Rattle.flash_store.specs.Syncs.{both_synced}
+use Rattle.state_store.specs.Calls.{FailsToRecover, IsRecovery, Recovers}
 use Rattle.state_store.specs.Store.{IsLoadedWith, Keeps, StoreData}
 use Rattle.state_store.specs.declared.store.StoreError.{StoreError}
 use Rattle.state_store.specs.declared.store.StoreError.TheVariants as store
-use Rattle.state_store.proofs.Playing.{opening_call, put_shown, safe_more, stopped_shown}
+use Rattle.flash_store.proofs.Playing.{opening_call, put_shown, safe_more, stopped_shown}
+use Rattle.state_store.proofs.Recovering.{recovers_keep}
 use Rattle.state_store.proofs.Stored.{stored}
 use Rattle.station.specs.Press.{idle_at}
 use Rattle.station.specs.Setting.{setting_of}
@@ -25,6 +27,7 @@ use Rattle.station.specs.Text.{line_text}
 use Rattle.station.specs.declared.line.Line.TheVariants.{Poll}
 use Rattle.station.proofs.Pieces.{keeps_shown}
 use Rattle.station.proofs.Stepping.{idle_stands}
+use Rattle.state_store.specs.Played.{kept_poll}
 
 -- a recovery that failed is so told
 pub fails_as : (t : TablesData) (r : RollData) (a b : Told) (error : StoreError) → FailsToRecover t r a b error → FailsToStart t r a b (start_error error)
@@ -54,7 +57,7 @@ module _ (t : TablesData) (r : RollData) (store : StoreData) (s : State) (a b c 
       record {
         between = b;
         recovered = recovered;
-        shown = put_shown t store.load s (line ∷ []) b c (stored t r store.load s loaded kept.state) kept.rest shown;
+        shown = put_shown (kept_poll t store.load) s (line ∷ []) b c (stored t r store.load s loaded kept.state) kept.rest shown;
       }
 
   pub stationed : HasShown (line ∷ []) b c → (digits : ℕ) → IsStationed t r c (record { standing = idle_at s; digits = digits; store = store })
@@ -69,12 +72,12 @@ module _ (t : TablesData) (r : RollData) (store : StoreData) (s : State) (a b c 
 
   pub cut_at_opening : IsCutOff (line ∷ []) b c → IsCutAtOpening t r a c
   cut_at_opening off =
-      let stopped = stopped_shown t store.load s (line ∷ []) b c (stored t r store.load s loaded kept.state) kept.rest off in
+      let stopped = stopped_shown (kept_poll t store.load) s (line ∷ []) b c (stored t r store.load s loaded kept.state) kept.rest off in
       record {
         load = store.load;
         state = s;
         between = b;
         recovered = recovered;
         stopped = stopped;
-        survives = λ pieces. safe_more t store.load s (opening t s) pieces a c (opening_call t r store.load s line [] a b c ran (stopped.ops, stopped.does, stopped.plays));
+        survives = λ pieces. safe_more (kept_poll t store.load) s (opening t s) pieces a c (opening_call (kept_poll t store.load) s line [] a b c (recovers_keep t r store.load.section s a b ran) (stopped.ops, stopped.does, stopped.plays));
       }

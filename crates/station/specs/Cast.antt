@@ -7,7 +7,7 @@ use Rattle.vote_kinds.specs.declared.choice.Choice.TheVariants as choice
 use Rattle.vote_kinds.specs.Ballot.{BallotLine}
 use Rattle.image_codec.specs.CodecLaws.{Ballot}
 use Rattle.image_codec.specs.State.{State, filled_up}
-use Rattle.state_store.specs.Pieces.{lines_reached}
+use Rattle.flash_store.specs.Pieces.{lines_reached}
 use Rattle.station.specs.Output.{Output}
 use Rattle.station.specs.Run.{IsRun, ends, ignores, refuses, opens, seals, waits, cancels, visits, cut_off, Visit, whole, suspended}
 use Rattle.station.specs.Setting.{Setting}

@@ -10,11 +10,13 @@ use Rattle.election_tables.specs.Roll.{RollData}
 use Rattle.election_tables.specs.TablesData.{TablesData}
 use Rattle.turnout.specs.Turnout.{number_came}
 use Rattle.image_codec.specs.State.{State}
-use Rattle.state_store.specs.Calls.{FailsToRecover, IsRecovery, Recovers, both_synced}
+use Rattle.flash_store.specs.Syncs.{both_synced}
+use Rattle.state_store.specs.Calls.{FailsToRecover, IsRecovery, Recovers}
 use Rattle.state_store.specs.Load.{load_of}
 use Rattle.state_store.specs.Played.{HasPut, HasStopped, IsSafe}
 use Rattle.state_store.specs.Rest.{AreAtRest}
-use Rattle.state_store.specs.Pieces.{Piece, quiet}
+use Rattle.flash_store.specs.Pieces.{quiet}
+use Rattle.state_store.specs.Pieces.{Piece}
 use Rattle.state_store.specs.declared.load.Load.{Load}
 use Rattle.state_store.specs.declared.store.StoreError.{StoreError}
 use Rattle.state_store.specs.declared.store.StoreError.TheVariants as store

@@ -8,7 +8,8 @@ use Rattle.turnout.specs.declared.phase.Phase.TheVariants as phase
 use Rattle.vote_kinds.specs.Ballot.{IsField, line_of}
 use Rattle.voter_term.specs.Screen.{screen_text}
 use Rattle.poll_report.specs.Counts.{count_lines}
-use Rattle.state_store.specs.Pieces.{Piece, quiet, telling}
+use Rattle.flash_store.specs.Pieces.{quiet, telling}
+use Rattle.state_store.specs.Pieces.{Piece}
 use Rattle.station.specs.Output.{Output, Says, Commits, Reports}
 use Rattle.station.specs.declared.line.Line.{Line}
 use Rattle.station.specs.declared.line.Line.TheVariants as line

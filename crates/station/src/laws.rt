@@ -11,7 +11,7 @@ ghost use Rattle.image_codec.specs.CodecLaws.{Ballot};
 ghost use Rattle.image_codec.specs.Encoding.{IsStateOf};
 ghost use Rattle.image_codec.specs.State.{State, filled_up};
 ghost use Rattle.state_store.specs.Cost.{CostAtMost, ballot_bytes, bytes_along};
-ghost use Rattle.state_store.specs.Pieces.{commits_in, lines_in, state_after, text_in};
+ghost use Rattle.flash_store.specs.Pieces.{commits_in, lines_in, state_after, text_in};
 ghost use Rattle.station.specs.Setting.{Setting, setting_of};
 ghost use Rattle.station.specs.Output.{Output, commits_of};
 ghost use Rattle.station.specs.Run.{IsRun, Visit};

@@ -5,7 +5,7 @@ ghost use Rattle.urna_outside.specs.Told.{port_of};
 ghost use Rattle.image_codec.specs.Encoding.{IsStateOf};
 ghost use Rattle.image_codec.specs.State.{State};
 ghost use Rattle.state_store.specs.Played.{Puts};
-ghost use Rattle.state_store.specs.Pieces.{state_after, telling};
+ghost use Rattle.flash_store.specs.Pieces.{state_after, telling};
 ghost use Rattle.state_store.specs.Store.{AreDevices, IsBelow, IsLoadedWith, Keeps};
 ghost use Rattle.station.specs.Acts.{IsAct, output_of, outputs_of};
 ghost use Rattle.station.specs.Doing.{AreDoable};

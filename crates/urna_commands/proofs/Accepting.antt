@@ -29,7 +29,8 @@ use Rattle.urna_commands.specs.AtRest.{AreResults, both_files, no_files}
 use Rattle.urna_commands.specs.Emite.{EmiteEnds, emit_no_cabinet, emit_no_memory, emit_refused, emitted, files_stopped, not_emitted, not_found, not_sealed}
 use Rattle.urna_commands.specs.Emite.{no_files as no_files_made}
 use Rattle.urna_commands.specs.Errors.{store_status}
-use Rattle.urna_commands.specs.Verdicts.{verdict_line, verdict_status}
+use Rattle.report_lines.specs.Verdicts.{verdict_line}
+use Rattle.urna_commands.specs.Verdicts.{verdict_status}
 use Rattle.urna_commands.specs.declared.status.Doc.TheVariants as doc
 use Rattle.urna_commands.specs.declared.status.Status.{Status}
 use Rattle.urna_commands.specs.declared.status.Status.TheVariants as status

@@ -30,11 +30,12 @@ use Rattle.image_codec.specs.Also.{HasAlso}
 use Rattle.image_codec.specs.State.{State}
 use Rattle.image_codec.proofs.Growing.{also_also, also_none}
 use Rattle.twin_image.specs.Slots.{beside}
-use Rattle.state_store.specs.Calls.{AreFound, IsFrontOfSyncs, KeepFrames, both_synced}
-use Rattle.state_store.specs.Held.{HasFrameOf}
+use Rattle.flash_store.specs.Syncs.{IsFrontOfSyncs, both_synced}
+use Rattle.state_store.specs.Held.{KeepFrames, HasFrameOf}
+use Rattle.state_store.specs.Calls.{AreFound}
 use Rattle.state_store.specs.Laws.{AreWhole}
 use Rattle.state_store.specs.Rest.{IsInUse, device_size}
-use Rattle.state_store.proofs.Resting.{at_end, clean_image, frames_same, frames_text, frames_then}
+use Rattle.flash_store.proofs.Resting.{at_end, clean_image, frames_same, frames_text, frames_then}
 use Rattle.contingency.specs.Replaced.{IsReplaced, IsStanding, LeavesStanding}
 use Rattle.station.specs.Setting.{setting_of}
 use Rattle.station.proofs.Casting.{run_counts}
@@ -45,8 +46,7 @@ use Rattle.urna_commands.specs.Command.{Carga, Command, Repoe, ToCheck, ToEmit, 
 use Rattle.urna_commands.specs.FaultLines.{Tells, device_word, fault_line, fault_text}
 use Rattle.urna_commands.specs.Idle.{AreIdle, GivesOthers, IsIdleEnding}
 use Rattle.urna_commands.specs.Replaced.{EndsForeign}
-use Rattle.urna_commands.specs.Vota.{IsGiven, IsRefused, VotaEnds, no_cabinet, no_memory, not_started, refused, session_held}
-use Rattle.urna_commands.specs.Vota.{cut as vota_cut}
+use Rattle.urna_commands.specs.Vota.{IsGiven, IsRefused, VotaEnds, no_cabinet, no_memory, not_started, refused, session_held, cut as vota_cut}
 use Rattle.urna_commands.specs.declared.status.Status.{Status}
 use Rattle.urna_commands.proofs.Completion.{port_silent}
 use Rattle.urna_commands.proofs.Endings.{ends_as}
@@ -60,6 +60,7 @@ use Rattle.urna_commands.proofs.Opened.{led_has_ballots}
 use Rattle.urna_commands.proofs.Others.{others_are_kept_out}
 use Rattle.urna_commands.proofs.PutFiles.{differ}
 use Rattle.urna_commands.proofs.Replacing.{DoesReplace, keeps, leaves_poll, one_or_beside, poll_cases, poll_once, repoe_does, repoe_then, standing_stops, stands_at_rest, twice_beside, vota_answer, vota_kept_out}
+use Rattle.image_codec.specs.Layout.{body_size}
 
 -- ---- what was kept
 
@@ -183,7 +184,7 @@ module _ (t : TablesData) (r : RollData) (section : Section) (s : State) (origin
         whole = first_whole a b i e;
         led = stays;
         has = also_none (ballot_lines t) s;
-        both = λ nothing. (found, frames_same origin (images a b) ready.clean internal external);
+        both = λ nothing. (found, frames_same body_size origin (images a b) ready.clean internal external);
       }
     where
       first_whole : (a b : List ℕ) → a ≡ origin.internal.content → b ≡ origin.external.content → AreWhole (clean_flashes a b)
@@ -263,12 +264,12 @@ module _ (t : TablesData) (r : RollData) (section : Section) (s : State) (origin
             | inl nothing ↦
                 let left = found_left names x c d told t r es given section here.state run.0 run.1 run.2 m b n start ops found whole traced answer ends tells text a e votes here.state (votes.before nothing) in
                 add before x start.internal.content start.external.content a e here here.state (by_both left.0) left.1 (silent (is_shown ∙ nothing)) (also_none (ballot_lines t) here.state)
-                (λ all. (left.0, frames_of origin a e text (frames_then origin start (left_so a e text) [] (here.both all.1).1 votes.frames)))
+                (λ all. (left.0, frames_of origin a e text (frames_then body_size origin start (left_so a e text) [] (here.both all.1).1 votes.frames)))
             | inr some ↦
                 let left = found_left names x c d told t r es given section here.state run.0 run.1 run.2 m b n start ops found whole traced answer ends tells text a e votes votes.both.state votes.both.is in
                 add before x start.internal.content start.external.content a e here votes.both.state (by_both left.0) left.1 (session of (λ nothing. some (sym is_shown ∙ nothing)) on)
                 (run_counts t r.titles (found_roll t r section here.state start found) on.after.run)
-                (λ all. (left.0, frames_of origin a e text (frames_then origin start (left_so a e text) [] (here.both all.1).1 votes.frames)))
+                (λ all. (left.0, frames_of origin a e text (frames_then body_size origin start (left_so a e text) [] (here.both all.1).1 votes.frames)))
           ]
         ]
 
@@ -545,7 +546,7 @@ steps_keep_votes t r section s start last steps ready done left is =
       whole = kept.whole;
       led = kept.led;
       has = kept.has;
-      both = λ all. ((kept.both all).0, frames_text start (images left.internal left.external) left.shown (kept.both all).1);
+      both = λ all. ((kept.both all).0, frames_text body_size start (images left.internal left.external) left.shown (kept.both all).1);
     }
 
 pub next_is_safe : NextIsSafe

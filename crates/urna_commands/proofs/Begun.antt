@@ -1,5 +1,5 @@
 -- From the first show on each flash alone holds so, also where nothing of it went out
-use Rattle.state_store.proofs.Counting.{reached_more}
+use Rattle.flash_store.proofs.Counting.{reached_more}
 use Rattle.urna_commands.specs.Errors.{start_status}
 use Rattle.urna_commands.proofs.Once.{refused_or_given}
 use Rattle.urna_commands.proofs.Completion.{port_silent}
@@ -16,7 +16,8 @@ use Rattle.station.specs.declared.station.StartError.{StartError}
 use Rattle.election_tables.specs.declared.tables.sections.Section.{Section}
 use Rattle.election_tables.specs.Roll.{RollData}
 use Rattle.urna_outside.specs.declared.device.Port.{Port}
-use Rattle.state_store.specs.Pieces.{Piece, commits_in, commits_reached, lines_in, lines_reached}
+use Rattle.flash_store.specs.Pieces.{commits_in, commits_reached, lines_in, lines_reached}
+use Rattle.state_store.specs.Pieces.{Piece}
 use Rattle.turnout.specs.declared.phase.Phase.{Phase}
 use Rattle.station.specs.Output.{Output}
 use Rattle.state_store.specs.declared.load.Load.{Load}
@@ -29,7 +30,8 @@ use Rattle.urna_commands.specs.Vota.{HasVoted, HasVotedTo, IsGiven, IsRefused, V
 use Rattle.station.specs.Start.{FailsToStart, IsCutAtOpening, IsRecovered, Opens, opening_line}
 use Rattle.key_script.specs.declared.keys.Event.{Event}
 use Rattle.urna_outside.specs.Cabinet.{CabinetTold, Files}
-use Rattle.state_store.specs.Calls.{AreFound, FromSyncs, IsUntouched, Recovers, both_synced}
+use Rattle.flash_store.specs.Syncs.{FromSyncs, IsUntouched, both_synced}
+use Rattle.state_store.specs.Calls.{AreFound, Recovers}
 use Rattle.urna_commands.specs.Headline.{AloneFromTheFirstShow, HoldsPrefix, HoldsShown, session_of}
 use Rattle.urna_outside.specs.declared.device.Port.TheVariants as port
 use Rattle.station.specs.declared.station.StartError.TheVariants as starting
@@ -42,8 +44,8 @@ use Rattle.urna_outside.specs.Told.{Does, Told, IsTornShow, Runs}
 use Rattle.urna_outside.specs.Traced.{IsTraced}
 use Rattle.urna_outside.proofs.Doing.{does-append, shown_by-append, does_nothing}
 use Rattle.urna_outside.proofs.Traced.{traced_is}
-use Rattle.state_store.specs.Played.{shows_in}
-use Rattle.state_store.proofs.ShowStops.{shows_in-append, shows_in_silent}
+use Rattle.flash_store.specs.Played.{shows_in}
+use Rattle.flash_store.proofs.ShowStops.{shows_in-append, shows_in_silent}
 
 -- ---- the first of some shows
 

@@ -53,8 +53,9 @@ use Rattle.urna_commands.specs.Putting.{PutsResults, StopPutting, no_results, re
 use Rattle.urna_commands.specs.Reconta.{HasRecordAndReport, HasNoReport, IsNoReport, RecontaEnds, fields_fault, no_recount, parts_fault, recount_no_cabinet, recount_no_memory, record_at_fault, recounted, report_at_fault}
 use Rattle.urna_commands.specs.Repoe.{RepoeEnds, not_replaced, replace_no_cabinet, replace_no_memory, replace_refused, replaced, replaced_untold}
 use Rattle.urna_commands.specs.Taking.{HasTaken}
-use Rattle.urna_commands.specs.Totaliza.{HasOffered, IsListed, TotalizaEnds, list_no_cabinet, list_no_memory, list_refused, refused_count, refused_status, report_no_cabinet, report_no_memory, report_refused, totalled, totals_not_told, verdict_not_told}
-use Rattle.urna_commands.specs.Verdicts.{verdict_line, verdict_status}
+use Rattle.urna_commands.specs.Totaliza.{HasOffered, IsListed, TotalizaEnds, list_no_cabinet, list_no_memory, list_refused, refused_status, report_no_cabinet, report_no_memory, report_refused, totalled, totals_not_told, verdict_not_told}
+use Rattle.report_lines.specs.Verdicts.{refused_count, verdict_line}
+use Rattle.urna_commands.specs.Verdicts.{verdict_status}
 use Rattle.urna_commands.specs.Vota.{HasVotedTo, IsGiven, IsRefused, VotaEnds, cut, documents, keys, no_cabinet, no_memory, not_started, refused, session_held}
 use Rattle.urna_commands.specs.declared.status.Doc.{Doc}
 use Rattle.urna_commands.specs.declared.status.Doc.TheVariants as doc

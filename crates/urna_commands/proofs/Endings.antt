@@ -15,7 +15,7 @@ use Rattle.section_intake.specs.declared.verdict.Verdict.{Verdict}
 use Rattle.section_intake.specs.declared.verdict.Verdict.TheVariants as verdict
 use Rattle.record_audit.specs.declared.finding.Finding.{Finding}
 use Rattle.record_audit.specs.declared.finding.Finding.TheVariants as found
-use Rattle.state_store.specs.Calls.{IsUntouched}
+use Rattle.flash_store.specs.Syncs.{IsUntouched}
 use Rattle.state_store.specs.declared.store.LoadError.{LoadError}
 use Rattle.state_store.specs.declared.store.LoadError.TheVariants as load
 use Rattle.state_store.specs.declared.store.StoreError.{StoreError}

@@ -22,17 +22,19 @@ use Rattle.election_tables.specs.declared.tables.sections.Section.{Section}
 use Rattle.key_script.specs.Script.{events_of}
 use Rattle.key_script.specs.declared.keys.Event.{Event}
 use Rattle.image_codec.specs.State.{State}
-use Rattle.state_store.specs.Calls.{AreFound, FromSyncs, IsUntouched, KeepFrames, Recovers, both_synced}
-use Rattle.state_store.specs.Held.{HeldByBoth, bodies_of_both}
-use Rattle.state_store.specs.Load.{IsSectionOf}
+use Rattle.flash_store.specs.Syncs.{FromSyncs, IsUntouched, both_synced}
+use Rattle.state_store.specs.Held.{KeepFrames, HeldByBoth, poll}
+use Rattle.state_store.specs.Calls.{AreFound, Recovers}
+use Rattle.flash_store.specs.Held.{bodies_of_both}
+use Rattle.state_store.specs.Load.{IsSectionOf, load_of}
 use Rattle.state_store.specs.Played.{Survives}
-use Rattle.state_store.specs.Pieces.{lines_in, text_in}
-use Rattle.state_store.specs.Load.{load_of}
+use Rattle.flash_store.specs.Pieces.{lines_in, text_in}
 use Rattle.state_store.specs.declared.load.Load.{Load}
 use Rattle.state_store.proofs.Going.{found_once, loaded_once, loaded_or_foreign}
-use Rattle.state_store.proofs.Holding.{hold_or_none}
-use Rattle.state_store.proofs.Resting.{clean_image, frames_same}
-use Rattle.state_store.proofs.ShowStops.{text_of_lines}
+use Rattle.flash_store.proofs.Holding.{hold_or_none}
+use Rattle.flash_store.proofs.Syncing.{frames_before}
+use Rattle.flash_store.proofs.Resting.{clean_image, frames_same}
+use Rattle.flash_store.proofs.ShowStops.{text_of_lines}
 use Rattle.station.specs.Cast.{ballots_of}
 use Rattle.station.specs.Output.{Output}
 use Rattle.station.specs.Run.{IsRun}
@@ -55,6 +57,7 @@ use Rattle.urna_commands.proofs.Completion.{port_silent}
 use Rattle.urna_commands.proofs.Idle.{synced_both}
 use Rattle.urna_commands.proofs.Keeping.{behind_is, found_roll, kept_silent, not_done, not_within, safe_stops, session_kept}
 use Rattle.urna_commands.proofs.Once.{refused_or_given, same_bytes, same_roll, same_tables}
+use Rattle.image_codec.specs.Layout.{body_size}
 
 -- ---- what is recovered, over flashes that hold a poll
 
@@ -152,10 +155,6 @@ module _ (t : TablesData) (r : RollData) (s last : State) (es : List Event) (out
   silent : (left : Left) → left.shown ≡ [] → HeldByBoth t (length r.titles) left.internal left.external s → KeepFrames start left → Kept left
   silent left none held frames = kept_silent t r s last es out run roll start left none held frames
 
-  frames_before : (left : Left) → KeepFrames (after both_synced start) left → KeepFrames start left
-  frames_before left keeps dev.Internal = keeps dev.Internal
-  frames_before left keeps dev.External = keeps dev.External
-
   -- nothing was done behind the syncs
   nothing_kept : (behind : List Op) → behind ≡ [] → AtEachStop (after both_synced start) behind Kept
   nothing_kept behind none =
@@ -164,7 +163,7 @@ module _ (t : TablesData) (r : RollData) (s last : State) (es : List Event) (out
       let external = clean_image (after both_synced start).external left.external (synced_clean start.external) is.external in
       silent left is.shown (subst (λ (x : List ℕ). HeldByBoth t (length r.titles) x left.external s) (sym internal)
       (subst (λ (x : List ℕ). HeldByBoth t (length r.titles) start.internal.content x s) (sym external) found.held))
-      (frames_before left (frames_same (after both_synced start) left (synced_both start) is.internal is.external))))
+      (frames_before body_size start left (frames_same body_size (after both_synced start) left (synced_both start) is.internal is.external))))
 
   -- a recovery that a flash cut short
   recovering_kept : (behind : List Op) (other : Section) (first : State) → Recovers t r other first m behind → AtEachStop (after both_synced start) behind Kept
@@ -202,7 +201,7 @@ module _ (t : TablesData) (r : RollData) (s : State) (tables : IsTables t) (sect
 
   pub not_empty : FailsToStart t r m b starting.NoImage → ⊥
   not_empty h =
-      hold_or_none t (length r.titles) (bodies_of_both start.internal.content start.external.content) s (h.1.2 start flashes).1 found.held
+      hold_or_none (poll t (length r.titles)) (bodies_of_both body_size start.internal.content start.external.content) s (h.1.2 start flashes).1 found.held
 
 -- ---- what was given
 

@@ -1,5 +1,5 @@
 -- How far a session comes that finds a poll, and to which poll it leads
-use Rattle.state_store.specs.Held.{HeldAlone, HeldByBoth}
+use Rattle.state_store.specs.Held.{HeldAlone, HeldByBoth, poll}
 use Rattle.std.proofs.Common.{◌≡◌, ◌≢◌, ◌⊎◌, inl, inr, ℕ, ◌+◌, ◌<◌, List, [], ◌∷◌, ◌++◌, Option, Some, length, refl, sym, ap, subst, ◌∙◌, arith, length-append}
 use Rattle.std.proofs.lemmas.List.{append-nil, append_cancel_left}
 use Rattle.std.proofs.lemmas.List.Elements.{Contains-get_or}
@@ -20,11 +20,14 @@ use Rattle.election_tables.specs.declared.tables.sections.Section.{Section}
 use Rattle.key_script.specs.declared.keys.Event.{Event}
 use Rattle.image_codec.specs.CodecLaws.{Ballot}
 use Rattle.image_codec.specs.State.{State}
-use Rattle.state_store.specs.Calls.{AreFound, FromSyncs, IsUntouched, IsWithinSyncs, both_synced}
+use Rattle.flash_store.specs.Syncs.{FromSyncs, IsUntouched, IsWithinSyncs, both_synced}
+use Rattle.state_store.specs.Calls.{AreFound}
 use Rattle.state_store.specs.Laws.{AreWhole, IsPollOf}
-use Rattle.state_store.specs.Pieces.{AreFull, Piece, commits_in, commits_reached, lines_in, text_in}
-use Rattle.state_store.proofs.Counting.{reached_after}
-use Rattle.state_store.proofs.Going.{found_once, poll_left, syncs_leave_no_more}
+use Rattle.flash_store.specs.Pieces.{AreFull, commits_in, commits_reached, lines_in, text_in}
+use Rattle.state_store.specs.Pieces.{Piece}
+use Rattle.flash_store.proofs.Counting.{reached_after}
+use Rattle.flash_store.proofs.Syncing.{syncs_leave_no_more}
+use Rattle.state_store.proofs.Going.{found_once, poll_left}
 use Rattle.station.specs.Cast.{ballots_of, fims_reached}
 use Rattle.station.specs.Output.{Output, commits_of}
 use Rattle.station.specs.Run.{IsRun}
@@ -40,8 +43,7 @@ use Rattle.urna_commands.specs.Command.{Vota}
 use Rattle.urna_commands.specs.Errors.{port_status, start_status}
 use Rattle.urna_commands.specs.FaultLines.{Tells, fault_text}
 use Rattle.urna_commands.specs.Headline.{HoldsShown, KeepsVotes, session_of}
-use Rattle.urna_commands.specs.Vota.{HasVoted, HasVotedTo, IsGiven, IsRefused, VotaEnds, no_cabinet, no_memory, not_started, refused, session_held}
-use Rattle.urna_commands.specs.Vota.{cut as vota_cut}
+use Rattle.urna_commands.specs.Vota.{HasVoted, HasVotedTo, IsGiven, IsRefused, VotaEnds, no_cabinet, no_memory, not_started, refused, session_held, cut as vota_cut}
 use Rattle.urna_commands.specs.declared.status.Status.{Status}
 use Rattle.urna_commands.specs.declared.status.Status.TheVariants as status
 use Rattle.urna_commands.proofs.Completion.{port_silent}

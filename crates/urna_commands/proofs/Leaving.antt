@@ -19,8 +19,9 @@ use Rattle.turnout.specs.declared.phase.Phase.{Phase}
 use Rattle.turnout.specs.declared.phase.Phase.TheVariants as phase
 use Rattle.image_codec.specs.Encoding.{IsEncoding, phase_byte}
 use Rattle.image_codec.specs.State.{State}
-use Rattle.state_store.specs.Calls.{both_synced, FailsToLoad, IsUntouched, Loads}
-use Rattle.state_store.specs.Held.{Hold, open_bodies, open_body}
+use Rattle.flash_store.specs.Syncs.{both_synced, IsUntouched}
+use Rattle.state_store.specs.Calls.{FailsToLoad, Loads}
+use Rattle.flash_store.specs.Held.{Hold, open_bodies, open_body}
 use Rattle.state_store.specs.Rest.{IsUsed, IsInUse}
 use Rattle.contingency.specs.Calls.{FailsToReplace}
 use Rattle.contingency.proofs.Spare.{begins_so, encoded_byte}
@@ -42,12 +43,15 @@ use Rattle.urna_commands.specs.Idle.{IdleEndings, IdleLeavesNoMore, IsIdleEnding
 use Rattle.urna_commands.specs.Reconta.{RecontaEnds, no_recount, recount_no_cabinet, recount_no_memory, record_at_fault, recounted, report_at_fault}
 use Rattle.urna_commands.specs.Repoe.{RepoeEnds, not_replaced, replace_no_cabinet, replace_no_memory, replace_refused, replaced, replaced_untold}
 use Rattle.urna_commands.specs.Replaced.{StandingIsInUse}
-use Rattle.urna_commands.specs.Totaliza.{TotalizaEnds, list_no_cabinet, list_no_memory, list_refused, report_no_cabinet, report_no_memory, report_refused, totalled, totals_not_told, verdict_lines, verdict_not_told}
-use Rattle.urna_commands.specs.Verdicts.{verdict_line, verdict_status}
+use Rattle.urna_commands.specs.Totaliza.{TotalizaEnds, list_no_cabinet, list_no_memory, list_refused, report_no_cabinet, report_no_memory, report_refused, totalled, totals_not_told, verdict_not_told}
+use Rattle.report_lines.specs.Verdicts.{verdict_line, verdict_lines}
+use Rattle.urna_commands.specs.Verdicts.{verdict_status}
 use Rattle.urna_commands.specs.Vota.{VotaEnds, cut, no_cabinet, no_memory, not_started, refused, session_held}
 use Rattle.urna_commands.specs.declared.status.Status.{Status}
 use Rattle.urna_commands.proofs.Idle.{Idles, cut_idles, emite_idles, idle_left, idle_stop, idles-append, shown_idles, synced_idles, told_idles, untouched_idles}
 use Rattle.urna_commands.proofs.NeverBusy.{carga_does}
+use Rattle.state_store.specs.Held.{poll}
+use Rattle.image_codec.specs.Layout.{body_size}
 
 -- ---- commands that have no flash
 
@@ -101,7 +105,7 @@ module _ (t : TablesData) (voters : ℕ) (s : State) where
   Some_is [] = ⊥
   Some_is (body ∷ bodies) = IsEncoding t voters s body ⊎ Some_is bodies
 
-  held_some : (bodies : List (List ℕ)) → Hold t voters bodies s → Some_is bodies
+  held_some : (bodies : List (List ℕ)) → Hold (poll t voters) bodies s → Some_is bodies
   held_some [] holds = absurd holds
   held_some (body ∷ bodies) (inl first) = inl first.0
   held_some (body ∷ bodies) (inr behind) = inr (held_some bodies behind.1)
@@ -116,15 +120,15 @@ module _ (t : TablesData) (voters : ℕ) (s : State) where
   some_open true body (inr none) = absurd none
   some_open false body none = absurd none
 
-  used_slot : (index : ℕ) (image : List ℕ) → s.phase ≢ phase.Ready → Some_is (open_body index image) → IsUsed index image
+  used_slot : (index : ℕ) (image : List ℕ) → s.phase ≢ phase.Ready → Some_is (open_body body_size index image) → IsUsed index image
   used_slot index image opened is =
       let one = some_open _ _ is in
       let byte = encoded_byte t voters s _ one.1 in
       (eqb-true _ _ one.0, elim (opened_byte s.phase opened) [ inl first ↦ inl (byte ∙ first) | inr second ↦ inr (byte ∙ second) ])
 
-  used_one : (image : List ℕ) → s.phase ≢ phase.Ready → Some_is (open_bodies image) → IsUsed 0 image ⊎ IsUsed 1 image
+  used_one : (image : List ℕ) → s.phase ≢ phase.Ready → Some_is (open_bodies body_size image) → IsUsed 0 image ⊎ IsUsed 1 image
   unfolding open_bodies
-  used_one image opened is = elim (some_parts (open_body 0 image) (open_body 1 image) is) [
+  used_one image opened is = elim (some_parts (open_body body_size 0 image) (open_body body_size 1 image) is) [
     | inl first ↦ inl (used_slot 0 image opened first)
     | inr second ↦ inr (used_slot 1 image opened second)
   ]
@@ -134,14 +138,14 @@ pub standing_is_in_use : StandingIsInUse
 standing_is_in_use t r section s d image is opened =
     record {
       begins = begins_so t r section d image is.frame;
-      used = used_one t (length r.titles) s image opened (held_some t (length r.titles) s (open_bodies image) is.held);
+      used = used_one t (length r.titles) s image opened (held_some t (length r.titles) s (open_bodies body_size image) is.held);
     }
 
 -- and of two that hold it one is
 pub opened_is_in_use : OpenedIsInUse
 opened_is_in_use t r section s start found opened =
-    elim (some_parts t (length r.titles) s (open_bodies start.internal.content) (open_bodies start.external.content)
-    (held_some t (length r.titles) s (open_bodies start.internal.content ++ open_bodies start.external.content) found.held)) [
+    elim (some_parts t (length r.titles) s (open_bodies body_size start.internal.content) (open_bodies body_size start.external.content)
+    (held_some t (length r.titles) s (open_bodies body_size start.internal.content ++ open_bodies body_size start.external.content) found.held)) [
       | inl internal ↦ (
         dev.Internal,
         record {

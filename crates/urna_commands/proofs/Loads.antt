@@ -6,16 +6,18 @@ use Rattle.std.specs.Option.{option_map}
 use Rattle.urna_commands.proofs.Idle.{idle_left, idle_stop, idle_trail, told_idles}
 use Rattle.urna_commands.specs.FaultLines.{fault_text}
 use Rattle.urna_outside.specs.Started.{clean_flashes}
-use Rattle.state_store.proofs.Resting.{at_end, clean_image}
+use Rattle.flash_store.proofs.Resting.{at_end, clean_image}
 use Rattle.image_codec.specs.State.{State}
 use Rattle.urna_outside.specs.Traced.{IsTraced}
 use Rattle.state_store.specs.Rest.{IsInUse}
-use Rattle.urna_commands.proofs.NeverBusy.{DoesLoad, carga_does, load_leaves_free}
+use Rattle.urna_commands.proofs.NeverBusy.{DoesLoad, carga_does, load_leaves_free, then_idles}
 use Rattle.urna_outside.specs.declared.device.Dev.{Dev}
 use Rattle.urna_outside.specs.Stop.{AtEachStop, IsLeft, IsStop, Left, left_on}
 use Rattle.state_store.specs.Laws.{AreWhole}
 use Rattle.urna_commands.specs.Idle.{AreIdle}
-use Rattle.state_store.specs.Calls.{AreFree, Loads, both_synced}
+use Rattle.flash_store.specs.Syncs.{both_synced}
+use Rattle.state_store.specs.Rest.{AreFree}
+use Rattle.state_store.specs.Calls.{Loads}
 use Rattle.std.proofs.Common.{◌≡◌, ℕ, List, [], ◌∷◌, Option, Some, length, refl, sym, ap, subst, ◌∙◌, None, inl, inr, ◌++◌, ◌⊎◌}
 use Rattle.urna_outside.specs.Cabinet.{CabinetTold, Files}
 use Rattle.urna_outside.specs.Flash.{Flashes, IsClean, Op, flash_of, shown_by, after, clean_flash}
@@ -43,7 +45,6 @@ use Rattle.urna_commands.specs.declared.status.Doc.TheVariants as doc
 use Rattle.urna_commands.specs.declared.status.Status.{Status}
 use Rattle.urna_commands.specs.declared.status.Status.TheVariants as status
 use Rattle.urna_commands.proofs.Again.{clean_is_clean}
-use Rattle.urna_commands.proofs.NeverBusy.{then_idles}
 use Rattle.urna_commands.proofs.Once.{refused_or_documents}
 use Rattle.urna_commands.proofs.Others.{documents_once}
 use Rattle.urna_commands.proofs.Endings.{ends_as}

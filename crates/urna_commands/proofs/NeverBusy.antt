@@ -12,11 +12,13 @@ use Rattle.urna_outside.specs.declared.device.Dev.TheVariants as dev
 use Rattle.urna_outside.proofs.Doing.{after-append, does-append}
 use Rattle.urna_outside.proofs.Stops.{stop-append, stop_whole}
 use Rattle.urna_outside.proofs.Traced.{traced_is}
-use Rattle.state_store.specs.Calls.{AreFree, FailsToLoad, IsBusy, IsWithinSyncs, Loads, both_synced}
+use Rattle.flash_store.specs.Syncs.{IsWithinSyncs, both_synced}
+use Rattle.state_store.specs.Rest.{AreFree, IsBusy}
+use Rattle.state_store.specs.Calls.{FailsToLoad, Loads}
 use Rattle.state_store.specs.Rest.{IsInUse}
 use Rattle.state_store.specs.declared.store.LoadError.{LoadError}
 use Rattle.state_store.specs.declared.store.LoadError.TheVariants as load
-use Rattle.state_store.proofs.Resting.{clean_image}
+use Rattle.flash_store.proofs.Resting.{clean_image}
 use Rattle.urna_commands.specs.Carga.{CargaEnds, load_no_cabinet, load_no_memory, load_refused, loaded, loaded_line, no_section, not_loaded, not_told}
 use Rattle.urna_commands.specs.Command.{Carga, ToLoad}
 use Rattle.urna_commands.specs.Documents.{IsBad, IsFault, IsFirstFault, bad, count, first_other, first_tables, lacks, line, longer, name_line, no_document, record_line, roll_line, rule}

@@ -16,7 +16,8 @@ use Rattle.election_tables.specs.declared.tables.sections.Section.{Section}
 use Rattle.election_tables.proofs.Determined.{roll_is}
 use Rattle.key_script.specs.declared.keys.Event.{Event}
 use Rattle.image_codec.specs.State.{State}
-use Rattle.state_store.specs.Calls.{FromSyncs, IsFrontOfSyncs, IsSynced, IsUntouched, Recovers, both_synced}
+use Rattle.flash_store.specs.Syncs.{FromSyncs, IsFrontOfSyncs, IsSynced, IsUntouched, both_synced}
+use Rattle.state_store.specs.Calls.{Recovers}
 use Rattle.state_store.specs.Held.{AreLoaded, HasFrameOf}
 use Rattle.state_store.specs.Load.{IsSectionOf, device_byte, header, header_zeros, load_of, magic}
 use Rattle.state_store.specs.declared.load.Load.{Load}

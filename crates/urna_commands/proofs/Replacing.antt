@@ -27,13 +27,14 @@ use Rattle.twin_image.specs.Frame.{HasFrame, padding}
 use Rattle.twin_image.specs.Slots.{beside}
 use Rattle.twin_image.proofs.Mending.{cases_bytes}
 use Rattle.twin_image.proofs.Renewing.{content_image}
-use Rattle.state_store.specs.Calls.{AreFound, FromSyncs, HoldEither, IsFrontOfSyncs, both_synced}
-use Rattle.state_store.specs.Held.{AreLoaded, HasFrameOf, HasNoFrame, HeldAlone}
+use Rattle.flash_store.specs.Held.{HoldEither}
+use Rattle.flash_store.specs.Syncs.{FromSyncs, IsFrontOfSyncs, both_synced}
+use Rattle.state_store.specs.Calls.{AreFound, FailsToPeek}
+use Rattle.state_store.specs.Held.{AreLoaded, HasFrameOf, HasNoFrame, HeldAlone, poll}
 use Rattle.state_store.specs.Load.{IsSectionOf, header, load_of}
 use Rattle.state_store.specs.Rest.{AreAtRest, IsInUse}
 use Rattle.state_store.proofs.Going.{found_once, one_section}
 use Rattle.state_store.proofs.Loaded.{rest_found}
-use Rattle.state_store.proofs.Resting.{rest_holds}
 use Rattle.state_store.proofs.Stored.{stored}
 use Rattle.contingency.specs.Calls.{FailsToReplace, IsBare, Replaces}
 use Rattle.contingency.specs.Replaced.{IsReplaced, IsStanding, LeavesStanding}
@@ -61,7 +62,6 @@ use Rattle.urna_commands.proofs.Once.{refused_or_documents, refused_or_given}
 use Rattle.urna_commands.proofs.Others.{documents_once, same_hashes, unloaded_answer, unloaded_front}
 use Rattle.state_store.specs.declared.store.StoreError.{StoreError}
 use Rattle.state_store.specs.declared.store.StoreError.TheVariants as store
-use Rattle.state_store.specs.Calls.{FailsToPeek}
 
 -- ---- the two devices
 
@@ -437,11 +437,10 @@ module _ (t : TablesData) (r : RollData) (section : Section) (s : State) (flashe
   abbrev contents : Left
   contents = record { internal = flashes.internal.content; external = flashes.external.content; shown = [] }
 
-  both_hold : HoldEither t section.voters s s contents
+  both_hold : HoldEither (poll t section.voters) s s contents
   both_hold =
-      rest_holds t (load_of t r section) s flashes contents
-      (stored t r (load_of t r section) s (record { tables = tables; roll = roll; section = fits; same = refl }) (subst (λ (n : ℕ). IsStateOf t n s) (sym fits.voters) of))
-      rest (content_image flashes.internal) (content_image flashes.external)
+      (stored t r (load_of t r section) s (record { tables = tables; roll = roll; section = fits; same = refl }) (subst (λ (n : ℕ). IsStateOf t n s) (sym fits.voters) of)).holds
+      flashes contents rest (content_image flashes.internal) (content_image flashes.external)
 
   alone_held : (e : Dev) → HeldAlone t section.voters (flash_of e flashes).content s
   alone_held dev.Internal = elim both_hold.internal [ inl is ↦ is | inr is ↦ is ]

@@ -20,7 +20,8 @@ use Rattle.election_tables.specs.Roll.{RollData}
 use Rattle.election_tables.specs.TablesData.{TablesData}
 use Rattle.election_tables.specs.declared.tables.sections.Section.{Section}
 use Rattle.image_codec.specs.State.{State}
-use Rattle.state_store.specs.Calls.{FailsToPeek, IsFrontOfSyncs, IsSynced, both_synced, FailsToLoad, FailsToRecover}
+use Rattle.flash_store.specs.Syncs.{IsFrontOfSyncs, IsSynced, both_synced}
+use Rattle.state_store.specs.Calls.{FailsToPeek, FailsToLoad, FailsToRecover}
 use Rattle.state_store.specs.declared.store.StoreError.{StoreError}
 use Rattle.state_store.specs.declared.store.StoreError.TheVariants as store
 use Rattle.contingency.specs.Calls.{FailsToReplace}
@@ -40,13 +41,14 @@ use Rattle.urna_commands.specs.Putting.{HavePut, PutsResults, StopPutting, no_re
 use Rattle.urna_commands.specs.Reconta.{RecontaEnds, no_recount, recount_no_cabinet, recount_no_memory, record_at_fault, recounted, report_at_fault}
 use Rattle.urna_commands.specs.Repoe.{RepoeEnds, not_replaced, replace_no_cabinet, replace_no_memory, replace_refused, replaced, replaced_line, replaced_untold}
 use Rattle.urna_commands.specs.Taking.{HasTaken, calls_made}
-use Rattle.urna_commands.specs.Totaliza.{TotalizaEnds, list_no_cabinet, list_no_memory, list_refused, report_no_cabinet, report_no_memory, report_refused, totalled, totals_not_told, verdict_lines, verdict_not_told, IsListed}
+use Rattle.urna_commands.specs.Totaliza.{TotalizaEnds, list_no_cabinet, list_no_memory, list_refused, report_no_cabinet, report_no_memory, report_refused, totalled, totals_not_told, verdict_not_told, IsListed}
 use Rattle.urna_commands.specs.Touching.{AreAny, AreSyncsAndShows, EachTouchesAtMost, Touches, TouchesAtMost}
 use Rattle.urna_outside.specs.Shows.{AreShows}
 use Rattle.urna_outside.proofs.Showing.{are_shows-append}
 use Rattle.urna_outside.proofs.ShowingLines.{cut_front, shows_lines}
 use Rattle.urna_commands.proofs.Calls.{calls_more}
-use Rattle.urna_commands.specs.Verdicts.{verdict_line, verdict_status}
+use Rattle.report_lines.specs.Verdicts.{verdict_line, verdict_lines}
+use Rattle.urna_commands.specs.Verdicts.{verdict_status}
 use Rattle.urna_commands.specs.Vota.{VotaEnds, cut, no_cabinet, no_memory, not_started, refused, session_held}
 use Rattle.urna_commands.specs.declared.status.Status.{Status}
 use Rattle.urna_commands.proofs.PutFiles.{put_stays, stop_stays}

@@ -22,7 +22,7 @@ use Rattle.urna_commands.specs.Confere.{ConfereEnds}
 use Rattle.urna_commands.specs.Documents.{HasDocuments}
 use Rattle.urna_commands.specs.Emite.{EmiteEnds}
 use Rattle.urna_commands.specs.Putting.{report_name, result_names}
-use Rattle.urna_commands.specs.Verdicts.{verdict_line}
+use Rattle.report_lines.specs.Verdicts.{verdict_line}
 use Rattle.urna_commands.specs.declared.status.Status.{Status}
 use Rattle.urna_commands.specs.declared.status.Status.TheVariants as status
 

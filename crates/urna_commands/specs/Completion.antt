@@ -16,7 +16,8 @@ use Rattle.section_intake.specs.declared.verdict.Verdict.{Verdict}
 use Rattle.poll_report.specs.declared.report.Report.{Report}
 use Rattle.record_audit.specs.Finding.{finding}
 use Rattle.record_audit.specs.declared.text.RecordText.{RecordText}
-use Rattle.state_store.specs.Calls.{AreFound, AreFree}
+use Rattle.state_store.specs.Rest.{AreFree}
+use Rattle.state_store.specs.Calls.{AreFound}
 use Rattle.contingency.specs.Replaced.{IsReplaced}
 use Rattle.urna_commands.specs.Carga.{IsSectionAsked}
 use Rattle.urna_commands.specs.Command.{Carga, Command, Confere, Emite, Reconta, Repoe, ToCheck, ToEmit, ToLoad, ToRecount, ToRehearse, ToReplace, ToTotal, ToVote, Totaliza, Vota, command_of}
@@ -24,7 +25,8 @@ use Rattle.urna_commands.specs.Documents.{HasDocuments, HasTables, IsTaken}
 use Rattle.urna_commands.specs.Ending.{Ends}
 use Rattle.urna_commands.specs.Findings.{finding_status}
 use Rattle.urna_commands.specs.Reconta.{HasRecordAndReport}
-use Rattle.urna_commands.specs.Totaliza.{AreTaken, HasOffered, IsListed, refused_count, refused_status}
+use Rattle.report_lines.specs.Verdicts.{refused_count}
+use Rattle.urna_commands.specs.Totaliza.{AreTaken, HasOffered, IsListed, refused_status}
 use Rattle.urna_commands.specs.Vota.{IsGiven}
 use Rattle.urna_commands.specs.declared.status.Doc.TheVariants as doc
 use Rattle.urna_commands.specs.declared.status.Status.{Status}

@@ -2,7 +2,7 @@
 use Rattle.std.specs.Prelude.{◌≡◌, ℕ, List, Option, Some, None}
 use Rattle.urna_outside.specs.Cabinet.{CabinetTold}
 use Rattle.urna_outside.specs.Told.{Told}
-use Rattle.state_store.specs.Calls.{IsUntouched}
+use Rattle.flash_store.specs.Syncs.{IsUntouched}
 use Rattle.urna_commands.specs.Carga.{CargaEnds}
 use Rattle.urna_commands.specs.Command.{Command, ToCheck, ToEmit, ToLoad, ToRecount, ToRehearse, ToReplace, ToTotal, ToVote, command_of}
 use Rattle.urna_commands.specs.Confere.{ConfereEnds}

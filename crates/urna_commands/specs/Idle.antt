@@ -12,7 +12,8 @@ use Rattle.election_tables.specs.declared.tables.sections.Section.{Section}
 use Rattle.key_script.specs.declared.keys.Event.{Event}
 use Rattle.turnout.specs.declared.phase.Phase.TheVariants as phase
 use Rattle.image_codec.specs.State.{State}
-use Rattle.state_store.specs.Calls.{AreFound, IsUntouched, IsFrontOfSyncs}
+use Rattle.flash_store.specs.Syncs.{IsUntouched, IsFrontOfSyncs}
+use Rattle.state_store.specs.Calls.{AreFound}
 use Rattle.state_store.specs.Rest.{IsInUse}
 use Rattle.urna_commands.specs.Carga.{CargaEnds}
 use Rattle.urna_commands.specs.Command.{Carga, Command, ToCheck, ToEmit, ToLoad, ToRecount, ToRehearse, ToReplace, ToTotal, ToVote, Vota, command_of}

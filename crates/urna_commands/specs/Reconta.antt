@@ -11,13 +11,14 @@ use Rattle.section_intake.specs.declared.verdict.Verdict.{Verdict}
 use Rattle.section_intake.specs.declared.verdict.Verdict.TheVariants as verdict
 use Rattle.record_audit.specs.Finding.{finding}
 use Rattle.record_audit.specs.declared.text.RecordText.{RecordText}
-use Rattle.state_store.specs.Calls.{IsUntouched}
+use Rattle.flash_store.specs.Syncs.{IsUntouched}
 use Rattle.urna_commands.specs.Answering.{Answers}
 use Rattle.urna_commands.specs.Command.{Reconta}
 use Rattle.urna_commands.specs.Documents.{HasRecord, HasReport, IsFault, IsTaken}
 use Rattle.urna_commands.specs.Findings.{finding_line, finding_status}
 use Rattle.urna_commands.specs.Taking.{HasTaken}
-use Rattle.urna_commands.specs.Verdicts.{verdict_line, verdict_status}
+use Rattle.report_lines.specs.Verdicts.{verdict_line}
+use Rattle.urna_commands.specs.Verdicts.{verdict_status}
 use Rattle.urna_commands.specs.declared.status.Doc.TheVariants as doc
 use Rattle.urna_commands.specs.declared.status.Status.{Status}
 use Rattle.urna_commands.specs.declared.status.Status.TheVariants as status

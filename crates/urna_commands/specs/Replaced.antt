@@ -10,7 +10,7 @@ use Rattle.election_tables.specs.declared.tables.sections.Section.{Section}
 use Rattle.key_script.specs.declared.keys.Event.{Event}
 use Rattle.turnout.specs.declared.phase.Phase.TheVariants as phase
 use Rattle.image_codec.specs.State.{State}
-use Rattle.state_store.specs.Calls.{IsFrontOfSyncs}
+use Rattle.flash_store.specs.Syncs.{IsFrontOfSyncs}
 use Rattle.state_store.specs.Held.{HasFrameOf}
 use Rattle.state_store.specs.Rest.{IsInUse}
 use Rattle.contingency.specs.Replaced.{IsReplaced, IsStanding}

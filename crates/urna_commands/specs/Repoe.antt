@@ -14,7 +14,7 @@ use Rattle.election_tables.specs.declared.tables.sections.Section.{Section}
 use Rattle.turnout.specs.Turnout.{number_came}
 use Rattle.image_codec.specs.Encoding.{IsStateOf}
 use Rattle.image_codec.specs.State.{State}
-use Rattle.state_store.specs.Calls.{IsUntouched, both_synced}
+use Rattle.flash_store.specs.Syncs.{IsUntouched, both_synced}
 use Rattle.state_store.specs.Load.{IsSectionOf, load_of}
 use Rattle.state_store.specs.Rest.{AreAtRest}
 use Rattle.contingency.specs.Calls.{FailsToReplace, IsReplacement, Replaces}

@@ -5,7 +5,7 @@ use Rattle.urna_outside.specs.Flash.{Op}
 use Rattle.urna_outside.specs.Shows.{AreShows}
 use Rattle.urna_outside.specs.Told.{Runs, Told}
 use Rattle.election_tables.specs.TablesData.{TablesData}
-use Rattle.state_store.specs.Calls.{IsFrontOfSyncs}
+use Rattle.flash_store.specs.Syncs.{IsFrontOfSyncs}
 use Rattle.urna_commands.specs.Command.{Command, ToCheck, ToEmit, ToLoad, ToRecount, ToRehearse, ToReplace, ToTotal, ToVote, Totaliza, command_of}
 use Rattle.urna_commands.specs.Ending.{Ends}
 use Rattle.urna_commands.specs.Ensaio.{rehearsal_names}

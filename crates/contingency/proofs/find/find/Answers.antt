@@ -6,10 +6,12 @@ use Rattle.election_tables.specs.Limits.{most_voters}
 use Rattle.twin_image.specs.Found.{found_body}
 use Rattle.state_store.specs.Held.{HasFrameOf}
 use Rattle.state_store.proofs.Changing.{rank_named}
-use Rattle.state_store.proofs.Looking.{looked, looked_twice}
-use Rattle.state_store.proofs.Recovering.{ranked_state}
+use Rattle.flash_store.proofs.Looking.{looked, looked_twice}
+use Rattle.flash_store.proofs.Holding.{ranked_state}
 use Rattle.contingency.specs.Replaced.{IsStanding}
 use Rattle.contingency.proofs.Finding.{bare, stands}
+use Rattle.image_codec.specs.Decoded.{decoded}
+use Rattle.image_codec.specs.State.{rank_of}
 use Rattle.contingency.proofs.find.find.Goals as goal
 
 pub returns-in_default-clause-fails : goal.returns-in_default-clause-fails
@@ -45,7 +47,7 @@ returns-in-Ok-true-clause-fails g c =
     let named = rank_named t ranks.tables.now (length r.titles) ranks.voters c.of-ranks.ensures.tables as_many in
     let fits = rw c.in-Some.is at c.in-Ok.ensures.section in
     let body = found_body c.in-Ok-survey_on.found in
-    let s = ranked_state t (length r.titles) body (subst (λ (k : List ℕ → Option ℕ). IsSome (k body)) (sym named) c.in-Ok-survey_on.ensures.ranked) in
+    let s = ranked_state rank_of (decoded t (length r.titles)) body (subst (λ (k : List ℕ → Option ℕ). IsSome (k body)) (sym named) c.in-Ok-survey_on.ensures.ranked) in
     let held = looked _ _ _ c.in-Ok.ensures.done c.in-Ok-survey_on.ensures.held in
     let used = looked _ _ _ (looked_twice _ _ _ c.in-Ok.ensures.done c.survey_on.ensures.done) c.in-Ok-true.ensures.used in (
       refl,

@@ -3,7 +3,7 @@ use Rattle.urna_outside.specs.Flash.{flash_of}
 use Rattle.urna_outside.proofs.Doing.{then_told}
 use Rattle.urna_outside.proofs.Faults.{faultless_trans}
 use Rattle.gate_slot.specs.Device.{OnFlash}
-use Rattle.image_codec.specs.Decoded.{rank_in}
+use Rattle.image_codec.specs.Decoded.{rank_in, decoded}
 use Rattle.image_codec.specs.Encoding.{IsEncoding, IsStateOf}
 use Rattle.image_codec.specs.Layout.{body_size}
 use Rattle.image_codec.proofs.Decoding.{decoded_takes}
@@ -11,9 +11,11 @@ use Rattle.twin_image.specs.Found.{found_body}
 use Rattle.twin_image.specs.Held.{held_alone}
 use Rattle.twin_image.specs.Slots.{AreClean, beside}
 use Rattle.state_store.proofs.Ready.{ready_places}
-use Rattle.state_store.proofs.Recovering.{clean_after, ranked_state}
+use Rattle.flash_store.proofs.Holding.{ranked_state}
+use Rattle.flash_store.proofs.Syncing.{clean_after}
 use Rattle.contingency.proofs.Finding.{fails_testing}
 use Rattle.contingency.proofs.Replacing.{fails_restoring, has_replaced, is_found}
+use Rattle.image_codec.specs.State.{rank_of}
 use Rattle.contingency.proofs.replacement.replace.Goals as goal
 
 pub returns-in_err-section-clause-fails : goal.returns-in_err-section-clause-fails
@@ -29,7 +31,7 @@ prove-unreachable-requires g c =
     let found = c.in_ok-section.ensures in
     let body = found_body c.in_ok-section.found in
     let places : length c.in-Ok.room.state.came ≡ voters = ready_places t c.len.result c.in-Ok.room.state c.in-Ok.ensures ∙ c.len.ensures.count in
-    let s = ranked_state t voters body found.ranked in
+    let s = ranked_state rank_of (decoded t voters) body found.ranked in
     let is = decoded_takes t voters body s.0 found.tables found.roll.count.1 s.1 in
     c.load-loaded.ensures.none c.if-prove.true s.0 (subst (λ (n : ℕ). IsEncoding t n s.0 c.body.result.now) (sym places) (subst (IsEncoding t voters s.0) (sym c.body.ensures) is))
 

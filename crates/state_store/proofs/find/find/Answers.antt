@@ -6,8 +6,11 @@ use Rattle.twin_image.specs.Found.{found_body}
 use Rattle.twin_image.specs.Held.{HoldsBody, NoneStands}
 use Rattle.image_codec.specs.Layout.{body_size}
 use Rattle.state_store.proofs.Changing.{rank_named}
-use Rattle.state_store.proofs.Empty.{none_held}
-use Rattle.state_store.proofs.Looking.{looked}
+use Rattle.flash_store.proofs.Holding.{none_held}
+use Rattle.flash_store.proofs.Looking.{looked}
+use Rattle.image_codec.specs.Decoded.{decoded}
+use Rattle.state_store.specs.Held.{poll}
+use Rattle.state_store.proofs.Stored.{reads}
 use Rattle.state_store.proofs.find.find.Goals as goal
 
 pub returns-in-Ok-survey-clause-held : goal.returns-in-Ok-survey-clause-held
@@ -33,6 +36,6 @@ returns-in-Err-NoImage-clause-fails g c =
       (
         c.in-Ok.section,
         c.in-Ok.ensures.section,
-        λ fs told. (c.in-Ok.ensures.loaded fs told, none_held t voters fs c.of-ranks.ensures.whole few (none fs told)),
+        λ fs told. (c.in-Ok.ensures.loaded fs told, none_held (poll t voters) (decoded t voters) (reads t voters c.of-ranks.ensures.whole few) fs (none fs told)),
       ),
     )

@@ -9,7 +9,7 @@ use Rattle.image_codec.specs.Layout.{body_size}
 use Rattle.state_store.specs.Held.{HasFrameOf, IsForeign}
 use Rattle.state_store.specs.Load.{IsSectionOf}
 use Rattle.state_store.specs.declared.frame.FrameError.TheVariants.{Foreign}
-use Rattle.state_store.proofs.Looking.{looked}
+use Rattle.flash_store.proofs.Looking.{looked}
 use Rattle.state_store.proofs.frame.loaded_section.Goals as goal
 
 at_none : {P : Type 0} (found : Option Section) → found ≡ None → IfNone found P → P

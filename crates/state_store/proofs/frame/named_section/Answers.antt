@@ -4,7 +4,7 @@ use Rattle.election_tables.specs.declared.tables.sections.Section.{Section}
 use Rattle.image_codec.specs.Layout.{body_size}
 use Rattle.state_store.specs.Held.{HasFrameOf}
 use Rattle.twin_image.specs.Frame.{HasFrame}
-use Rattle.state_store.proofs.Looking.{looked}
+use Rattle.flash_store.proofs.Looking.{looked}
 use Rattle.state_store.proofs.Named.{named_there}
 use Rattle.state_store.proofs.Sections.{found_listed}
 use Rattle.state_store.proofs.frame.named_section.Goals as goal

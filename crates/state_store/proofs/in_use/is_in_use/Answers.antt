@@ -2,7 +2,7 @@ use Rattle.std.proofs.Common.{◌≡◌, ◌↔◌, ◌⊎◌, inl, inr, Bool, t
 use Rattle.urna_outside.specs.Flash.{flash_of}
 use Rattle.state_store.specs.Load.{magic}
 use Rattle.state_store.specs.Rest.{IsInUse, IsUsed}
-use Rattle.state_store.proofs.Looking.{looked, looked_twice, alike}
+use Rattle.flash_store.proofs.Looking.{looked, looked_twice, alike}
 use Rattle.state_store.proofs.in_use.is_in_use.Goals as goal
 
 -- where the magic stands and slot 0 isn't used, slot 1 decides

@@ -2,7 +2,7 @@ use Rattle.std.proofs.Common.{◌≡◌, true, false, ap, ◌∙◌}
 use Rattle.urna_outside.specs.Told.{size_of}
 use Rattle.urna_outside.specs.declared.device.Dev.TheVariants.{External}
 use Rattle.urna_outside.proofs.Faults.{faultless_trans}
-use Rattle.state_store.proofs.Looking.{looked}
+use Rattle.flash_store.proofs.Looking.{looked}
 use Rattle.state_store.proofs.in_use.test_free.Goals as goal
 
 pub returns-in-Ok-true-clause-fails : goal.returns-in-Ok-true-clause-fails

@@ -1,9 +1,10 @@
-use Rattle.state_store.proofs.Costs.{costs_are_bounded}
+use Rattle.flash_store.proofs.Costs.{costs_are_bounded}
+use Rattle.state_store.specs.Played.{kept_poll}
 use Rattle.state_store.proofs.PageBound.{ballot_costs_few, opening_costs_one_page, sealing_costs_one_page}
 use Rattle.state_store.proofs.laws.commit_cost.Goals as goal
 
 pub returns-clause-session : goal.returns-clause-session
-returns-clause-session c = costs_are_bounded
+returns-clause-session c = λ t load. costs_are_bounded (kept_poll t load)
 
 pub returns-clause-ballot : goal.returns-clause-ballot
 returns-clause-ballot _ = ballot_costs_few

@@ -1,4 +1,4 @@
-use Rattle.state_store.proofs.Going.{end_goes_on, recovery_goes_on, session_goes_on, syncs_leave_no_more}
+use Rattle.state_store.proofs.Going.{end_goes_on, recovery_goes_on, session_goes_on}
 use Rattle.state_store.proofs.Loaded.{rest_is_found}
 use Rattle.state_store.proofs.laws.goes_on.Goals as goal
 
@@ -8,5 +8,4 @@ returns c = record {
   recovery = recovery_goes_on;
   ended = end_goes_on;
   rest = rest_is_found;
-  syncs = syncs_leave_no_more;
 }

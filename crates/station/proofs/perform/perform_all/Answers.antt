@@ -1,11 +1,11 @@
 use Rattle.std.proofs.Common.{◌+◌, List, take, drop, get_or, arith, subst}
 use Rattle.std.proofs.lemmas.List.{take_all}
 use Rattle.turnout.specs.declared.phase.Phase.TheVariants as phase
-use Rattle.state_store.specs.Played.{HasPut, HasStopped}
-use Rattle.state_store.specs.Pieces.{state_after}
+use Rattle.state_store.specs.Played.{HasPut, HasStopped, kept_poll}
+use Rattle.flash_store.specs.Pieces.{state_after}
 use Rattle.state_store.specs.Store.{Keeps}
 use Rattle.state_store.specs.declared.load.Load.{Load}
-use Rattle.state_store.proofs.Playing.{stopped_within}
+use Rattle.flash_store.proofs.Playing.{stopped_within}
 use Rattle.station.specs.Acts.{output_of, outputs_of}
 use Rattle.station.specs.Text.{output_pieces, session_pieces}
 use Rattle.station.specs.declared.perform.Act.{Act}
@@ -32,7 +32,7 @@ returns-in-Err-clause-puts g c s kept =
     let end = g.M.Machine.told c.perform.new.m in
     let front = session_pieces t (outputs_of u (take i acts)) in
     let piece = output_pieces t (output_of u act) in
-    stopped_within t load s front piece (session_pieces t (outputs_of u (drop (i + 1) acts))) (session_pieces t (outputs_of u acts)) c.in-Err.port _ _ _
+    stopped_within (kept_poll t load) s front piece (session_pieces t (outputs_of u (drop (i + 1) acts))) (session_pieces t (outputs_of u acts)) c.in-Err.port _ _ _
     (acts_rest t u acts i (Say (line.Poll phase.Ready 0)) c.loop-act-test.true) (full_pieces t (outputs_of u (take i acts))) (h.put s kept)
     (subst (λ (l : Load). HasStopped t l (state_after s front) piece c.in-Err.port b end) h.load (c.in-Err.ensures.puts (state_after s front) (h.kept s kept)))
 

@@ -15,7 +15,8 @@ use Rattle.urna_commands.specs.Documents.{HasRecord, HasReport, IsFault, IsTaken
 use Rattle.urna_commands.specs.Findings.{finding_line, finding_status}
 use Rattle.urna_commands.specs.Reconta.{HasNoReport, HasRecordAndReport, IsNoReport, RecontaEnds, fields_fault, no_recount, parts_fault, recount_no_cabinet, recount_no_memory, record_at_fault, recounted, report_at_fault}
 use Rattle.urna_commands.specs.Taking.{HasTaken, status_in}
-use Rattle.urna_commands.specs.Verdicts.{verdict_line, verdict_status}
+use Rattle.report_lines.specs.Verdicts.{verdict_line}
+use Rattle.urna_commands.specs.Verdicts.{verdict_status}
 use Rattle.urna_commands.specs.declared.status.Doc.TheVariants as doc
 use Rattle.urna_commands.specs.declared.status.Status.{Status}
 use Rattle.urna_commands.specs.declared.status.Status.TheVariants as status

@@ -3,7 +3,8 @@ use Rattle.urna_outside.specs.ShownLines.{HasShown, IsCutOff}
 use Rattle.urna_outside.proofs.ShowingLines.{cut_after, shown-append}
 use Rattle.urna_commands.specs.Command.{Totaliza}
 use Rattle.urna_commands.specs.Taking.{HasTaken}
-use Rattle.urna_commands.specs.Totaliza.{IsListed, TotalizaEnds, list_no_cabinet, list_no_memory, list_refused, refused_count, refused_status, report_no_memory, totalled, totals_not_told, verdict_lines}
+use Rattle.report_lines.specs.Verdicts.{refused_count, verdict_lines}
+use Rattle.urna_commands.specs.Totaliza.{IsListed, TotalizaEnds, list_no_cabinet, list_no_memory, list_refused, refused_status, report_no_memory, totalled, totals_not_told}
 use Rattle.urna_commands.specs.declared.status.Status.TheVariants as status
 use Rattle.urna_commands.proofs.Calls.{taken_as}
 use Rattle.urna_commands.proofs.Endings.{counts_refused, fault_ends, passed_on, untouched}

@@ -12,11 +12,14 @@ use Rattle.image_codec.specs.Layout.{body_size}
 use Rattle.state_store.specs.Load.{header, load_of}
 use Rattle.state_store.specs.Store.{AreDevices}
 use Rattle.state_store.specs.declared.load.Load.{Load}
-use Rattle.state_store.proofs.Formatting.{fails_laying, fails_testing, laid_rests, loaded}
+use Rattle.flash_store.proofs.Resting.{laid_rests}
+use Rattle.flash_store.proofs.Syncing.{clean_after}
+use Rattle.flash_store.proofs.InUse.{load_cut, load_done, load_not_begun, load_not_tested, load_syncing, loaded}
+use Rattle.state_store.specs.Load.{magic}
+use Rattle.state_store.specs.Rest.{IsBegun}
+use Rattle.state_store.proofs.Formatting.{fails_laying, fails_testing, not_begun}
 use Rattle.image_codec.proofs.OfTables.{of_tables-ready_state}
-use Rattle.state_store.proofs.Ordering.{load_cut, load_done, load_not_begun, load_not_tested, load_syncing}
 use Rattle.state_store.proofs.Ready.{ready_named, ready_unused}
-use Rattle.state_store.proofs.Recovering.{clean_after}
 use Rattle.state_store.proofs.store.Store.format.Goals as goal
 
 pub returns-in_err-test_free-clause-fails : goal.returns-in_err-test_free-clause-fails
@@ -55,7 +58,7 @@ returns-in-Ok-lay-clause-kept g c =
       state = subst (λ (n : ℕ). IsStateOf t n ready) (sym voters) (of_tables-ready_state t (length r.titles));
       body = moved ∙ written;
       rest = λ fs told.
-          laid_rests t load ready c.header-internal.result c.header-external.result body fs c.header-internal.ensures c.header-external.ensures written (c.in-Ok-lay.ensures.laid fs told) (subst (λ (b : List ℕ). IsLevel body_size b fs) moved (level.flashes fs told));
+          laid_rests body_size (header load) c.header-internal.result c.header-external.result (encode t ready) body fs c.header-internal.ensures c.header-external.ensures written (c.in-Ok-lay.ensures.laid fs told) (subst (λ (b : List ℕ). IsLevel body_size b fs) moved (level.flashes fs told));
     }
 
 pub returns-in-Ok-lay-clause-ran : goal.returns-in-Ok-lay-clause-ran
@@ -67,7 +70,7 @@ returns-in-Ok-lay-clause-ran g c =
     let fresh : get_or body 1 0 ≡ 0 =
     ap (λ (l : List ℕ). get_or l 1 0) (c.deref.ensures.value ∙ refilled c.in-Ok.room.next.len into (drop (length into) c.in-Ok.room.next.items) long ∙ c.encode_into.ensures ∙ ap (encode t) c.in-Ok.ensures) ∙ ready_unused t c.len.result in
     let synced = c.in_default-sync_both.ensures.synced in
-    loaded c.header-internal.result c.header-external.result body fresh (g.M.Machine.told c.args.m.now) (g.M.Machine.told c.sync_both.new.m) (g.M.Machine.told c.test_free.new.m) (g.M.Machine.told c.lay.new.m)
+    loaded magic body_size IsBegun c.header-internal.result c.header-external.result body (not_begun body fresh) (g.M.Machine.told c.args.m.now) (g.M.Machine.told c.sync_both.new.m) (g.M.Machine.told c.test_free.new.m) (g.M.Machine.told c.lay.new.m)
     synced.does c.test_free.ensures.done c.in_ok-test_free.ensures.free c.lay.ensures.ran
 
 pub returns-clause-fails : goal.returns-clause-fails
@@ -80,7 +83,7 @@ returns-clause-fails g c =
     ap (λ (l : List ℕ). get_or l 1 0) (c.deref.ensures.value ∙ refilled c.in-Ok.room.next.len into (drop (length into) c.in-Ok.room.next.items) long ∙ c.encode_into.ensures ∙ ap (encode t) c.in-Ok.ensures) ∙ ready_unused t c.len.result in
     let synced = c.in_default-sync_both.ensures.synced in
     let tested = c.in_ok-test_free.ensures in
-    fails_laying c.header-internal.result c.header-external.result body fresh (g.M.Machine.told c.args.m.now) (g.M.Machine.told c.sync_both.new.m) (g.M.Machine.told c.test_free.new.m) (g.M.Machine.told c.lay.new.m)
+    fails_laying c.header-internal.result c.header-external.result body (not_begun body fresh) (g.M.Machine.told c.args.m.now) (g.M.Machine.told c.sync_both.new.m) (g.M.Machine.told c.test_free.new.m) (g.M.Machine.told c.lay.new.m)
     synced.does c.test_free.ensures.done tested.free c.lay.ensures.ran c.in-Err-lay.dev (faultless_trans _ _ _ synced.fine tested.fine) c.in-Err-lay.ensures.fails
 
 pub returns-in_default-clause-order : goal.returns-in_default-clause-order
@@ -89,7 +92,7 @@ returns-in_default-clause-order g c =
     let load = load_of t c.args.roll.now c.args.section in
     let ready = ready_state t (length c.args.roll.now.titles) in
     let a = g.M.Machine.told c.args.m.now in
-    load_not_begun t load ready a a (does_nothing a)
+    load_not_begun body_size (header load) (encode t ready) a a (does_nothing a)
 
 pub returns-in-Err-clause-order : goal.returns-in-Err-clause-order
 returns-in-Err-clause-order g c =
@@ -97,7 +100,7 @@ returns-in-Err-clause-order g c =
     let load = load_of t c.args.roll.now c.args.section in
     let ready = ready_state t (length c.args.roll.now.titles) in
     let a = g.M.Machine.told c.args.m.now in
-    load_syncing t load ready a (g.M.Machine.told c.sync_both.new.m) c.in-Err.ensures.ran
+    load_syncing body_size (header load) (encode t ready) a (g.M.Machine.told c.sync_both.new.m) c.in-Err.ensures.ran
 
 pub returns-in_err-test_free-clause-order : goal.returns-in_err-test_free-clause-order
 returns-in_err-test_free-clause-order g c =
@@ -105,7 +108,7 @@ returns-in_err-test_free-clause-order g c =
     let load = load_of t c.args.roll.now c.args.section in
     let ready = ready_state t (length c.args.roll.now.titles) in
     let a = g.M.Machine.told c.args.m.now in
-    let cut = load_not_tested t load ready a (g.M.Machine.told c.sync_both.new.m) (g.M.Machine.told c.test_free.new.m) c.in_default-sync_both.ensures.synced.does c.test_free.ensures.done in
+    let cut = load_not_tested body_size (header load) (encode t ready) a (g.M.Machine.told c.sync_both.new.m) (g.M.Machine.told c.test_free.new.m) c.in_default-sync_both.ensures.synced.does c.test_free.ensures.done in
     search rules
 
 pub returns-in-Ok-lay-clause-order : goal.returns-in-Ok-lay-clause-order
@@ -122,7 +125,7 @@ returns-in-Ok-lay-clause-order g c =
     c.deref.ensures.value ∙ refilled c.in-Ok.room.next.len into (drop (length into) c.in-Ok.room.next.items) long ∙ c.encode_into.ensures ∙ ap (encode t) c.in-Ok.ensures ∙ ap (λ (n : ℕ). encode t (ready_state t n)) c.len.ensures.count in
     let internal_is = c.header-internal.ensures ∙ ap (λ (l : Load). header l Internal) load_is in
     let external_is = c.header-external.ensures ∙ ap (λ (l : Load). header l External) load_is in
-    load_done t load ready a (g.M.Machine.told c.sync_both.new.m) (g.M.Machine.told c.test_free.new.m) c.in_default-sync_both.ensures.synced.does c.test_free.ensures.done
+    load_done body_size (header load) (encode t ready) a (g.M.Machine.told c.sync_both.new.m) (g.M.Machine.told c.test_free.new.m) c.in_default-sync_both.ensures.synced.does c.test_free.ensures.done
     (g.M.Machine.told c.lay.new.m) c.header-internal.result c.header-external.result body internal_is external_is written c.in-Ok-lay.ensures.exact
 
 pub returns-clause-order : goal.returns-clause-order
@@ -139,5 +142,5 @@ returns-clause-order g c =
     c.deref.ensures.value ∙ refilled c.in-Ok.room.next.len into (drop (length into) c.in-Ok.room.next.items) long ∙ c.encode_into.ensures ∙ ap (encode t) c.in-Ok.ensures ∙ ap (λ (n : ℕ). encode t (ready_state t n)) c.len.ensures.count in
     let internal_is = c.header-internal.ensures ∙ ap (λ (l : Load). header l Internal) load_is in
     let external_is = c.header-external.ensures ∙ ap (λ (l : Load). header l External) load_is in
-    load_cut t load ready a (g.M.Machine.told c.sync_both.new.m) (g.M.Machine.told c.test_free.new.m) c.in_default-sync_both.ensures.synced.does c.test_free.ensures.done
+    load_cut body_size (header load) (encode t ready) a (g.M.Machine.told c.sync_both.new.m) (g.M.Machine.told c.test_free.new.m) c.in_default-sync_both.ensures.synced.does c.test_free.ensures.done
     (g.M.Machine.told c.lay.new.m) c.header-internal.result c.header-external.result body internal_is external_is written c.in-Err-lay.ensures.cut

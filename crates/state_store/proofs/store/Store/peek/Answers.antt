@@ -3,7 +3,10 @@ use Rattle.image_codec.specs.Encoding.{IsEncoding}
 use Rattle.image_codec.proofs.Decoding.{decoded_takes}
 use Rattle.twin_image.specs.Found.{found_body}
 use Rattle.state_store.proofs.Ready.{ready_places}
-use Rattle.state_store.proofs.Recovering.{fails_peeking, found_before, found_known, ranked_state}
+use Rattle.state_store.proofs.Recovering.{fails_peeking, found_before, found_known}
+use Rattle.flash_store.proofs.Holding.{ranked_state}
+use Rattle.image_codec.specs.Decoded.{decoded}
+use Rattle.image_codec.specs.State.{rank_of}
 use Rattle.state_store.proofs.store.Store.peek.Goals as goal
 
 pub returns-in_err-section-clause-fails : goal.returns-in_err-section-clause-fails
@@ -18,7 +21,7 @@ prove-unreachable-requires g c =
     let found = c.in_ok-section.ensures in
     let body = found_body c.in_ok-section.found in
     let places : length c.in-Ok.room.state.came ≡ length r.titles = ready_places t c.len.result c.in-Ok.room.state c.in-Ok.ensures ∙ c.len.ensures.count in
-    let s = ranked_state t (length r.titles) body found.ranked in
+    let s = ranked_state rank_of (decoded t (length r.titles)) body found.ranked in
     let is = decoded_takes t (length r.titles) body s.0 found.tables found.roll.count.1 s.1 in
     c.load-loaded.ensures.none c.if-prove.true s.0 (subst (λ (n : ℕ). IsEncoding t n s.0 c.body.result.now) (sym places) (subst (IsEncoding t (length r.titles) s.0) (sym c.body.ensures) is))
 

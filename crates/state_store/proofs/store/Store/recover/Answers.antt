@@ -12,14 +12,19 @@ use Rattle.twin_image.specs.Found.{found_body}
 use Rattle.twin_image.specs.Level.{IsLevel, body_of}
 use Rattle.twin_image.specs.Slots.{AreClean}
 use Rattle.image_codec.specs.Layout.{body_size}
-use Rattle.state_store.specs.Calls.{IsBroughtUp, Recovers, both_synced}
+use Rattle.flash_store.specs.Syncs.{both_synced}
+use Rattle.flash_store.proofs.Holding.{ranked_state}
+use Rattle.flash_store.proofs.Resting.{roomy}
+use Rattle.flash_store.proofs.Syncing.{clean_after}
+use Rattle.image_codec.specs.Decoded.{decoded}
+use Rattle.image_codec.specs.State.{rank_of}
+use Rattle.state_store.specs.Calls.{IsBroughtUp, Recovers}
 use Rattle.state_store.specs.Held.{AreLoaded}
 use Rattle.state_store.specs.Load.{load_of}
 use Rattle.state_store.specs.Store.{AreDevices, Keeps, StoreData}
 use Rattle.state_store.specs.declared.load.Load.{Load}
 use Rattle.state_store.proofs.Ready.{ready_places}
-use Rattle.state_store.proofs.Recovering.{brought_named, clean_after, fails_changing, fails_finding, fails_healing, found_encoding, found_known, ranked_state, recovered, recovered_exactly, rests_brought, up_to_front, up_to_whole}
-use Rattle.state_store.proofs.Standing.{roomy}
+use Rattle.state_store.proofs.Recovering.{brought_named, fails_changing, fails_finding, fails_healing, found_encoding, found_known, recovered, recovered_exactly, rests_brought, up_to_front, up_to_whole}
 use Rattle.state_store.proofs.store.Store.recover.Goals as goal
 
 pub returns-in_err-section-clause-fails : goal.returns-in_err-section-clause-fails
@@ -34,7 +39,7 @@ heal-requires g c =
     let synced = c.in_default-sync_both.ensures.synced in
     let done = c.find.ensures.done in
     let devices = subst AreDevices (sym (done.sizes ∙ synced.does.sizes)) c.requires.devices in
-    (omega arith, (omega arith, (roomy mid.sizes devices, then_told [] b mid AreClean done (clean_after (g.M.Machine.told c.args.m.now) b synced.does))))
+    (omega arith, (omega arith, (roomy body_size mid.sizes devices, then_told [] b mid AreClean done (clean_after (g.M.Machine.told c.args.m.now) b synced.does))))
 
 pub returns-in-Err-heal-clause-fails : goal.returns-in-Err-heal-clause-fails
 returns-in-Err-heal-clause-fails g c =
@@ -43,7 +48,7 @@ returns-in-Err-heal-clause-fails g c =
     let synced = c.in_default-sync_both.ensures.synced in
     let found = c.in_ok-section.ensures in
     let body = found_body c.in_ok-section.found in
-    let s = ranked_state t (length r.titles) body found.ranked in
+    let s = ranked_state rank_of (decoded t (length r.titles)) body found.ranked in
     fails_healing t r c.in_ok-section.section found.tables found.roll.count.1 s.0 body s.1 (g.M.Machine.told c.args.m.now) (g.M.Machine.told c.sync_both.new.m) (g.M.Machine.told c.find.new.m) (g.M.Machine.told c.heal.new.m)
     synced.does found.done found.loaded found.held c.heal.ensures.ran c.in-Err-heal.ensures.cut c.in-Err-heal.dev found.section (faultless_trans _ _ _ synced.fine found.fine) c.in-Err-heal.ensures.fails
 
@@ -172,6 +177,6 @@ prove-unreachable-requires g c =
     let body = found_body c.in_ok-section.found in
     let body_is : c.body.result.now ≡ body = c.body.ensures ∙ c.in-Ok-heal.ensures.body in
     let places : length c.in-Ok.room.state.came ≡ length r.titles = ready_places t c.len.result c.in-Ok.room.state c.in-Ok.ensures ∙ c.len.ensures.count in
-    let s = ranked_state t (length r.titles) body found.ranked in
+    let s = ranked_state rank_of (decoded t (length r.titles)) body found.ranked in
     let is = decoded_takes t (length r.titles) body s.0 found.tables found.roll.count.1 s.1 in
     c.load-loaded.ensures.none c.if-prove.true s.0 (subst (λ (n : ℕ). IsEncoding t n s.0 c.body.result.now) (sym places) (subst (IsEncoding t (length r.titles) s.0) (sym body_is) is))

@@ -1,7 +1,8 @@
 use Rattle.std.proofs.Common.{◌≡◌, List, sym, ap, subst, ◌∙◌}
 use Rattle.image_codec.specs.Encoding.{IsStateOf}
 use Rattle.state_store.specs.Played.{HasPut, HasStopped}
-use Rattle.state_store.specs.Pieces.{Piece, state_after}
+use Rattle.flash_store.specs.Pieces.{state_after}
+use Rattle.state_store.specs.Pieces.{Piece}
 use Rattle.state_store.specs.Store.{IsLoadedWith, Keeps, StoreData}
 use Rattle.station.specs.Acts.{outputs_of}
 use Rattle.station.specs.Doing.{AreDoable}

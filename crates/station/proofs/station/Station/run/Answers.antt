@@ -7,10 +7,10 @@ use Rattle.std.proofs.lemmas.List.{append-nil}
 use Rattle.key_script.specs.declared.keys.Event.{Event}
 use Rattle.key_script.proofs.EventLaws.{yielded_more}
 use Rattle.image_codec.specs.State.{State}
-use Rattle.state_store.specs.Played.{HasPut, HasStopped}
+use Rattle.state_store.specs.Played.{HasPut, HasStopped, kept_poll}
 use Rattle.state_store.specs.Store.{AreDevices, StoreData}
 use Rattle.state_store.specs.declared.load.Load.{Load}
-use Rattle.state_store.proofs.Playing.{put_nothing, put_to, stopped_within}
+use Rattle.flash_store.proofs.Playing.{put_nothing, put_to, stopped_within}
 use Rattle.state_store.proofs.Stored.{stored}
 use Rattle.station.specs.Setting.{setting_of}
 use Rattle.station.specs.Press.{Standing, press, after, outputs, idle_at}
@@ -34,7 +34,7 @@ loop-event-init g c =
       load = refl;
       devices = c.requires.devices;
       put =
-          put_nothing c.args.tables.now c.args.self.store.load c.args.self.standing.state (g.M.Machine.told c.args.m.now)
+          put_nothing (kept_poll c.args.tables.now c.args.self.store.load) c.args.self.standing.state (g.M.Machine.told c.args.m.now)
           (stored c.args.tables.now c.args.roll.now c.args.self.store.load c.args.self.standing.state is.load is.kept.state) is.kept.rest;
     }
 
@@ -56,7 +56,7 @@ event_done t r from x y script yielded left rest e old before new done split sta
       load = load ∙ done.load;
       devices = subst AreDevices (sym put.does.sizes) done.devices;
       put =
-          put_to t from.store.load from.standing.state front piece (session_pieces t (outputs v from.standing (yielded ++ e ∷ []))) old before new
+          put_to (kept_poll t from.store.load) from.standing.state front piece (session_pieces t (outputs v from.standing (yielded ++ e ∷ []))) old before new
           (pieces_one t v from.standing x.standing yielded e done.standing) (full_pieces t (outputs v from.standing yielded)) done.put
           (subst (λ (s : State). HasPut t from.store.load s piece before new) (state ∙ sym (pieces_after t v from.standing yielded))
           (subst (λ (l : Load). HasPut t l x.standing.state piece before new) done.load put));
@@ -131,7 +131,7 @@ returns-in-Err-clause-cut g c =
     let piece = session_pieces t (press v x.standing e).out in
     let state : x.standing.state ≡ (after v from.standing c.loop-event.yielded).state = ap (λ (y : Standing). y.state) done.standing in
     let stopped : HasStopped t load s (session_pieces t (outputs v from.standing (c.loop-event.yielded ++ e ∷ c.next.new.self))) c.in-Err.port old new =
-    stopped_within t load s front piece rest.0 _ c.in-Err.port old before new rest.1 (full_pieces t (outputs v from.standing c.loop-event.yielded)) done.put
+    stopped_within (kept_poll t load) s front piece rest.0 _ c.in-Err.port old before new rest.1 (full_pieces t (outputs v from.standing c.loop-event.yielded)) done.put
     (subst (λ (u : State). HasStopped t load u piece c.in-Err.port before new) (state ∙ sym (pieces_after t v from.standing c.loop-event.yielded))
     (subst (λ (l : Load). HasStopped t l x.standing.state piece c.in-Err.port before new) done.load (c.in-Err.ensures.puts x e asked))) in
     let end = reached_end v s script (after v (idle_at s) script) valid refl in (

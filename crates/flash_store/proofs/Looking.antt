@@ -1,9 +1,10 @@
--- Calls that only read.
-use Rattle.std.proofs.Common.{◌≡◌, ◌↔◌, Bool, true, false, IsTrue, Option, Some, None, [], refl, ◌∙◌}
+-- Calls that only read, and the byte that a read of one gives.
+use Rattle.std.proofs.Common.{◌≡◌, ◌↔◌, ℕ, ◌+◌, Bool, true, false, IsTrue, List, Option, Some, None, [], get_or, refl, ap, ◌∙◌, arith}
 use Rattle.std.specs.Option.{option_map, ForSome}
-use Rattle.urna_outside.specs.Flash.{Flashes, after}
+use Rattle.urna_outside.specs.Flash.{Flashes, after, part}
 use Rattle.urna_outside.specs.Told.{Told, Does}
 use Rattle.urna_outside.proofs.Doing.{does-append}
+use Rattle.urna_outside.proofs.Places.{get_or-part}
 
 same_flashes : (o : Option Flashes) → option_map (after []) o ≡ o
 same_flashes None = refl
@@ -26,3 +27,9 @@ unlike false is decides then = ((λ (w : IsTrue false). absurd (cc)), λ p. deci
 pub alike : {Q : Type 0} (test : Bool) → test ≡ true → (IsTrue test ↔ Q) → Q
 alike true is decides = decides.0 refl
 alike false is decides = absurd (cc)
+
+-- the byte that a read of one gives
+pub only_byte : (bytes c : List ℕ) (at : ℕ) → bytes ≡ part c at 1 → get_or bytes 0 0 ≡ get_or c at 0
+only_byte bytes c at is =
+    let same : at + 0 ≡ at = omega arith in
+    ap (λ (l : List ℕ). get_or l 0 0) is ∙ get_or-part c at 1 0 (omega arith) ∙ ap (λ (k : ℕ). get_or c k 0) same

@@ -10,8 +10,7 @@ use Rattle.urna_outside.specs.declared.device.Dev.{Dev}
 use Rattle.urna_outside.proofs.Showing.{after_shows}
 use Rattle.urna_outside.proofs.ShowingLines.{shows_lines}
 use Rattle.twin_image.specs.Twin.{IsOfTwin}
-use Rattle.image_codec.specs.Layout.{body_size}
-use Rattle.state_store.specs.Played.{IsOfSession, shows_in}
+use Rattle.flash_store.specs.Played.{IsOfSession, shows_in}
 
 -- The shows among operations
 
@@ -53,21 +52,22 @@ front_of_text text ops showed =
 
 -- Operations of a session
 
-pub session-append : (xs ys : List Op) → AllByRecursion IsOfSession xs → AllByRecursion IsOfSession ys → AllByRecursion IsOfSession (xs ++ ys)
-session-append [] ys first second = second
-session-append (x ∷ xs) ys first second = (first.0, session-append xs ys first.1 second)
+module _ (size : ℕ) where
+  pub session-append : (xs ys : List Op) → AllByRecursion (IsOfSession size) xs → AllByRecursion (IsOfSession size) ys → AllByRecursion (IsOfSession size) (xs ++ ys)
+  session-append [] ys first second = second
+  session-append (x ∷ xs) ys first second = (first.0, session-append xs ys first.1 second)
 
-pub session_shows : (ops : List Op) → AreShows ops → AllByRecursion IsOfSession ops
-session_shows [] all = tt
-session_shows (Put d at bytes ∷ ops) all = absurd all.0
-session_shows (Sync d ∷ ops) all = absurd all.0
-session_shows (Show bytes ∷ ops) all = (tt, session_shows ops all.1)
+  pub session_shows : (ops : List Op) → AreShows ops → AllByRecursion (IsOfSession size) ops
+  session_shows [] all = tt
+  session_shows (Put d at bytes ∷ ops) all = absurd all.0
+  session_shows (Sync d ∷ ops) all = absurd all.0
+  session_shows (Show bytes ∷ ops) all = (tt, session_shows ops all.1)
 
-pub session_slots : (ops : List Op) → AreIn (λ d k. IsOfTwin body_size k) ops → AllByRecursion IsOfSession ops
-session_slots [] all = tt
-session_slots (Put d at bytes ∷ ops) all = (all.0, session_slots ops all.1)
-session_slots (Sync d ∷ ops) all = (tt, session_slots ops all.1)
-session_slots (Show bytes ∷ ops) all = absurd all.0
+  pub session_slots : (ops : List Op) → AreIn (λ d k. IsOfTwin size k) ops → AllByRecursion (IsOfSession size) ops
+  session_slots [] all = tt
+  session_slots (Put d at bytes ∷ ops) all = (all.0, session_slots ops all.1)
+  session_slots (Sync d ∷ ops) all = (tt, session_slots ops all.1)
+  session_slots (Show bytes ∷ ops) all = absurd all.0
 
 -- The stops of shows
 

@@ -2,7 +2,7 @@
 ghost use Rattle.std.specs.Prelude.{OnOk, IfErr};
 ghost use Rattle.urna_outside.specs.Faults.{EndsAt};
 ghost use Rattle.urna_outside.specs.Told.{Runs, port_of};
-ghost use Rattle.state_store.specs.Calls.{IsSynced, IsWithinSyncs};
+ghost use Rattle.flash_store.specs.Syncs.{IsSynced, IsWithinSyncs};
 
 use urna_outside::{Dev, Machine};
 

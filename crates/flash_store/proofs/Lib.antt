@@ -1,0 +1,10 @@
+pub mod Looking
+pub mod Counting
+pub mod ShowStops
+pub mod Tracing
+pub mod Holding
+pub mod Resting
+pub mod Syncing
+pub mod InUse
+pub mod Playing
+pub mod Costs
