@@ -1,0 +1,26 @@
+pub mod Adding
+pub mod Committing
+pub mod Digests
+pub mod Empty
+pub mod Entered
+pub mod Entering
+pub mod Formatting
+pub mod Found
+pub mod Going
+pub mod Keeping
+pub mod LastHash
+pub mod LastLine
+pub mod Marks
+pub mod Offering
+pub mod OneBody
+pub mod OneOffer
+pub mod Opening
+pub mod PanelChoices
+pub mod Ranges
+pub mod Ranking
+pub mod Reading
+mod Rows
+pub mod Standing
+pub mod Telling
+pub mod Votes
+pub mod WholeBody

@@ -1,0 +1,12 @@
+pub mod Layout
+pub mod Ledger
+pub mod Body
+pub mod Entry
+pub mod LastHash
+pub mod Totals
+pub mod Header
+pub mod Kept
+pub mod Checked
+pub mod Offers
+pub mod Calls
+pub mod Laws

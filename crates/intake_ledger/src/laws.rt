@@ -1,0 +1,39 @@
+//! Laws of ledgers (`specs/Laws.antt`). Each function here does nothing: its contract is the law.
+ghost use Rattle.intake_ledger.specs.Laws.{AcceptedIsRepeated, AreLedgers, EmptyHasBody, HeldIsDecoded, OffersGoOn, OneBody, OneIsHeld, OneOffer, OpeningGoesOn, ReadExactly, RestIsFound, SomeOffer, TellLedger};
+
+/// Bytes stand for a ledger exactly where that is what is read of them. It is one of the tables, and no other bytes stand for it. The ledger
+/// before the first report has such bytes.
+pub fn bodies()
+    ensures exactly { ReadExactly }
+    ensures ledgers { AreLedgers }
+    ensures one { OneBody }
+    ensures empty { EmptyHasBody }
+{}
+
+/// Totals of a ledger tell how many of its sections have a report, and the sum of each choice of each panel.
+pub fn totals()
+    ensures { TellLedger }
+{}
+
+/// Which ledger two flashes hold is said by what bytes stand for. It is one, and it is what the decoder answers. Flashes at rest with a
+/// ledger are found with it.
+pub fn one_ledger()
+    ensures one { OneIsHeld }
+    ensures decoded { HeldIsDecoded }
+    ensures rest { RestIsFound }
+{}
+
+/// Wherever the power stops an opening or an offer, what is left is a ledger of the same tables again, which the next opening finds: that from
+/// before, or one that was told or would have been next.
+pub fn goes_on()
+    ensures opening { OpeningGoesOn }
+    ensures offers { OffersGoOn }
+{}
+
+/// A file of less than 2^63 bytes that is offered to a ledger has one verdict, and leaves one ledger. A file that was accepted is repeated from
+/// then on.
+pub fn offers()
+    ensures one { OneOffer }
+    ensures some { SomeOffer }
+    ensures repeated { AcceptedIsRepeated }
+{}
