@@ -20,7 +20,7 @@ use Rattle.intake_ledger.proofs.LastLine.{EndsWith, ends_from}
 -- ---- fields are cut into some parts
 
 -- there is a first part
-abbrev IsSome : List (List (List ℕ)) → Type 0
+abbrev pub IsSome : List (List (List ℕ)) → Type 0
 IsSome parts = (part : List (List ℕ)) × (rest : List (List (List ℕ))) × (parts ≡ part ∷ rest)
 
 begin_or_go_on : (fits : Bool) (begun : List (List ℕ)) (rest on : List (List (List ℕ))) → IsSome on → IsSome (cond fits on (begun ∷ rest))
@@ -32,14 +32,14 @@ some_behind begun [] = (begun, [], refl)
 some_behind begun (f ∷ fields) =
     begin_or_go_on (nat_le (length (joined begun) + 1 + length f) part_size) begun (cut_after (f ∷ []) fields) (cut_after (begun ++ f ∷ []) fields) (some_behind (begun ++ f ∷ []) fields)
 
-some_part : (fields : List (List ℕ)) → 0 < length fields → IsSome (cut fields)
+pub some_part : (fields : List (List ℕ)) → 0 < length fields → IsSome (cut fields)
 unfolding cut
 some_part [] some = absurd (omega arith)
 some_part (f ∷ fields) some = some_behind (f ∷ []) fields
 
 -- ---- the last hash of a file
 
-file_lines : (text : List ℕ) → parts_text text ≡ links_text (lines_of_text text)
+pub file_lines : (text : List ℕ) → parts_text text ≡ links_text (lines_of_text text)
 unfolding parts_text
 file_lines text = refl
 

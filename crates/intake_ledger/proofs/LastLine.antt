@@ -10,7 +10,7 @@ use Rattle.hash_chain.proofs.HashLaws.{hashes}
 use Rattle.intake_ledger.specs.LastHash.{last_hash}
 
 -- a hash has 128 characters
-hash_long : (bytes : List ℕ) → length (hash_text bytes) ≡ 128
+pub hash_long : (bytes : List ℕ) → length (hash_text bytes) ≡ 128
 hash_long bytes = eqb-true (length (hash_text bytes)) 128 (and_parts (length (hash_text bytes) == 128) (list_all is_hex (hash_text bytes)) (hashes bytes)).0
 
 -- a text ends with a hash and a line feed

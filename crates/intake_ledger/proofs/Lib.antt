@@ -1,4 +1,6 @@
 pub mod Adding
+pub mod Agreeing
+pub mod Colliding
 pub mod Committing
 pub mod Digests
 pub mod Empty

@@ -1,14 +1,13 @@
 -- An offer: its verdict by the place of its section, and what is put out.
-use Rattle.std.proofs.Common.{◌≡◌, ℕ, zero, suc, ◌+◌, ◌<◌, Bool, true, false, cond, Result, Ok, Err, Option, Some, None, List, [], ◌∷◌, length, map, option_and_then, refl, sym, ap, subst, ◌∙◌, arith}
+use Rattle.std.proofs.Common.{◌≡◌, ℕ, zero, suc, ◌+◌, ◌<◌, Bool, true, false, cond, Result, Ok, Err, Option, Some, None, List, [], ◌∷◌, length, map, option_and_then, sym, ap, subst, ◌∙◌, arith}
 use Rattle.std.specs.Prelude.{IfErr, IfOk, slice_get}
 use Rattle.std.specs.List.{range_with_len}
 use Rattle.std.specs.Option.{ForSome}
-use Rattle.urna_outside.specs.Faults.{EndsAt, FailsAt, IsFaultless}
+use Rattle.urna_outside.specs.Faults.{EndsAt, IsFaultless}
 use Rattle.urna_outside.specs.Flash.{Flashes}
 use Rattle.urna_outside.specs.ShownLines.{HasShown, IsCutOff, Shows, shows}
 use Rattle.urna_outside.specs.Told.{Runs, Told, port_of}
 use Rattle.urna_outside.specs.declared.device.Dev.{Dev}
-use Rattle.urna_outside.specs.declared.device.Port.{Port}
 use Rattle.urna_outside.specs.declared.device.Port.TheVariants as port
 use Rattle.urna_outside.proofs.Showing.{shows_keep}
 use Rattle.urna_outside.proofs.ShowingLines.{shows_lines}
@@ -26,7 +25,7 @@ use Rattle.intake_ledger.specs.Body.{StandsFor, hash_in, is_marked, kept_in}
 use Rattle.intake_ledger.specs.Calls.{FailsToOffer, HasOffered, HasOfferedTo, Keeps}
 use Rattle.intake_ledger.specs.Kept.{AreAtRest, AreLaid, IsCommit, commit_bytes, kept_ledger, ledgers}
 use Rattle.intake_ledger.specs.Ledger.{LedgerData, hash_at}
-use Rattle.intake_ledger.specs.Offers.{IsOffer, offer_piece, told_by}
+use Rattle.intake_ledger.specs.Offers.{IsOffer, told_by}
 use Rattle.intake_ledger.specs.Totals.{TotalsData}
 use Rattle.intake_ledger.specs.declared.ledger.Ledger.{Ledger}
 use Rattle.intake_ledger.specs.declared.ledger.OfferError.{OfferError}

@@ -43,7 +43,7 @@ one_written : (a b : List ℕ) → IsHash a → IsHash b → encode_upper a ≡ 
 one_written a b is also same =
     decode_of-same (encode_upper a) a b (decode_of-encode_upper a (are_bytes a is.1)) (ap decode_of same ∙ decode_of-encode_upper b (are_bytes b also.1))
 
-one_hash : (file a b : List ℕ) → length file < 2 ^ 63 → IsLastHash file a → IsLastHash file b → a ≡ b
+pub one_hash : (file a b : List ℕ) → length file < 2 ^ 63 → IsLastHash file a → IsLastHash file b → a ≡ b
 one_hash file a b short is also =
     let same : also.text ≡ is.text = no_other_text file is.text also.text is.parts also.parts short in
     one_written a b is.bytes also.bytes (is.written ∙ ap (λ (text : List ℕ). last_hash (lines_of_text text)) (sym same) ∙ sym also.written)
@@ -65,7 +65,7 @@ one_at t file r q place other hash last short at also =
       hash_is = one_hash file hash last short at.last also.last;
     }
 
-of_section : (t : TablesData) (file : File) (r : Report) (place : ℕ) (hash : List ℕ) → IsReportAt t file r place hash → IsOfSection t r.zone r.section file
+pub of_section : (t : TablesData) (file : File) (r : Report) (place : ℕ) (hash : List ℕ) → IsReportAt t file r place hash → IsOfSection t r.zone r.section file
 of_section t file r place hash at = by_report t file r at.report at.fits
 
 pub one_offer : OneOffer
@@ -156,7 +156,7 @@ some_offer t l file is short = let (v, h) = some_verdict t file is short in by_v
 
 -- ---- the same file again
 
-hash_set : (last : List (Option (List ℕ))) (place : ℕ) (hash : List ℕ) → place < length last → slice_get (slice_set last place (Some hash)) place ≡ Some (Some hash)
+pub hash_set : (last : List (Option (List ℕ))) (place : ℕ) (hash : List ℕ) → place < length last → slice_get (slice_set last place (Some hash)) place ≡ Some (Some hash)
 hash_set [] place hash lt = absurd (omega arith)
 hash_set (h ∷ last) zero hash lt = refl
 hash_set (h ∷ last) (suc place) hash lt = hash_set last place hash (omega arith)

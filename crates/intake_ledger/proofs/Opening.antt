@@ -10,7 +10,7 @@ use Rattle.urna_outside.proofs.Doing.{does-append, then_told, told_after}
 use Rattle.urna_outside.proofs.Faults.{ends_later, faultless_trans}
 use Rattle.election_tables.specs.TablesData.{TablesData}
 use Rattle.gate_slot.specs.Front.{IsUpTo}
-use Rattle.gate_slot.proofs.Fronts.{up_to_as, up_to_later}
+use Rattle.gate_slot.proofs.Fronts.{up_to_later}
 use Rattle.twin_image.specs.Heal.{Heals, IsHeal}
 use Rattle.twin_image.specs.Held.{HoldsBody, held_on}
 use Rattle.twin_image.specs.Level.{IsLevel}

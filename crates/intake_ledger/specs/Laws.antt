@@ -1,5 +1,6 @@
 -- What is so of all ledgers, and of what two flashes hold
-use Rattle.std.specs.Prelude.{◌≡◌, ◌↔◌, ℕ, ◌<◌, ◌^◌, List, [], ◌∷◌, Option, Some, None, Contains, length}
+use Rattle.std.specs.Prelude.{◌≡◌, ◌≢◌, ◌↔◌, ℕ, ◌<◌, ◌^◌, List, [], ◌∷◌, Option, Some, None, Contains, length, map}
+use Rattle.std.specs.List.{sum_by}
 use Rattle.std.specs.Option.{option_and_then}
 use Rattle.urna_outside.specs.Flash.{Flashes, flash_of}
 use Rattle.urna_outside.specs.Started.{clean_flashes}
@@ -7,7 +8,11 @@ use Rattle.urna_outside.specs.Stop.{Left}
 use Rattle.urna_outside.specs.Told.{AreSized, Sizes}
 use Rattle.urna_outside.specs.declared.device.Dev.{Dev}
 use Rattle.election_tables.specs.TablesData.{IsTables, TablesData}
-use Rattle.section_intake.specs.Accepted.{File}
+use Rattle.hash_chain.specs.Hash.{hash_text}
+use Rattle.poll_report.specs.declared.report.Report.{Report}
+use Rattle.section_intake.specs.Accepted.{AreOffered, File}
+use Rattle.section_intake.specs.Laws.{AreShort}
+use Rattle.section_intake.specs.Sums.{AreReportsOf}
 use Rattle.section_intake.specs.declared.verdict.Verdict.{Verdict}
 use Rattle.section_intake.specs.declared.verdict.Verdict.TheVariants as verdict
 use Rattle.vote_kinds.specs.declared.choice.Choice.{Choice}
@@ -18,8 +23,8 @@ use Rattle.flash_store.specs.Played.{Follows}
 use Rattle.intake_ledger.specs.Body.{StandsFor, decoded, rank_in}
 use Rattle.intake_ledger.specs.Kept.{AreAtRest, AreDevices, AreFound, AreFramed, device_size, ledgers}
 use Rattle.intake_ledger.specs.Layout.{body_size}
-use Rattle.intake_ledger.specs.Ledger.{IsLedger, LedgerData, accepted_in, empty_ledger, sum_of}
-use Rattle.intake_ledger.specs.Offers.{IsOffer}
+use Rattle.intake_ledger.specs.Ledger.{IsLedger, LedgerData, accepted_in, empty_ledger, panel_choices, sum_of, votes_in}
+use Rattle.intake_ledger.specs.Offers.{AreOfferedTo, IsOffer}
 use Rattle.intake_ledger.specs.Totals.{AreTotals, TotalsData, accepted_told, sum_told}
 
 -- bytes stand for a ledger exactly where that is what is read of them
@@ -58,6 +63,38 @@ SomeOffer = (t : TablesData) (l : LedgerData) (file : File) → IsTables t → l
 abbrev pub AcceptedIsRepeated : Type 0
 AcceptedIsRepeated = (t : TablesData) (l m : LedgerData) (file : File) (zone section : ℕ) → IsLedger t l → IsOffer t l file (verdict.Accepted zone section) m
     → IsOffer t m file (verdict.Repeated zone section) m
+
+-- ---- the ledger, and the intake of the same files
+
+-- two different texts with one SHA-512, as it is written
+abbrev pub Collision : Type 0
+Collision = (x : List ℕ) × (y : List ℕ) × (x ≢ y) × (hash_text x ≡ hash_text y)
+
+-- The verdict of a ledger is that of the intake. Only a file that is in conflict there may be repeated here, and then two different texts
+-- have one SHA-512.
+pub data IsSaidSo : Verdict → Verdict → Type 0 where
+  same : {v : Verdict} → IsSaidSo v v
+  collided : {zone section : ℕ} → Collision → IsSaidSo (verdict.Conflict zone section) (verdict.Repeated zone section)
+
+-- so it is of each of these verdicts
+abbrev pub AreSaidSo : List Verdict → List Verdict → Type 0
+AreSaidSo [] [] = Unit {0}
+AreSaidSo [] (w ∷ said) = ⊥
+AreSaidSo (v ∷ verdicts) [] = ⊥
+AreSaidSo (v ∷ verdicts) (w ∷ said) = IsSaidSo v w × AreSaidSo verdicts said
+
+-- The ledger has the sums over the reports of these accepted files, and as many sections as there are.
+pub record HasSumsOf (t : TablesData) (accepted : List File) (l : LedgerData) : Type 0 where
+  pub reports : List Report
+  pub read : AreReportsOf accepted reports
+  pub sums : l.sums ≡ map (λ x. sum_by (votes_in x) reports) (panel_choices t)
+  pub number : accepted_in l ≡ length accepted
+
+-- Files that are offered to the ledger before the first report have the verdicts that an intake gives them, but for a collision; and the ledger
+-- has the sums over those that the intake accepts, even then.
+abbrev pub LedgerIsIntake : Type 0
+LedgerIsIntake = (t : TablesData) (files accepted : List File) (verdicts said : List Verdict) (l : LedgerData) → IsTables t → AreShort files
+    → AreOffered t files verdicts accepted → AreOfferedTo t (empty_ledger t) files said l → AreSaidSo verdicts said × HasSumsOf t accepted l
 
 -- ---- on two flashes
 

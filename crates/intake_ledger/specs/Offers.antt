@@ -1,5 +1,5 @@
 -- The verdict on a file that is offered to a ledger, the ledger that it leaves, and what is put out (docs/FORMATS.md, "The ledger")
-use Rattle.std.specs.Prelude.{◌≡◌, ◌≢◌, ℕ, false, if◌then◌else◌, List, Option, Some, None}
+use Rattle.std.specs.Prelude.{◌≡◌, ◌≢◌, ℕ, false, if◌then◌else◌, List, [], ◌∷◌, ◌++◌, Option, Some, None}
 use Rattle.election_tables.specs.TablesData.{TablesData, place_with}
 use Rattle.poll_report.specs.declared.report.Report.{Report}
 use Rattle.section_intake.specs.Accepted.{File, is_accepted}
@@ -30,6 +30,12 @@ pub data IsOffer (t : TablesData) (l : LedgerData) (file : File) : Verdict → L
       → IsOffer t l file (verdict.Repeated r.zone r.section) l
   another : {r : Report} {place : ℕ} {hash kept : List ℕ} → IsReportAt t file r place hash → hash_at place l ≡ Some kept → kept ≢ hash
       → IsOffer t l file (verdict.Conflict r.zone r.section) l
+
+-- Files are offered to a ledger one behind the other: their verdicts, and the ledger that they leave.
+pub data AreOfferedTo (t : TablesData) (l : LedgerData) : List File → List Verdict → LedgerData → Type 0 where
+  none_offered : AreOfferedTo t l [] [] l
+  one_more : {files : List File} {verdicts : List Verdict} {m k : LedgerData} {file : File} {v : Verdict} → AreOfferedTo t l files verdicts m
+      → IsOffer t m file v k → AreOfferedTo t l (files ++ file ∷ []) (verdicts ++ v ∷ []) k
 
 -- ---- what is put out
 

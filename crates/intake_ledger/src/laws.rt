@@ -1,5 +1,5 @@
 //! Laws of ledgers (`specs/Laws.antt`). Each function here does nothing: its contract is the law.
-ghost use Rattle.intake_ledger.specs.Laws.{AcceptedIsRepeated, AreLedgers, EmptyHasBody, HeldIsDecoded, OffersGoOn, OneBody, OneIsHeld, OneOffer, OpeningGoesOn, ReadExactly, RestIsFound, SomeOffer, TellLedger};
+ghost use Rattle.intake_ledger.specs.Laws.{AcceptedIsRepeated, AreLedgers, EmptyHasBody, HeldIsDecoded, LedgerIsIntake, OffersGoOn, OneBody, OneIsHeld, OneOffer, OpeningGoesOn, ReadExactly, RestIsFound, SomeOffer, TellLedger};
 
 /// Bytes stand for a ledger exactly where that is what is read of them. It is one of the tables, and no other bytes stand for it. The ledger
 /// before the first report has such bytes.
@@ -28,6 +28,12 @@ pub fn one_ledger()
 pub fn goes_on()
     ensures opening { OpeningGoesOn }
     ensures offers { OffersGoOn }
+{}
+
+/// Files that are offered to the ledger before the first report have the verdicts that `section_intake` gives them, unless two different texts
+/// have one SHA-512; and the ledger has the sums over the files that it accepts.
+pub fn intake()
+    ensures { LedgerIsIntake }
 {}
 
 /// A file of less than 2^63 bytes that is offered to a ledger has one verdict, and leaves one ledger. A file that was accepted is repeated from

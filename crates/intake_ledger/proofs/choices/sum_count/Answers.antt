@@ -1,7 +1,6 @@
 use Rattle.std.proofs.Common.{◌≡◌, ℕ, ◌+◌, ◌-◌, ◌<◌, ◌≤◌, length, ap, ◌∙◌, arith}
 use Rattle.election_tables.specs.TablesData.{IsTables, TablesData}
 use Rattle.intake_ledger.specs.Layout.{most_sums}
-use Rattle.intake_ledger.specs.Ledger.{panel_choices}
 use Rattle.intake_ledger.proofs.PanelChoices.{all_choices, first_choices, no_fewer, one_panel_longer, sums_few}
 use Rattle.intake_ledger.proofs.choices.sum_count.Goals as goal
 

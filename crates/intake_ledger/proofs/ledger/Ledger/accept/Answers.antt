@@ -1,19 +1,15 @@
 use Rattle.std.proofs.Common.{◌≡◌, ℕ, ◌+◌, List, length, sym, ap, subst, ◌∙◌, arith}
 use Rattle.std.specs.Option.{ForSome}
-use Rattle.urna_outside.specs.Flash.{Op}
-use Rattle.urna_outside.specs.Told.{Runs, Told}
-use Rattle.gate_slot.specs.Front.{IsFrontOfSome, RunsUpTo}
+use Rattle.urna_outside.specs.Told.{Runs}
+use Rattle.gate_slot.specs.Front.{IsFrontOfSome}
 use Rattle.twin_image.specs.Held.{IsNotOutranked}
 use Rattle.twin_image.specs.Level.{CommitsTo, IsLevel, body_of}
 use Rattle.twin_image.specs.Order.{AreRenewals}
-use Rattle.twin_image.specs.Rewrite.{PutsAtMost, rewrite_bytes}
 use Rattle.flash_store.proofs.Resting.{stands_again}
 use Rattle.intake_ledger.specs.Body.{number_in, rank_in}
-use Rattle.intake_ledger.specs.Calls.{Keeps}
 use Rattle.intake_ledger.specs.Header.{header}
-use Rattle.intake_ledger.specs.Kept.{IsCommit}
 use Rattle.intake_ledger.specs.Layout.{body_size}
-use Rattle.intake_ledger.specs.Ledger.{LedgerData, with_report}
+use Rattle.intake_ledger.specs.Ledger.{with_report}
 use Rattle.intake_ledger.specs.Totals.{AreTotals, TotalsData}
 use Rattle.intake_ledger.proofs.Committing.{IsNext, body_long, commit_few, next_commits, next_cut, next_long, next_order, next_rank, next_rests}
 use Rattle.intake_ledger.proofs.ledger.Ledger.accept.Goals as goal

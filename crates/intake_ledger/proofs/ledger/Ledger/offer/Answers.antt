@@ -13,7 +13,7 @@ use Rattle.intake_ledger.specs.Ledger.{LedgerData, with_report}
 use Rattle.intake_ledger.specs.Offers.{IsReportAt, again, another, by_itself, first}
 use Rattle.intake_ledger.specs.Totals.{TotalsData}
 use Rattle.intake_ledger.specs.declared.ledger.OfferError.TheVariants as offer_error
-use Rattle.intake_ledger.proofs.Offering.{HasCommitted, commit_stopped, entered_fails, entered_offered, none_kept_at, same_fails, same_offered, some_kept_at}
+use Rattle.intake_ledger.proofs.Offering.{commit_stopped, entered_fails, entered_offered, none_kept_at, same_fails, same_offered, some_kept_at}
 use Rattle.intake_ledger.proofs.ledger.Ledger.offer.Goals as goal
 
 pub returns-in-Ok-Refused-clause-offered : goal.returns-in-Ok-Refused-clause-offered
