@@ -227,16 +227,16 @@ module _ (t : TablesData) (accepted : List File) (l : LedgerData) (agrees : Agre
       let other_is : IsOfSection t r.zone r.section other = subst (λ (x : ℕ). IsOfSection t x r.section other) both.0 (subst (λ (x : ℕ). IsOfSection t z x other) both.1 is) in
       one_holder t r.zone r.section accepted f other (agrees.short f there) apart there here (same_section r q place hash kept f at beside) other_is
 
-  step : (v w : Verdict) (m : LedgerData) → IsVerdictBehind t accepted file v → IsOffer t l file w m → IsSaidSo v w × Agrees t (accepted_with accepted v file) m
+  step : (v w : Verdict) (m : LedgerData) → IsVerdictBehind t accepted file v → IsOffer t l file w m → IsSaidSo t file v w × Agrees t (accepted_with accepted v file) m
   step _ _ _ (by_itself {v} h refuses) (refused {v = w} i no_w) =
       let one : v ≡ w = one_verdict t file v w short h i in
-      (subst (IsSaidSo v) one same, subst (λ (b : Bool). Agrees t (cond b (accepted ++ file ∷ []) accepted) l) (sym refuses) agrees)
+      (subst (IsSaidSo t file v) one same, subst (λ (b : Bool). Agrees t (cond b (accepted ++ file ∷ []) accepted) l) (sym refuses) agrees)
   step _ _ _ (by_itself {v} h refuses) (entered {r} {place} {hash} at none) = absurd (not_itself t file r.zone r.section v short h refuses (of_section t file r place hash at))
   step _ _ _ (by_itself {v} h refuses) (repeated {r} {place} {hash} at some) = absurd (not_itself t file r.zone r.section v short h refuses (of_section t file r place hash at))
   step _ _ _ (by_itself {v} h refuses) (conflicting {r} {place} {hash} {kept} at some ne) = absurd (not_itself t file r.zone r.section v short h refuses (of_section t file r place hash at))
   step _ _ _ (first {zone = z} {section = s} h free) (refused {v = w} i no_w) = absurd (not_itself t file z s w short i no_w h)
   step _ _ _ (first {zone = z} {section = s} h free) (entered {r} {place} {hash} at none) =
-      (subst (IsSaidSo (verdict.Accepted z s)) (one_verdict t file (verdict.Accepted z s) (verdict.Accepted r.zone r.section) short h (of_section t file r place hash at)) same, agrees_more t accepted l agrees file r place hash at short none)
+      (subst (IsSaidSo t file (verdict.Accepted z s)) (one_verdict t file (verdict.Accepted z s) (verdict.Accepted r.zone r.section) short h (of_section t file r place hash at)) same, agrees_more t accepted l agrees file r place hash at short none)
   step _ _ _ (first {zone = z} {section = s} h free) (repeated {r} {place} {hash} at some) =
       let holder = agrees.held place hash some in
       absurd (never_free z s h free r place hash at holder.0 holder.2 (same_section r holder.1 place hash hash holder.0 at holder.3))
@@ -260,8 +260,10 @@ module _ (t : TablesData) (accepted : List File) (l : LedgerData) (agrees : Agre
       let both = one_section t file z s r.zone r.section short h (of_section t file r place hash at) in
       let holder = agrees.held place hash some in
       let there : holder.0 ≡ other = the_holder z s other here is r place hash hash at holder.0 holder.1 holder.2 holder.3 both in
-      elim (one_or_collide other file hash (subst (λ (f : File). IsLastHash f hash) there holder.3.last) at.last) [
-        | inl collide ↦ (rw (both.0, both.1) (collided collide), agrees)
+      let kept : IsLastHash other hash = subst (λ (f : File). IsLastHash f hash) there holder.3.last in
+      let of_same : IsOfSection t r.zone r.section other = subst (λ (x : ℕ). IsOfSection t x r.section other) both.0 (subst (λ (x : ℕ). IsOfSection t z x other) both.1 is) in
+      elim (one_or_collide other file hash kept at.last) [
+        | inl collide ↦ (rw (both.0, both.1) (collided of_same other_than kept at.last collide), agrees)
         | inr equal ↦ absurd (other_than equal)
       ]
   step _ _ _ (another {zone = z} {section = s} {other} h here is other_than) (conflicting {r} {place} {hash} {kept} at some ne) =
@@ -270,14 +272,17 @@ module _ (t : TablesData) (accepted : List File) (l : LedgerData) (agrees : Agre
 
 -- ---- all offers
 
-said_push : (verdicts said : List Verdict) (v w : Verdict) → AreSaidSo verdicts said → IsSaidSo v w → AreSaidSo (verdicts ++ v ∷ []) (said ++ w ∷ [])
-said_push [] [] v w all one = (one, tt)
-said_push [] (y ∷ said) v w all one = absurd all
-said_push (x ∷ verdicts) [] v w all one = absurd all
-said_push (x ∷ verdicts) (y ∷ said) v w all one = (all.0, said_push verdicts said v w all.1 one)
+said_push : (t : TablesData) (files : List File) (verdicts said : List Verdict) (file : File) (v w : Verdict) → AreSaidSo t files verdicts said → IsSaidSo t file v w
+    → AreSaidSo t (files ++ file ∷ []) (verdicts ++ v ∷ []) (said ++ w ∷ [])
+said_push t [] [] [] file v w all one = (one, tt)
+said_push t [] [] (y ∷ said) file v w all one = absurd all
+said_push t [] (x ∷ verdicts) said file v w all one = absurd all
+said_push t (f ∷ files) [] said file v w all one = absurd all
+said_push t (f ∷ files) (x ∷ verdicts) [] file v w all one = absurd all
+said_push t (f ∷ files) (x ∷ verdicts) (y ∷ said) file v w all one = (all.0, said_push t files verdicts said file v w all.1 one)
 
 agree : (t : TablesData) (files others accepted : List File) (verdicts said : List Verdict) (l : LedgerData) → AreShort files → files ≡ others
-    → AreOffered t files verdicts accepted → AreOfferedTo t (empty_ledger t) others said l → AreSaidSo verdicts said × Agrees t accepted l
+    → AreOffered t files verdicts accepted → AreOfferedTo t (empty_ledger t) others said l → AreSaidSo t files verdicts said × Agrees t accepted l
 agree t _ _ _ _ _ _ short is none_offered none_yet = (tt, agrees_empty t)
 agree t _ _ _ _ _ _ short is none_offered (one_later {files} {file} before offer) = absurd (never_none files file is)
 agree t _ _ _ _ _ _ short is (one_more {files} {file} before behind) none_yet = absurd (never_none files file (sym is))
@@ -287,7 +292,7 @@ agree t _ _ _ _ _ _ short is (one_more {files} {accepted} {verdicts} {file} {v} 
     let rest = agree t files gs accepted verdicts said m both.0 ends.0 before earlier in
     let own : IsOffer t m file w k = subst (λ (f : File). IsOffer t m f w k) (sym ends.1) offer in
     let now = step t accepted m rest.1 (each_section_once t files verdicts accepted both.0 before) file both.1 v w k behind own in
-    (said_push verdicts said v w rest.0 now.0, now.1)
+    (said_push t files verdicts said file v w rest.0 now.0, now.1)
 
 pub ledger_is_intake : LedgerIsIntake
 ledger_is_intake t files accepted verdicts said l tables short offered told =

@@ -10,7 +10,7 @@ use Rattle.urna_outside.specs.declared.device.Dev.{Dev}
 use Rattle.election_tables.specs.TablesData.{IsTables, TablesData}
 use Rattle.hash_chain.specs.Hash.{hash_text}
 use Rattle.poll_report.specs.declared.report.Report.{Report}
-use Rattle.section_intake.specs.Accepted.{AreOffered, File}
+use Rattle.section_intake.specs.Accepted.{AreOffered, File, IsOfSection}
 use Rattle.section_intake.specs.Laws.{AreShort}
 use Rattle.section_intake.specs.Sums.{AreReportsOf}
 use Rattle.section_intake.specs.declared.verdict.Verdict.{Verdict}
@@ -22,6 +22,7 @@ use Rattle.flash_store.specs.Pieces.{Piece, commits_in}
 use Rattle.flash_store.specs.Played.{Follows}
 use Rattle.intake_ledger.specs.Body.{StandsFor, decoded, rank_in}
 use Rattle.intake_ledger.specs.Kept.{AreAtRest, AreDevices, AreFound, AreFramed, device_size, ledgers}
+use Rattle.intake_ledger.specs.LastHash.{IsLastHash}
 use Rattle.intake_ledger.specs.Layout.{body_size}
 use Rattle.intake_ledger.specs.Ledger.{IsLedger, LedgerData, accepted_in, empty_ledger, panel_choices, sum_of, votes_in}
 use Rattle.intake_ledger.specs.Offers.{AreOfferedTo, IsOffer}
@@ -70,18 +71,18 @@ AcceptedIsRepeated = (t : TablesData) (l m : LedgerData) (file : File) (zone sec
 abbrev pub Collision : Type 0
 Collision = (x : List ℕ) × (y : List ℕ) × (x ≢ y) × (hash_text x ≡ hash_text y)
 
--- The verdict of a ledger is that of the intake. Only a file that is in conflict there may be repeated here, and then two different texts
--- have one SHA-512.
-pub data IsSaidSo : Verdict → Verdict → Type 0 where
-  same : {v : Verdict} → IsSaidSo v v
-  collided : {zone section : ℕ} → Collision → IsSaidSo (verdict.Conflict zone section) (verdict.Repeated zone section)
+-- The verdict of a ledger on a file is that of the intake. Only a file that is in conflict there may be repeated here, where another file of
+-- its section has the same hash of its last part; and then two different texts have one SHA-512.
+pub data IsSaidSo (t : TablesData) (file : File) : Verdict → Verdict → Type 0 where
+  same : {v : Verdict} → IsSaidSo t file v v
+  collided : {zone section : ℕ} {other : File} {hash : List ℕ} → IsOfSection t zone section other → other ≢ file → IsLastHash other hash
+      → IsLastHash file hash → Collision → IsSaidSo t file (verdict.Conflict zone section) (verdict.Repeated zone section)
 
--- so it is of each of these verdicts
-abbrev pub AreSaidSo : List Verdict → List Verdict → Type 0
-AreSaidSo [] [] = Unit {0}
-AreSaidSo [] (w ∷ said) = ⊥
-AreSaidSo (v ∷ verdicts) [] = ⊥
-AreSaidSo (v ∷ verdicts) (w ∷ said) = IsSaidSo v w × AreSaidSo verdicts said
+-- so it is of each of these files
+abbrev pub AreSaidSo : TablesData → List File → List Verdict → List Verdict → Type 0
+AreSaidSo t [] [] [] = Unit {0}
+AreSaidSo t (file ∷ files) (v ∷ verdicts) (w ∷ said) = IsSaidSo t file v w × AreSaidSo t files verdicts said
+AreSaidSo t files verdicts said = ⊥
 
 -- The ledger has the sums over the reports of these accepted files, and as many sections as there are.
 pub record HasSumsOf (t : TablesData) (accepted : List File) (l : LedgerData) : Type 0 where
@@ -90,11 +91,11 @@ pub record HasSumsOf (t : TablesData) (accepted : List File) (l : LedgerData) : 
   pub sums : l.sums ≡ map (λ x. sum_by (votes_in x) reports) (panel_choices t)
   pub number : accepted_in l ≡ length accepted
 
--- Files that are offered to the ledger before the first report have the verdicts that an intake gives them, but for a collision; and the ledger
--- has the sums over those that the intake accepts, even then.
+-- Files that are offered to the ledger before the first report have the verdicts that an intake gives them, but where two of them have one last
+-- hash; and the ledger has the sums over those that the intake accepts, even then.
 abbrev pub LedgerIsIntake : Type 0
 LedgerIsIntake = (t : TablesData) (files accepted : List File) (verdicts said : List Verdict) (l : LedgerData) → IsTables t → AreShort files
-    → AreOffered t files verdicts accepted → AreOfferedTo t (empty_ledger t) files said l → AreSaidSo verdicts said × HasSumsOf t accepted l
+    → AreOffered t files verdicts accepted → AreOfferedTo t (empty_ledger t) files said l → AreSaidSo t files verdicts said × HasSumsOf t accepted l
 
 -- ---- on two flashes
 

@@ -30,8 +30,9 @@ pub fn goes_on()
     ensures offers { OffersGoOn }
 {}
 
-/// Files that are offered to the ledger before the first report have the verdicts that `section_intake` gives them, unless two different texts
-/// have one SHA-512; and the ledger has the sums over the files that it accepts.
+/// Files that are offered to the ledger before the first report have the verdicts that `section_intake` gives them. Only where another file of
+/// its section has the same hash of its last part is a file in conflict told as repeated, and then two different texts have one SHA-512. The
+/// ledger has the sums over the files that `section_intake` accepts, even then.
 pub fn intake()
     ensures { LedgerIsIntake }
 {}
