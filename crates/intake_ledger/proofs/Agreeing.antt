@@ -2,9 +2,7 @@
 use Rattle.std.proofs.Common.{◌≡◌, ◌≢◌, inl, inr, ℕ, zero, suc, ◌+◌, ◌<◌, ◌^◌, Bool, true, cond, ◌&&◌, ◌==◌, List, [], ◌∷◌, ◌++◌, length, map, slice_get, slice_set, Option, Some, None, is_some, refl, sym, ap, subst, ◌∙◌, arith}
 use Rattle.std.specs.List.{AllByRecursion, Contains, count_by, sum_by}
 use Rattle.std.specs.Option.{option_and_then}
-use Rattle.std.specs.Str.{bytes_eq}
-use Rattle.std.specs.Cmp.Lexicographic.{other_text, same_text}
-use Rattle.std.proofs.lemmas.Bool.{and_parts, cases_Bool, cases_eq, eqb-true}
+use Rattle.std.proofs.lemmas.Bool.{and_parts, cases_eq, eqb-true}
 use Rattle.std.proofs.lemmas.List.{length-map, length-set, length_push, same_from_push}
 use Rattle.std.proofs.lemmas.List.Elements.{All-contains, All-from_recursion, Contains-append_left, Contains-push, Contains-push_cases}
 use Rattle.std.proofs.lemmas.List.Sums.{sum_by-cons, sum_by_push}
@@ -19,11 +17,12 @@ use Rattle.section_intake.specs.Verdict.{IsReportFile}
 use Rattle.section_intake.specs.Verdict.{accepted as by_fit}
 use Rattle.section_intake.specs.declared.verdict.Verdict.{Verdict}
 use Rattle.section_intake.specs.declared.verdict.Verdict.TheVariants as verdict
-use Rattle.section_intake.proofs.BehindLaws.{each_section_once, never_none, not_itself, one_behind, one_section}
+use Rattle.section_intake.proofs.BehindLaws.{each_section_once, never_none, not_itself, one_holder, one_section}
 use Rattle.section_intake.proofs.HolderLaws.{section_there}
 use Rattle.section_intake.proofs.Members.{all_but_last}
 use Rattle.section_intake.proofs.ReportLaws.{one_more as one_report_more}
 use Rattle.section_intake.proofs.VerdictLaws.{one_report, one_verdict}
+use Rattle.flash_store.specs.Pieces.{Piece}
 use Rattle.intake_ledger.specs.LastHash.{IsLastHash}
 use Rattle.intake_ledger.specs.Laws.{AreSaidSo, HasSumsOf, IsSaidSo, LedgerIsIntake, collided, same}
 use Rattle.intake_ledger.specs.Ledger.{LedgerData, empty_ledger, hash_at, panel_choices, votes_in, with_report, with_votes}
@@ -170,16 +169,6 @@ module _ (t : TablesData) (accepted : List File) (l : LedgerData) (agrees : Agre
 
 -- ---- one offer
 
--- of the accepted files one alone is of a section: another would make it repeated and in conflict
-one_holder : (t : TablesData) (z s : ℕ) (accepted : List File) (a b : File) → length a < 2 ^ 63 → AreAllApart t accepted → Contains accepted a → Contains accepted b → IsOfSection t z s a
-    → IsOfSection t z s b → a ≡ b
-one_holder t z s accepted a b short apart here there h i = elim (cases_Bool (bytes_eq b a)) [
-  | inl equal ↦ sym (same_text b a (sym equal))
-  | inr other ↦
-      let both = one_behind t accepted a (verdict.Repeated z s) (verdict.Conflict z s) short apart (again h here) (another h there i (other_text b a (sym other))) in
-      absurd (cc)
-]
-
 same_numbers : (a b : Section) (z n y m : ℕ) → a ≡ b → (a.zone == z) && (a.number == n) ≡ true → (b.zone == y) && (b.number == m) ≡ true → (z ≡ y) × (n ≡ m)
 same_numbers a b z n y m one this that =
     let mine = and_parts (a.zone == z) (a.number == n) this in
@@ -225,7 +214,7 @@ module _ (t : TablesData) (accepted : List File) (l : LedgerData) (agrees : Agre
       → (f : File) (q : Report) → Contains accepted f → IsReportAt t f q place kept → (z ≡ r.zone) × (s ≡ r.section) → f ≡ other
   the_holder z s other here is r place hash kept at f q there beside both =
       let other_is : IsOfSection t r.zone r.section other = subst (λ (x : ℕ). IsOfSection t x r.section other) both.0 (subst (λ (x : ℕ). IsOfSection t z x other) both.1 is) in
-      one_holder t r.zone r.section accepted f other (agrees.short f there) apart there here (same_section r q place hash kept f at beside) other_is
+      one_holder t r.zone r.section accepted f other apart there here (same_section r q place hash kept f at beside) other_is
 
   step : (v w : Verdict) (m : LedgerData) → IsVerdictBehind t accepted file v → IsOffer t l file w m → IsSaidSo t file v w × Agrees t (accepted_with accepted v file) m
   step _ _ _ (by_itself {v} h refuses) (refused {v = w} i no_w) =
@@ -250,7 +239,7 @@ module _ (t : TablesData) (accepted : List File) (l : LedgerData) (agrees : Agre
       (rw (both.0, both.1) same, agrees)
   step _ _ _ (again {zone = z} {section = s} h here) (conflicting {r} {place} {hash} {kept} at some ne) =
       let holder = agrees.held place kept some in
-      let there : holder.0 ≡ file = one_holder t r.zone r.section accepted holder.0 file (agrees.short holder.0 holder.2) apart holder.2 here (same_section r holder.1 place hash kept holder.0 at holder.3) (of_section t file r place hash at) in
+      let there : holder.0 ≡ file = one_holder t r.zone r.section accepted holder.0 file apart holder.2 here (same_section r holder.1 place hash kept holder.0 at holder.3) (of_section t file r place hash at) in
       absurd (ne (one_hash file kept hash short (subst (λ (f : File). IsLastHash f kept) there holder.3.last) at.last))
   step _ _ _ (another {zone = z} {section = s} h here is other_than) (refused {v = w} i no_w) = absurd (not_itself t file z s w short i no_w h)
   step _ _ _ (another {zone = z} {section = s} {other} h here is other_than) (entered {r} {place} {hash} at none) =
@@ -281,20 +270,20 @@ said_push t (f ∷ files) [] said file v w all one = absurd all
 said_push t (f ∷ files) (x ∷ verdicts) [] file v w all one = absurd all
 said_push t (f ∷ files) (x ∷ verdicts) (y ∷ said) file v w all one = (all.0, said_push t files verdicts said file v w all.1 one)
 
-agree : (t : TablesData) (files others accepted : List File) (verdicts said : List Verdict) (l : LedgerData) → AreShort files → files ≡ others
-    → AreOffered t files verdicts accepted → AreOfferedTo t (empty_ledger t) others said l → AreSaidSo t files verdicts said × Agrees t accepted l
-agree t _ _ _ _ _ _ short is none_offered none_yet = (tt, agrees_empty t)
-agree t _ _ _ _ _ _ short is none_offered (one_later {files} {file} before offer) = absurd (never_none files file is)
-agree t _ _ _ _ _ _ short is (one_more {files} {file} before behind) none_yet = absurd (never_none files file (sym is))
-agree t _ _ _ _ _ _ short is (one_more {files} {accepted} {verdicts} {file} {v} before behind) (one_later {files = gs} {verdicts = said} {m} {k} {file = g} {v = w} earlier offer) =
+agree : (t : TablesData) (files others accepted : List File) (verdicts said : List Verdict) (pieces : List (Piece LedgerData)) (l : LedgerData) → AreShort files → files ≡ others
+    → AreOffered t files verdicts accepted → AreOfferedTo t (empty_ledger t) others said pieces l → AreSaidSo t files verdicts said × Agrees t accepted l
+agree t _ _ _ _ _ _ _ short is none_offered none_yet = (tt, agrees_empty t)
+agree t _ _ _ _ _ _ _ short is none_offered (one_later {files} {file} before offer) = absurd (never_none files file is)
+agree t _ _ _ _ _ _ _ short is (one_more {files} {file} before behind) none_yet = absurd (never_none files file (sym is))
+agree t _ _ _ _ _ _ _ short is (one_more {files} {accepted} {verdicts} {file} {v} before behind) (one_later {files = gs} {verdicts = said} {pieces} {m} {k} {file = g} {v = w} earlier offer) =
     let both = all_but_last (λ (f : File). length f < 2 ^ 63) files file short in
     let ends = same_from_push files gs file g is in
-    let rest = agree t files gs accepted verdicts said m both.0 ends.0 before earlier in
+    let rest = agree t files gs accepted verdicts said pieces m both.0 ends.0 before earlier in
     let own : IsOffer t m file w k = subst (λ (f : File). IsOffer t m f w k) (sym ends.1) offer in
     let now = step t accepted m rest.1 (each_section_once t files verdicts accepted both.0 before) file both.1 v w k behind own in
     (said_push t files verdicts said file v w rest.0 now.0, now.1)
 
 pub ledger_is_intake : LedgerIsIntake
-ledger_is_intake t files accepted verdicts said l tables short offered told =
-    let all = agree t files files accepted verdicts said l short refl offered told in
+ledger_is_intake t files accepted verdicts said pieces l tables short offered told =
+    let all = agree t files files accepted verdicts said pieces l short refl offered told in
     (all.0, all.1.sums)

@@ -41,7 +41,7 @@ none_told : (v : Verdict) (l : LedgerData) → is_accepted v ≡ false → told_
 none_told v l refused = ap (λ (b : Bool). cond b (Some l) None) refused
 
 -- lines that are shown change no flash
-still_kept : (t : TablesData) (lines : List (List ℕ)) (kept : TotalsData) (l : LedgerData) (a b : Told) → HasShown lines a b → Keeps t a kept l → Keeps t b kept l
+pub still_kept : (t : TablesData) (lines : List (List ℕ)) (kept : TotalsData) (l : LedgerData) (a b : Told) → HasShown lines a b → Keeps t a kept l → Keeps t b kept l
 still_kept t lines kept l a b showed keeps =
     let same = shows_keep (shows lines) a b (shows_lines lines).shows showed.does in
     record { totals = keeps.totals; rest = subst (λ (o : Option Flashes). ForSome o (AreLaid t kept.body)) (sym same) keeps.rest }

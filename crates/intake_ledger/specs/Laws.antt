@@ -94,8 +94,8 @@ pub record HasSumsOf (t : TablesData) (accepted : List File) (l : LedgerData) : 
 -- Files that are offered to the ledger before the first report have the verdicts that an intake gives them, but where two of them have one last
 -- hash; and the ledger has the sums over those that the intake accepts, even then.
 abbrev pub LedgerIsIntake : Type 0
-LedgerIsIntake = (t : TablesData) (files accepted : List File) (verdicts said : List Verdict) (l : LedgerData) → IsTables t → AreShort files
-    → AreOffered t files verdicts accepted → AreOfferedTo t (empty_ledger t) files said l → AreSaidSo t files verdicts said × HasSumsOf t accepted l
+LedgerIsIntake = (t : TablesData) (files accepted : List File) (verdicts said : List Verdict) (pieces : List (Piece LedgerData)) (l : LedgerData) → IsTables t
+    → AreShort files → AreOffered t files verdicts accepted → AreOfferedTo t (empty_ledger t) files said pieces l → AreSaidSo t files verdicts said × HasSumsOf t accepted l
 
 -- ---- on two flashes
 

@@ -6,7 +6,6 @@ pub mod LastHash
 pub mod Totals
 pub mod Header
 pub mod Kept
-pub mod Checked
 pub mod Offers
 pub mod Calls
 pub mod Laws

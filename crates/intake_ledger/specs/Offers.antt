@@ -1,5 +1,5 @@
 -- The verdict on a file that is offered to a ledger, the ledger that it leaves, and what is put out (docs/FORMATS.md, "The ledger")
-use Rattle.std.specs.Prelude.{◌≡◌, ◌≢◌, ℕ, false, if◌then◌else◌, List, [], ◌∷◌, ◌++◌, Option, Some, None}
+use Rattle.std.specs.Prelude.{◌≡◌, ◌≢◌, ℕ, ◌+◌, false, if◌then◌else◌, List, [], ◌∷◌, ◌++◌, length, Option, Some, None}
 use Rattle.election_tables.specs.TablesData.{TablesData, place_with}
 use Rattle.poll_report.specs.declared.report.Report.{Report}
 use Rattle.section_intake.specs.Accepted.{File, is_accepted}
@@ -31,12 +31,6 @@ pub data IsOffer (t : TablesData) (l : LedgerData) (file : File) : Verdict → L
   another : {r : Report} {place : ℕ} {hash kept : List ℕ} → IsReportAt t file r place hash → hash_at place l ≡ Some kept → kept ≢ hash
       → IsOffer t l file (verdict.Conflict r.zone r.section) l
 
--- Files are offered to a ledger one behind the other: their verdicts, and the ledger that they leave.
-pub data AreOfferedTo (t : TablesData) (l : LedgerData) : List File → List Verdict → LedgerData → Type 0 where
-  none_offered : AreOfferedTo t l [] [] l
-  one_more : {files : List File} {verdicts : List Verdict} {m k : LedgerData} {file : File} {v : Verdict} → AreOfferedTo t l files verdicts m
-      → IsOffer t m file v k → AreOfferedTo t l (files ++ file ∷ []) (verdicts ++ v ∷ []) k
-
 -- ---- what is put out
 
 -- an accepted report tells the ledger with it; any other verdict tells none
@@ -46,3 +40,12 @@ told_by v m = if is_accepted v then Some m else None
 -- the line of the verdict on the report of a number, behind the commit of the ledger that it tells
 abbrev pub offer_piece : ℕ → Verdict → LedgerData → Piece LedgerData
 offer_piece number v m = record { line = numbered_line number v; commit = told_by v m }
+
+-- ---- one behind the other
+
+-- Files are offered to a ledger one behind the other, with numbers from 1: their verdicts, what is put out, and the ledger that they leave.
+pub data AreOfferedTo (t : TablesData) (l : LedgerData) : List File → List Verdict → List (Piece LedgerData) → LedgerData → Type 0 where
+  none_offered : AreOfferedTo t l [] [] [] l
+  one_more : {files : List File} {verdicts : List Verdict} {pieces : List (Piece LedgerData)} {m k : LedgerData} {file : File} {v : Verdict}
+      → AreOfferedTo t l files verdicts pieces m → IsOffer t m file v k
+      → AreOfferedTo t l (files ++ file ∷ []) (verdicts ++ v ∷ []) (pieces ++ offer_piece (length files + 1) v k ∷ []) k

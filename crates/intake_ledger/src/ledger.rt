@@ -20,7 +20,6 @@ ghost use Rattle.intake_ledger.specs.Layout.{body_size};
 ghost use Rattle.intake_ledger.specs.Ledger.{LedgerData, empty_ledger, with_report};
 
 use crate::body::{is_hash_at, is_marked};
-use crate::checking::{Checked, check_report};
 use crate::find::find;
 use crate::header::header;
 use crate::in_use::test_free;
@@ -33,7 +32,7 @@ use election_tables::Tables;
 use flash_store::sync_both;
 use poll_report::Report;
 use report_lines::numbered_line;
-use section_intake::Verdict;
+use section_intake::{Checked, Verdict, check_report};
 use std::alloc::Global;
 use std::marker::Model;
 use twin_image::Level;

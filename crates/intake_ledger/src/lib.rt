@@ -12,7 +12,6 @@
 #![tactic(auto)]
 
 mod body;
-mod checking;
 mod choices;
 mod entry;
 mod find;

@@ -10,7 +10,7 @@ use Rattle.vote_record.specs.RdvData.{RdvData}
 use Rattle.poll_report.specs.Counted.{HasReport, report_of}
 use Rattle.qr_text.specs.Spelling.{Spells, report_text}
 use Rattle.hash_chain.specs.Chain.{parts_text}
-use Rattle.section_intake.specs.Verdict.{IsReportFile, IsVerdict}
+use Rattle.section_intake.specs.Verdict.{IsReportFile, IsVerdict, most_report_bytes}
 use Rattle.section_intake.specs.declared.verdict.Verdict.TheVariants as verdict
 
 -- the record of a state
@@ -37,10 +37,6 @@ abbrev pub SealedHasFile : Type 0
 SealedHasFile = (t : TablesData) (section : Section) (s : State) (opened closed : ℕ) → IsTables t → Contains t.sections section
     → IsStateOf t section.voters s → s.phase ≡ phase.Sealed opened closed
     → IsReportFile (report_file t section s opened closed) (report_of t section s.bags s.came opened closed)
-
--- how many bytes the file of a report may have
-abbrev pub most_report_bytes : ℕ
-most_report_bytes = 1048576
 
 -- is no longer than a report may be, and is accepted by the tables
 abbrev pub SealedIsAccepted : Type 0

@@ -8,6 +8,3 @@ pub mod laws;
 mod results;
 
 pub use results::{Results, results_of};
-
-/// How many bytes the file of a report has at most.
-pub const MOST_REPORT_BYTES: u32 = 1_048_576;

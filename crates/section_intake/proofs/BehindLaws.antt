@@ -32,7 +32,7 @@ one_section t file z s y u short h i =
     (cc, cc)
 
 -- of files of different sections one alone is of a section
-one_holder : (t : TablesData) (z s : ℕ) (files : List File) (a b : File) → AreAllApart t files → Contains files a → Contains files b → IsOfSection t z s a
+pub one_holder : (t : TablesData) (z s : ℕ) (files : List File) (a b : File) → AreAllApart t files → Contains files a → Contains files b → IsOfSection t z s a
     → IsOfSection t z s b → a ≡ b
 one_holder t z s [] a b apart (k, lt, e) there h i = absurd (omega arith)
 one_holder t z s (f ∷ files) a b apart here there h i = elim (Contains-append_cases (f ∷ []) files a here) [

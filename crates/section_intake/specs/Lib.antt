@@ -1,4 +1,5 @@
 pub mod Accepted
+pub mod Checked
 pub mod Fits
 pub mod Verdict
 pub mod Fitting

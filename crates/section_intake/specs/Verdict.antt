@@ -11,6 +11,10 @@ use Rattle.section_intake.specs.Fits.{Fits}
 use Rattle.section_intake.specs.declared.verdict.Verdict.{Verdict}
 use Rattle.section_intake.specs.declared.verdict.Verdict.TheVariants as verdict
 
+-- how many bytes the file of a report may have
+abbrev pub most_report_bytes : ℕ
+most_report_bytes = 1048576
+
 -- a file is the parts of a text that spells this report
 pub record IsReportFile (bytes : List ℕ) (r : Report) : Type 0 where
   pub text : List ℕ

@@ -1,5 +1,6 @@
 //! A file is checked by itself.
-ghost use Rattle.std.specs.Prelude.{◌≡◌, ◌<◌, ◌^◌, ℕ, List, length, IfErr, IfOk};
+ghost use Rattle.std.specs.Prelude.{◌≡◌, ◌<◌, ◌^◌, length, IfErr, IfOk};
+ghost use Rattle.section_intake.specs.Checked.{IsChecked};
 ghost use Rattle.section_intake.specs.Reading.{IsRefused, field_refusal, part_refusal};
 ghost use Rattle.section_intake.specs.Verdict.{IsReportFile, IsVerdict};
 ghost use Rattle.section_intake.specs.declared.verdict.Verdict.{Verdict};
@@ -29,25 +30,42 @@ fn judge(alloc: Global, tables: &Tables, bytes: &[u8]) -> Result<Verdict, Memory
     requires { length bytes.now < 2 ^ 31 }
     ensures { IfOk result (λ v. IsVerdict tables.now bytes.now v) }
 {
-    match read_file(alloc, bytes) {
-        Ok(report) => Ok(verdict_on(tables, &report)),
-        Err(Refusal::Memory) => Err(Memory),
-        Err(Refusal::Part(fault)) => Ok(Verdict::Part(fault)),
-        Err(Refusal::Fields(fault)) => Ok(Verdict::Fields(fault)),
+    match check_report(alloc, tables, bytes)? {
+        Checked::Report(report) => Ok(Verdict::Accepted {
+            zone: report.zone,
+            section: report.section,
+        }),
+        Checked::Refused(verdict) => Ok(verdict),
     }
 }
 
-/// The verdict on a file that has a report.
-fn verdict_on(tables: &Tables, report: &Report) -> Verdict
-    ensures { (bytes : List ℕ) → IsReportFile bytes report.now → IsVerdict tables.now bytes result }
+/// What a file is by itself.
+#[derive(Drop)]
+pub enum Checked {
+    /// It has a report, which fits the tables.
+    Report(Report),
+    /// It is refused.
+    Refused(Verdict),
+}
+
+/// The report of a file that is accepted by itself, or the verdict that refuses it.
+///
+/// The caller owes that the file is shorter than 2^31 bytes. `Memory` comes only where an allocation failed.
+pub fn check_report(alloc: Global, tables: &Tables, bytes: &[u8]) -> Result<Checked, Memory>
+    requires { length bytes.now < 2 ^ 31 }
+    ensures { IfOk result (IsChecked tables.now bytes.now) }
 {
-    if fits(tables, report) {
-        Verdict::Accepted {
-            zone: report.zone,
-            section: report.section,
+    match read_file(alloc, bytes) {
+        Ok(report) => {
+            if fits(tables, &report) {
+                Ok(Checked::Report(report))
+            } else {
+                Ok(Checked::Refused(Verdict::Strange))
+            }
         }
-    } else {
-        Verdict::Strange
+        Err(Refusal::Memory) => Err(Memory),
+        Err(Refusal::Part(fault)) => Ok(Checked::Refused(Verdict::Part(fault))),
+        Err(Refusal::Fields(fault)) => Ok(Checked::Refused(Verdict::Fields(fault))),
     }
 }
 

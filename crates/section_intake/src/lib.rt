@@ -3,7 +3,7 @@
 //!
 //! The layer above uses that `check` gives the verdict of `specs/Verdict.antt` (docs/FORMATS.md, "Verdicts"): of a file whose parts or
 //! fields are at fault the first fault, and else whether its report fits the tables (`specs/Fits.antt`). `laws` has that there is one
-//! verdict, and that the file of a report that fits is accepted. `read_file` reads a file without tables: its report, or which fault of its
+//! verdict, and that the file of a report that fits is accepted. `check_report` hands over the report of such a file. `read_file` reads a file without tables: its report, or which fault of its
 //! parts or fields it has (`specs/Reading.antt`).
 //!
 //! Of several files it uses that `Intake::offer` gives the verdict of `specs/Accepted.antt`, and `Intake::nominal`, `party`, `blank` and
@@ -21,6 +21,9 @@ mod panel_sums;
 mod tallies;
 mod verdict;
 
-pub use checking::{Refusal, check, read_file};
+pub use checking::{Checked, Refusal, check, check_report, read_file};
 pub use intake::Intake;
 pub use verdict::Verdict;
+
+/// How many bytes the file of a report may have.
+pub const MOST_REPORT_BYTES: u32 = 1_048_576;

@@ -38,11 +38,17 @@ awards_more t ws i round w at is =
     ap (λ (k : ℕ). award_lines t 1 (take k ws)) (add-one i)
     ∙ (awards_then t 1 ws i w at ∙ ap (λ (k : ℕ). award_lines t 1 (take i ws) ++ award_line t k w ∷ []) (omega (arith, is)))
 
--- a number below 10^8 has at most 8 digits
-pub length-decimal-le_8 : (v : ℕ) → v < 10 ^ 8 → length (decimal v) ≤ 8
-length-decimal-le_8 v h = length-decimal-le 8 v (omega arith) h (omega arith)
+-- a number below 10^11 has at most 11 digits
+pub length-decimal-le_11 : (v : ℕ) → v < 10 ^ 11 → length (decimal v) ≤ 11
+length-decimal-le_11 v h = length-decimal-le 11 v (omega arith) h (omega arith)
 
-pub ruleset small_lengths = (length-append, length-decimal-le_8)
+pub ruleset small_lengths = (length-append, length-decimal-le_11)
+
+-- and one below 10^3 at most 3
+pub length-decimal-le_3 : (v : ℕ) → v < 10 ^ 3 → length (decimal v) ≤ 3
+length-decimal-le_3 v h = length-decimal-le 3 v (omega arith) h (omega arith)
+
+pub ruleset code_lengths = (length-append, length-decimal-le_3)
 
 -- a line, three lists of lines and another line
 pub five_behind : {X : Type 0} (fn a b d e f : List X) (first last : X) (xs ys zs : List X) → a ≡ fn ++ first ∷ [] → b ≡ a ++ xs → d ≡ b ++ ys → e ≡ d ++ zs

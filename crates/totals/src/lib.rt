@@ -19,6 +19,6 @@ mod votes;
 
 pub use contest::contest_of;
 pub use entries::entries_of;
-pub use lines::{number_line, pair_line, push_numbered};
+pub use lines::{candidate_line, number_line, office_line, pair_line, push_numbered, section_line};
 pub use results::total_lines;
 pub use votes::PanelVotes;

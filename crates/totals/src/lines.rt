@@ -20,20 +20,32 @@ pub fn push_numbered(line: &mut LineBuffer, word: &[u8], number: u64)
     line.push_decimal(number);
 }
 
-/// Appends a word and a number of at most 8 digits.
+/// Appends a word and a number of at most 11 digits.
 #[tactic(auto, using(crate::proofs::LineLaws::small_lengths))]
 fn push_small(line: &mut LineBuffer, word: &[u8], number: u64)
-    requires small { number < 10 ^ 8 }
-    requires room { length line.old + length word.now ≤ 119 }
+    requires small { number < 10 ^ 11 }
+    requires room { length line.old + length word.now ≤ 116 }
     ensures text { line.new ≡ line.old ++ (word.now ++ decimal number) }
-    ensures short { length line.new ≤ length line.old + length word.now + 8 }
+    ensures short { length line.new ≤ length line.old + length word.now + 11 }
 {
     line.push_text(word);
     line.push_decimal(number);
 }
 
+/// Appends a word and a number of at most 3 digits.
+#[tactic(auto, using(crate::proofs::LineLaws::code_lengths))]
+fn push_code(line: &mut LineBuffer, word: &[u8], code: u64)
+    requires small { code < 10 ^ 3 }
+    requires room { length line.old + length word.now ≤ 116 }
+    ensures text { line.new ≡ line.old ++ (word.now ++ decimal code) }
+    ensures short { length line.new ≤ length line.old + length word.now + 3 }
+{
+    line.push_text(word);
+    line.push_decimal(code);
+}
+
 /// How many reports were accepted, and how many sections there are.
-pub(crate) fn section_line(accepted: u32, sections: u32) -> LineBuffer
+pub fn section_line(accepted: u32, sections: u32) -> LineBuffer
     ensures { result ≡ section_line accepted sections }
 {
     let mut line = LineBuffer::new();
@@ -43,14 +55,14 @@ pub(crate) fn section_line(accepted: u32, sections: u32) -> LineBuffer
     line
 }
 
-/// The votes of an office. The caller owes that they are fewer than 10^8, so that each number has at most 8 digits: a line has no room for
+/// The votes of an office. The caller owes that they are fewer than 10^11, so that each number has at most 11 digits: a line has no room for
 /// seven of 20.
-pub(crate) fn office_line(code: u8, votes: PanelVotes) -> LineBuffer
-    requires { total_of votes < 10 ^ 8 }
+pub fn office_line(code: u8, votes: PanelVotes) -> LineBuffer
+    requires { total_of votes < 10 ^ 11 }
     ensures { result ≡ office_line code votes }
 {
     let mut line = LineBuffer::new();
-    push_small(&mut line, b"CARGO ", u64::from(code));
+    push_code(&mut line, b"CARGO ", u64::from(code));
     push_small(&mut line, b" VALIDOS ", votes.valid());
     push_small(&mut line, b" NOMINAIS ", votes.nominal);
     push_small(&mut line, b" LEGENDA ", votes.party);
@@ -62,7 +74,7 @@ pub(crate) fn office_line(code: u8, votes: PanelVotes) -> LineBuffer
 }
 
 /// A candidate and the votes.
-pub(crate) fn candidate_line(candidate: Entry) -> LineBuffer
+pub fn candidate_line(candidate: Entry) -> LineBuffer
     ensures { result ≡ candidate_line candidate }
 {
     let mut line = LineBuffer::new();

@@ -43,9 +43,9 @@ impl PanelVotes {
         }
     }
 
-    /// The valid ones: the nominal and the party votes. The caller owes that all votes are fewer than 10^8, as those of a panel are.
+    /// The valid ones: the nominal and the party votes. The caller owes that all votes are fewer than 10^11, as those of a panel are.
     pub fn valid(&self) -> u64
-        requires { total_of self.now < 10 ^ 8 }
+        requires { total_of self.now < 10 ^ 11 }
         ensures { result ≡ valid_of self.now }
     {
         self.nominal + self.party
@@ -53,7 +53,7 @@ impl PanelVotes {
 
     /// All of them.
     pub(crate) fn total(&self) -> u64
-        requires { total_of self.now < 10 ^ 8 }
+        requires { total_of self.now < 10 ^ 11 }
         ensures { result ≡ total_of self.now }
     {
         self.valid() + (self.blank + self.null_votes)

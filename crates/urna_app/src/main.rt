@@ -5,13 +5,12 @@
 
 #[cfg(test)]
 mod tests;
-mod words;
 
+use command_parts::words;
 use state_store::DEVICE_SIZE;
 use std::process::ExitCode;
 pub use urna_commands::{Doc, Status, contest_of, urna};
 use urna_outside::{FileMachine, FolderCabinet};
-use words::words;
 
 /// The status where the program's words can't be had, which no command has.
 const NO_WORDS: u8 = 40;

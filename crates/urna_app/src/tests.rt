@@ -1,6 +1,6 @@
 //! The program's words, and its status.
 use crate::run_program;
-use crate::words::words;
+use command_parts::words;
 use std::env::{Env, FillError};
 use std::process::ExitCode;
 use std::test::Fail;

@@ -1,7 +1,7 @@
 -- The report that a call put is accepted by the next
 use Rattle.urna_commands.specs.Putting.{report_name}
 use Rattle.std.specs.Option.{ForSome}
-use Rattle.urna_commands.specs.declared.status.Doc.{Doc}
+use Rattle.command_parts.specs.declared.error.Doc.{Doc}
 use Rattle.state_store.specs.Calls.{AreFound}
 use Rattle.std.proofs.Common.{◌≡◌, ◌≢◌, ◌⊎◌, inl, inr, ℕ, List, [], ◌∷◌, Option, Some, refl, ap, subst, ◌∙◌}
 use Rattle.std.specs.Prelude.{Contains}
@@ -24,14 +24,15 @@ use Rattle.result_files.proofs.Reports.{sealed_is_accepted}
 use Rattle.urna_commands.specs.Accepting.{EmittedIsAccepted, IsAccepted, VotedIsAccepted, IsOwnName}
 use Rattle.urna_commands.specs.Command.{Confere, Emite}
 use Rattle.urna_commands.specs.Confere.{ConfereEnds, HasVerdict, check_no_cabinet, check_no_memory, check_not_told, check_refused, checked}
-use Rattle.urna_commands.specs.Documents.{HasDocuments, HasTables, IsBad, IsFault, IsFirstFault, bad, count, first_other, first_tables, lacks, line, longer, name_line, no_document, record_line, roll_line, rule}
+use Rattle.command_parts.specs.Documents.{HasDocuments, HasTables}
+use Rattle.urna_commands.specs.Documents.{IsFirstFault}
 use Rattle.urna_commands.specs.AtRest.{AreResults, both_files, no_files}
 use Rattle.urna_commands.specs.Emite.{EmiteEnds, emit_no_cabinet, emit_no_memory, emit_refused, emitted, files_stopped, not_emitted, not_found, not_sealed}
 use Rattle.urna_commands.specs.Emite.{no_files as no_files_made}
 use Rattle.urna_commands.specs.Errors.{store_status}
 use Rattle.report_lines.specs.Verdicts.{verdict_line}
 use Rattle.urna_commands.specs.Verdicts.{verdict_status}
-use Rattle.urna_commands.specs.declared.status.Doc.TheVariants as doc
+use Rattle.command_parts.specs.declared.error.Doc.TheVariants as doc
 use Rattle.urna_commands.specs.declared.status.Status.{Status}
 use Rattle.urna_commands.specs.declared.status.Status.TheVariants as status
 use Rattle.urna_commands.proofs.AtRest.{done_is_whole}
@@ -108,23 +109,8 @@ store_not_done (store.Foreign d) is = absurd (cc)
 store_not_done store.NoImage is = absurd (cc)
 
 -- no fault of a document is Done
-bad_not_done : (d : Doc) (bytes : List ℕ) (s : Status) → IsBad d bytes s → s ≢ status.Done
-bad_not_done _ bytes _ (no_document un) = λ done. absurd (cc)
-bad_not_done _ bytes _ (rule breaks) = λ done. absurd (cc)
-bad_not_done _ bytes _ (count un) = λ done. absurd (cc)
-bad_not_done _ bytes _ (roll_line has) = λ done. absurd (cc)
-bad_not_done _ bytes _ (line is) = λ done. absurd (cc)
-bad_not_done _ bytes _ (name_line is) = λ done. absurd (cc)
-bad_not_done _ bytes _ (record_line is) = λ done. absurd (cc)
-
-fault_not_done : {files : Option Files} {name : List ℕ} {d : Doc} {s : Status} → IsFault files name d s → s ≢ status.Done
-fault_not_done (lacks h) done = absurd (cc)
-fault_not_done (longer h) done = absurd (cc)
-fault_not_done {d = d} {s = s} (bad {bytes} taken is) done = bad_not_done d bytes s is done
-
-pub first_not_done : {files : Option Files} {tables : List ℕ} {d : Doc} {name : List ℕ} {s : Status} → IsFirstFault files tables d name s → s ≢ status.Done
-first_not_done (first_tables h) done = fault_not_done h done
-first_not_done (first_other has h) done = fault_not_done h done
+pub first_not_done : (files : Option Files) (tables : List ℕ) (d : Doc) (name : List ℕ) (s : Status) → IsFirstFault files tables d name s → s ≢ status.Done
+first_not_done files tables d name s h done = subst (IsFirstFault files tables d name) done h
 
 module _ (names : Emite) (files : Files) (c d : CabinetTold) (told : c.files ≡ Some files) (own : IsOwnName names.tables names.out) (m n : Told) where
   abbrev Emitted : Type 0
@@ -132,7 +118,7 @@ module _ (names : Emite) (files : Files) (c d : CabinetTold) (told : c.files ≡
       × ForSome m.flashes (AreFound t r section s) × (opened : ℕ) × (closed : ℕ) × (s.phase ≡ phase.Sealed opened closed) × IsAccepted names.tables names.out section d
 
   emite_done : (answer : Status) → answer ≡ status.Done → EmiteEnds names c d m n answer → Emitted
-  emite_done answer done (emit_refused why taken un) = absurd (first_not_done why done)
+  emite_done answer done (emit_refused why taken un) = absurd (first_not_done c.files names.tables _ names.roll answer why done)
   emite_done _ done (emit_no_memory taken un) = absurd (cc)
   emite_done _ done (emit_no_cabinet taken un) = absurd (cc)
   emite_done _ done (not_found e also taken h) = absurd (store_not_done e done)

@@ -43,7 +43,8 @@ use Rattle.station.proofs.Performing.{tables_setting}
 use Rattle.station.proofs.RunLaws.{run_exists}
 use Rattle.urna_commands.specs.Again.{AreDone, AreNoCollision, AreReady, Call, Called, EitherMayBeExchanged, ExchangeLeavesIt, Exchanged, HasKept, HavePoll, IsCall, IsExchange, IsNext, IsSessionOf, LeadTo, LeadsTo, MayBeCalled, NextIsSafe, ReplaceNothing, RestStandsAlone, StandsAlone, Step, StepsKeepVotes, StillStandsAlone, TellsForeign, ballots_in, ballots_led, by_both, by_one, cut, cut_behind, done_call, done_exchange, done_nothing, ended, exchanges, foreign, leads, other, session, silent, stays, stopped}
 use Rattle.urna_commands.specs.Command.{Carga, Command, Repoe, ToCheck, ToEmit, ToLoad, ToRecount, ToRehearse, ToReplace, ToTotal, ToVote, Vota, command_of}
-use Rattle.urna_commands.specs.FaultLines.{Tells, device_word, fault_line, fault_text}
+use Rattle.command_parts.specs.FaultLines.{Tells, device_word, fault_line}
+use Rattle.urna_commands.specs.FaultLines.{fault_text}
 use Rattle.urna_commands.specs.Idle.{AreIdle, GivesOthers, IsIdleEnding}
 use Rattle.urna_commands.specs.Replaced.{EndsForeign}
 use Rattle.urna_commands.specs.Vota.{IsGiven, IsRefused, VotaEnds, no_cabinet, no_memory, not_started, refused, session_held, cut as vota_cut}

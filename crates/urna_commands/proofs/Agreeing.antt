@@ -121,7 +121,7 @@ voted_agree names c d m n t r es section s files is last out run opened closed s
 
 module _ (names : Emite) (files : Files) (c d : CabinetTold) (told : c.files ≡ Some files) (m n : Told) where
   emite_done : (answer : Status) → answer ≡ status.Done → EmiteEnds names c d m n answer → AgreeThere names.out d
-  emite_done answer done (emit_refused why taken un) = absurd (first_not_done why done)
+  emite_done answer done (emit_refused why taken un) = absurd (first_not_done c.files names.tables _ names.roll answer why done)
   emite_done _ done (emit_no_memory taken un) = absurd (cc)
   emite_done _ done (emit_no_cabinet taken un) = absurd (cc)
   emite_done _ done (not_found e also taken h) = absurd (store_not_done e done)

@@ -9,7 +9,8 @@ use Rattle.station.proofs.Pieces.{full_opening}
 use Rattle.urna_commands.proofs.Keeping.{commits_none, text_cases}
 use Rattle.station.specs.Cast.{ballots_of, fims_reached}
 use Rattle.urna_commands.specs.Command.{Vota}
-use Rattle.urna_commands.specs.FaultLines.{Tells, fault_text}
+use Rattle.command_parts.specs.FaultLines.{Tells}
+use Rattle.urna_commands.specs.FaultLines.{fault_text}
 use Rattle.urna_commands.specs.declared.status.Status.{Status}
 use Rattle.image_codec.specs.State.{State}
 use Rattle.station.specs.declared.station.StartError.{StartError}

@@ -1,5 +1,5 @@
 -- Where a call has what it needs, each other ending shows a fault
-use Rattle.std.proofs.Common.{◌≡◌, ◌⊎◌, inl, inr, false, ℕ, zero, suc, ◌+◌, ◌≤◌, List, [], ◌∷◌, length, Option, None, Some, refl, sym, ap, subst, ◌∙◌}
+use Rattle.std.proofs.Common.{◌≡◌, ◌⊎◌, inl, inr, false, ℕ, zero, suc, ◌+◌, ◌≤◌, List, [], ◌∷◌, length, Option, None, Some, refl, sym, ap, subst, ◌∙◌, IsSomeAnd}
 use Rattle.urna_outside.specs.Cabinet.{CabinetTold, Entry, Files, Tally}
 use Rattle.urna_outside.specs.Flash.{Flashes, flash_of}
 use Rattle.urna_outside.specs.Told.{Faults, Rose, Told, faults_of, port_of}
@@ -41,27 +41,32 @@ use Rattle.urna_commands.specs.Carga.{CargaEnds, IsSectionAsked, load_no_cabinet
 use Rattle.urna_commands.specs.Command.{Carga, Command, Confere, Emite, Reconta, Repoe, ToCheck, ToEmit, ToLoad, ToRecount, ToRehearse, ToReplace, ToTotal, ToVote, Totaliza, Vota, command_of}
 use Rattle.urna_commands.specs.Completion.{CanCheck, CanEmit, CanLoad, CanRecount, CanReplace, CanTotal, CanVote, IsByFinding, IsByVerdicts, CanDo, Completes, CompletesWhereItCan, IsDoneOrMemory, TellsOfRisenCounts, tells_of_count}
 use Rattle.urna_commands.specs.Confere.{ConfereEnds, check_no_cabinet, check_no_memory, check_not_told, check_refused, checked}
-use Rattle.urna_commands.specs.Documents.{HasDocuments, IsBad, IsFault, IsFirstFault, bad, count, first_other, first_tables, lacks, line, longer, name_line, no_document, record_line, roll_line, rule}
+use Rattle.command_parts.specs.Documents.{HasDocuments, IsFault as IsFaultOf, IsFirstFault as IsFirstFaultOf}
+use Rattle.command_parts.specs.declared.error.CommandError.{CommandError}
+use Rattle.urna_commands.specs.Documents.{IsFault, IsFirstFault}
 use Rattle.urna_commands.specs.Emite.{EmiteEnds, emit_no_cabinet, emit_no_memory, emit_refused, emitted, files_stopped, no_files, not_emitted, not_found, not_sealed}
 use Rattle.urna_commands.specs.Ending.{CommandEnds}
 use Rattle.urna_commands.specs.Ensaio.{EnsaioEnds, not_rehearsed, rehearsal_files, rehearsal_not_put, rehearsal_not_told, rehearsed}
-use Rattle.urna_commands.specs.Errors.{load_status, port_status, replace_status, start_status, store_status}
-use Rattle.urna_commands.specs.FaultLines.{Tells, fault_text}
+use Rattle.urna_commands.specs.Errors.{error_of, load_status, port_status, replace_status, start_status, store_status}
+use Rattle.command_parts.specs.FaultLines.{Tells}
+use Rattle.urna_commands.specs.FaultLines.{fault_text}
 use Rattle.urna_commands.specs.Findings.{finding_line, finding_status}
 use Rattle.urna_commands.specs.Laws.{FoundOnce}
 use Rattle.urna_commands.specs.Putting.{PutsResults, StopPutting, no_results, result_files, results_not_made, results_not_put, results_put}
 use Rattle.urna_commands.specs.Reconta.{HasRecordAndReport, HasNoReport, IsNoReport, RecontaEnds, fields_fault, no_recount, parts_fault, recount_no_cabinet, recount_no_memory, record_at_fault, recounted, report_at_fault}
 use Rattle.urna_commands.specs.Repoe.{RepoeEnds, not_replaced, replace_no_cabinet, replace_no_memory, replace_refused, replaced, replaced_untold}
 use Rattle.urna_commands.specs.Taking.{HasTaken}
-use Rattle.urna_commands.specs.Totaliza.{HasOffered, IsListed, TotalizaEnds, list_no_cabinet, list_no_memory, list_refused, refused_status, report_no_cabinet, report_no_memory, report_refused, totalled, totals_not_told, verdict_not_told}
+use Rattle.command_parts.specs.Documents.{IsListed}
+use Rattle.urna_commands.specs.Totaliza.{HasOffered, TotalizaEnds, list_no_cabinet, list_no_memory, list_refused, refused_status, report_no_cabinet, report_no_memory, report_refused, totalled, totals_not_told, verdict_not_told}
 use Rattle.report_lines.specs.Verdicts.{refused_count, verdict_line}
 use Rattle.urna_commands.specs.Verdicts.{verdict_status}
 use Rattle.urna_commands.specs.Vota.{HasVotedTo, IsGiven, IsRefused, VotaEnds, cut, documents, keys, no_cabinet, no_memory, not_started, refused, session_held}
-use Rattle.urna_commands.specs.declared.status.Doc.{Doc}
-use Rattle.urna_commands.specs.declared.status.Doc.TheVariants as doc
+use Rattle.command_parts.specs.declared.error.Doc.{Doc}
+use Rattle.command_parts.specs.declared.error.Doc.TheVariants as doc
 use Rattle.urna_commands.specs.declared.status.Status.{Status}
 use Rattle.urna_commands.specs.declared.status.Status.TheVariants as status
-use Rattle.urna_commands.proofs.Once.{record_not_fault, refused_or_documents, refused_or_given, refused_or_listed, report_not_fault, same_names, same_roll, same_tables, tables_not_fault}
+use Rattle.command_parts.proofs.Once.{same_names, same_roll, same_tables}
+use Rattle.urna_commands.proofs.Once.{record_not_fault, refused_or_documents, refused_or_given, refused_or_listed, refused_or_taken, report_not_fault}
 use Rattle.urna_commands.proofs.Recounts.{no_report_not_read}
 use Rattle.urna_commands.proofs.Totals.{none_at_fault}
 use Rattle.urna_commands.proofs.Endings.{ends_as}
@@ -281,7 +286,7 @@ totaliza_completes answers names c d m b s files told none calm can (list_refuse
 totaliza_completes answers names c d m b s files told none calm can (list_no_memory taken untouched) = inr refl
 totaliza_completes answers names c d m b s files told none calm can (list_no_cabinet taken untouched) = absurd (none taken.counts.faults.rose)
 totaliza_completes answers names c d m b s files told none calm can (report_refused {t} {listed} {left} {name} {verdicts} {accepted} given offered fault taken shown) =
-    let found = subst (λ (f : Option Files). IsListed f names t listed) told given in
+    let found = subst (λ (f : Option Files). IsListed f names.tables names.list t listed) told given in
     let same = same_names files names.list listed can.listed found.list can.given.list in
     absurd (none_at_fault files offered.names name left can.listed can.reports s (sym offered.all ∙ same) can.taken
     (subst (λ (f : Option Files). IsFault f name doc.Report s) told fault))
@@ -293,7 +298,7 @@ totaliza_completes answers names c d m b s files told none calm can (totalled {t
     inl (record {
       t = t;
       listed = listed;
-      given = subst (λ (f : Option Files). IsListed f names t listed) told given;
+      given = subst (λ (f : Option Files). IsListed f names.tables names.list t listed) told given;
       verdicts = verdicts;
       accepted = totals.accepted;
       offered = subst (λ (f : Option Files). HasOffered f t listed [] verdicts totals.accepted) told totals.offered;
@@ -306,11 +311,7 @@ pub confere_completes : (names : Confere) (c d : CabinetTold) (m b : Told) (s : 
     → ¬ Rose c.tally.faults d.tally.faults → Calm s m b → CanCheck names (Some files) → ConfereEnds names c d m b s
     → IsDoneOrMemory s ⊎ ((v : Verdict) × (s ≡ status.ReportRefused v))
 confere_completes names c d m b s files told none calm can (check_refused h taken untouched) =
-    absurd (refused (subst (λ (f : Option Files). IsFirstFault f names.tables doc.Report names.report s) told h))
-  where
-    refused : IsFirstFault (Some files) names.tables doc.Report names.report s → ⊥
-    refused (first_tables h) = tables_not_fault files names.tables s can.t h can.tables
-    refused (first_other has h) = report_not_fault files names.report can.bytes s h can.report
+    absurd (refused_or_taken files names can.bytes s can.t (subst (λ (f : Option Files). IsFirstFault f names.tables doc.Report names.report s) told h) can.tables can.report)
 confere_completes names c d m b s files told none calm can (check_no_memory taken untouched) = inl (inr refl)
 confere_completes names c d m b s files told none calm can (check_no_cabinet taken untouched) = absurd (none taken.counts.faults.rose)
 confere_completes names c d m b s files told none calm can (check_not_told given taken off) = absurd (calm Display refl off.faults.rose)
@@ -407,26 +408,24 @@ record NothingCounted (c d : CabinetTold) (s : Status) (m b : Told) : Type 0 whe
   too_long : ¬ Rose c.tally.too_long d.tally.too_long
   calm : Calm s m b
 
--- a document at fault that is there tells of no count
-not_bad : (x : Doc) (bytes : List ℕ) (s : Status) → IsBad x bytes s → tells_of_count s ≡ false
-not_bad x bytes s (no_document h) = refl
-not_bad x bytes s (rule h) = refl
-not_bad x bytes s (count h) = refl
-not_bad x bytes s (roll_line h) = refl
-not_bad x bytes s (line h) = refl
-not_bad x bytes s (name_line h) = refl
-not_bad x bytes s (record_line h) = refl
+-- where no count rose, a document at fault tells of none
+file_counts : (P : CommandError → Type 0) (most : ℕ) (c d : CabinetTold) (s : Status) (m b : Told) → NothingCounted c d s m b
+    → HasTaken most s c d → IsSomeAnd (error_of s) P → tells_of_count s ≡ false
+file_counts P most c d (status.Missing x) m b none taken h = absurd (none.missing taken.counts.missing.rose)
+file_counts P most c d (status.TooLong x) m b none taken h = absurd (none.too_long taken.counts.too_long.rose)
+file_counts P most c d status.Cabinet m b none taken h = absurd (none.faults taken.counts.faults.rose)
+file_counts P most c d status.InternalFlash m b none taken h = absurd h
+file_counts P most c d status.ExternalFlash m b none taken h = absurd h
+file_counts P most c d status.Display m b none taken h = absurd h
+file_counts P most c d s m b none taken h = refl
 
 fault_counts : (files : Option Files) (name : List ℕ) (x : Doc) (most : ℕ) (c d : CabinetTold) (s : Status) (m b : Told) → NothingCounted c d s m b
     → HasTaken most s c d → IsFault files name x s → tells_of_count s ≡ false
-fault_counts files name x most c d s m b none taken (lacks h) = absurd (none.missing taken.counts.missing.rose)
-fault_counts files name x most c d s m b none taken (longer h) = absurd (none.too_long taken.counts.too_long.rose)
-fault_counts files name x most c d s m b none taken (bad {bytes} held h) = not_bad x bytes s h
+fault_counts files name x most c d s m b none taken h = file_counts (IsFaultOf files name x) most c d s m b none taken h
 
 first_counts : (files : Option Files) (tables : List ℕ) (x : Doc) (name : List ℕ) (most : ℕ) (c d : CabinetTold) (s : Status) (m b : Told)
     → NothingCounted c d s m b → HasTaken most s c d → IsFirstFault files tables x name s → tells_of_count s ≡ false
-first_counts files tables x name most c d s m b none taken (first_tables h) = fault_counts files tables doc.Tables most c d s m b none taken h
-first_counts files tables x name most c d s m b none taken (first_other has h) = fault_counts files name x most c d s m b none taken h
+first_counts files tables x name most c d s m b none taken h = file_counts (IsFirstFaultOf files tables x name) most c d s m b none taken h
 
 done_or_memory : (s : Status) → IsDoneOrMemory s → tells_of_count s ≡ false
 done_or_memory s (inl e) = ap tells_of_count e

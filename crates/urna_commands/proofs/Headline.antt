@@ -47,16 +47,18 @@ use Rattle.station.proofs.Performing.{tables_setting}
 use Rattle.station.proofs.RunLaws.{run_exists, run_unique}
 use Rattle.urna_commands.specs.Command.{Vota}
 use Rattle.urna_commands.specs.Errors.{start_status}
-use Rattle.urna_commands.specs.FaultLines.{Tells, fault_text}
+use Rattle.command_parts.specs.FaultLines.{Tells}
+use Rattle.urna_commands.specs.FaultLines.{fault_text}
 use Rattle.urna_commands.specs.Headline.{KeepsVotes, KeysHaveRun, VotesAreKept, session_of}
 use Rattle.urna_commands.specs.Putting.{PutsResults, no_results, results_not_made, results_not_put, results_put}
 use Rattle.urna_commands.specs.Vota.{HasVoted, HasVotedTo, IsGiven, VotaEnds, cut, session_held, no_cabinet, no_memory, not_started, refused, IsRefused}
-use Rattle.urna_commands.specs.declared.status.Doc.TheVariants as doc
+use Rattle.command_parts.specs.declared.error.Doc.TheVariants as doc
 use Rattle.urna_commands.specs.declared.status.Status.{Status}
 use Rattle.urna_commands.proofs.Completion.{port_silent}
 use Rattle.urna_commands.proofs.Idle.{synced_both}
 use Rattle.urna_commands.proofs.Keeping.{behind_is, found_roll, kept_silent, not_done, not_within, safe_stops, session_kept}
-use Rattle.urna_commands.proofs.Once.{refused_or_given, same_bytes, same_roll, same_tables}
+use Rattle.command_parts.proofs.Once.{same_bytes, same_roll, same_tables}
+use Rattle.urna_commands.proofs.Once.{refused_or_given}
 use Rattle.image_codec.specs.Layout.{body_size}
 
 -- ---- what is recovered, over flashes that hold a poll

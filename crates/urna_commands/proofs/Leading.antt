@@ -41,7 +41,8 @@ use Rattle.station.proofs.RunLaws.{commits_of-append}
 use Rattle.urna_commands.specs.Again.{Call, IsInterrupted, IsToldOrOneMore, LeadsOn, failed}
 use Rattle.urna_commands.specs.Command.{Vota}
 use Rattle.urna_commands.specs.Errors.{port_status, start_status}
-use Rattle.urna_commands.specs.FaultLines.{Tells, fault_text}
+use Rattle.command_parts.specs.FaultLines.{Tells}
+use Rattle.urna_commands.specs.FaultLines.{fault_text}
 use Rattle.urna_commands.specs.Headline.{HoldsShown, KeepsVotes, session_of}
 use Rattle.urna_commands.specs.Vota.{HasVoted, HasVotedTo, IsGiven, IsRefused, VotaEnds, no_cabinet, no_memory, not_started, refused, session_held, cut as vota_cut}
 use Rattle.urna_commands.specs.declared.status.Status.{Status}

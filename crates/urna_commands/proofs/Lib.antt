@@ -3,10 +3,8 @@ mod Agreeing
 mod Asked
 mod AtRest
 mod PutFiles
-mod Calls
 mod Completion
 mod Endings
-mod Faults
 mod Headline
 mod Idle
 mod Keeping

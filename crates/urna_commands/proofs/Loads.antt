@@ -36,12 +36,13 @@ use Rattle.state_store.specs.declared.store.LoadError.{LoadError}
 use Rattle.state_store.specs.declared.store.LoadError.TheVariants as load
 use Rattle.state_store.proofs.Loaded.{rest_found, rest_whole}
 use Rattle.urna_commands.specs.Carga.{CargaEnds, HasLoaded, IsSectionAsked, load_no_cabinet, load_no_memory, load_refused, loaded, loaded_line, no_section, not_loaded, not_told}
-use Rattle.urna_commands.specs.Documents.{HasDocuments, IsFirstFault}
+use Rattle.command_parts.specs.Documents.{HasDocuments}
+use Rattle.urna_commands.specs.Documents.{IsFirstFault}
 use Rattle.urna_commands.specs.Command.{Carga, ToLoad, command_of}
 use Rattle.urna_commands.specs.Ending.{CommandEnds, Ends}
 use Rattle.urna_commands.specs.Errors.{load_status}
 use Rattle.urna_commands.specs.Again.{AreReady, LoadMakesReady, Call, IsCall, IsNext, LoadMayFollow, cut_behind, cut, ended, StayFree}
-use Rattle.urna_commands.specs.declared.status.Doc.TheVariants as doc
+use Rattle.command_parts.specs.declared.error.Doc.TheVariants as doc
 use Rattle.urna_commands.specs.declared.status.Status.{Status}
 use Rattle.urna_commands.specs.declared.status.Status.TheVariants as status
 use Rattle.urna_commands.proofs.Again.{clean_is_clean}

@@ -21,11 +21,13 @@ use Rattle.state_store.specs.declared.store.LoadError.TheVariants as load
 use Rattle.flash_store.proofs.Resting.{clean_image}
 use Rattle.urna_commands.specs.Carga.{CargaEnds, load_no_cabinet, load_no_memory, load_refused, loaded, loaded_line, no_section, not_loaded, not_told}
 use Rattle.urna_commands.specs.Command.{Carga, ToLoad}
-use Rattle.urna_commands.specs.Documents.{IsBad, IsFault, IsFirstFault, bad, count, first_other, first_tables, lacks, line, longer, name_line, no_document, record_line, roll_line, rule}
+use Rattle.command_parts.specs.declared.error.CommandError.TheVariants as error
+use Rattle.command_parts.proofs.Once.{first_is}
+use Rattle.urna_commands.specs.Documents.{IsFirstFault}
 use Rattle.urna_commands.specs.Errors.{load_status}
 use Rattle.urna_commands.specs.FaultLines.{fault_text}
 use Rattle.urna_commands.specs.NeverBusy.{LoadIsNotBusy, LoadLeavesFree}
-use Rattle.urna_commands.specs.declared.status.Doc.{Doc}
+use Rattle.command_parts.specs.declared.error.Doc.{Doc}
 use Rattle.urna_commands.specs.declared.status.Status.{Status}
 use Rattle.urna_commands.specs.declared.status.Status.TheVariants as status
 use Rattle.urna_commands.specs.Idle.{AreIdle}
@@ -149,23 +151,9 @@ load_leaves_free words c d m n answer ends names command start ops traced free =
 
 -- ---- what it answers
 
-bad_not_busy : (d : Doc) (bytes : List ℕ) (s : Status) (e : Dev) → IsBad d bytes s → s ≢ status.Busy e
-bad_not_busy d bytes _ e (no_document h) is = absurd (cc)
-bad_not_busy d bytes _ e (rule h) is = absurd (cc)
-bad_not_busy d bytes _ e (count h) is = absurd (cc)
-bad_not_busy d bytes _ e (roll_line h) is = absurd (cc)
-bad_not_busy d bytes _ e (line h) is = absurd (cc)
-bad_not_busy d bytes _ e (name_line h) is = absurd (cc)
-bad_not_busy d bytes _ e (record_line h) is = absurd (cc)
-
-fault_not_busy : (files : Option Files) (name : List ℕ) (d : Doc) (s : Status) (e : Dev) → IsFault files name d s → s ≢ status.Busy e
-fault_not_busy files name d _ e (lacks h) is = absurd (cc)
-fault_not_busy files name d _ e (longer h) is = absurd (cc)
-fault_not_busy files name d _ e (bad {bytes} {s} taken h) is = bad_not_busy d bytes s e h is
-
 first_not_busy : (files : Option Files) (tables : List ℕ) (d : Doc) (name : List ℕ) (s : Status) (e : Dev) → IsFirstFault files tables d name s → s ≢ status.Busy e
-first_not_busy files tables d name s e (first_tables h) is = fault_not_busy files tables _ s e h is
-first_not_busy files tables d name s e (first_other has h) is = fault_not_busy files name d s e h is
+first_not_busy files tables d name s e h is =
+    let of_file = first_is files tables d name (error.Busy e) (subst (IsFirstFault files tables d name) is h) in absurd (cc)
 
 free_not_busy : (start : Flashes) (d : Dev) → AreFree start → IsBusy d start → ⊥
 free_not_busy start dev.Internal free busy = free dev.Internal busy

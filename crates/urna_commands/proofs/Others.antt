@@ -25,13 +25,13 @@ use Rattle.station.specs.Start.{FailsToStart, IsRecovered}
 use Rattle.station.specs.declared.station.StartError.{StartError}
 use Rattle.station.specs.declared.station.StartError.TheVariants as starting
 use Rattle.urna_commands.specs.Command.{Vota}
-use Rattle.urna_commands.specs.Documents.{HasDocuments}
+use Rattle.command_parts.specs.Documents.{HasDocuments}
 use Rattle.urna_commands.specs.Errors.{start_status}
 use Rattle.urna_commands.specs.Idle.{OthersAreKeptOut}
 use Rattle.urna_commands.specs.Replaced.{EndsForeign}
 use Rattle.urna_commands.specs.Vota.{IsGiven, IsRefused, VotaEnds, cut, no_cabinet, no_memory, not_started, refused, session_held}
 use Rattle.urna_commands.specs.declared.status.Status.{Status}
-use Rattle.urna_commands.proofs.Once.{same_roll, same_tables}
+use Rattle.command_parts.proofs.Once.{same_roll, same_tables}
 
 -- files give one set of documents
 pub documents_once : (files : Files) (tables_name roll_name : List ℕ) (t u : TablesData) (r q : RollData) → HasDocuments (Some files) tables_name roll_name t r

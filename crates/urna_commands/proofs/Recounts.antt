@@ -16,15 +16,17 @@ use Rattle.section_intake.specs.declared.verdict.Verdict.TheVariants as verdict
 use Rattle.section_intake.proofs.VerdictLaws.{no_fault, one_report}
 use Rattle.urna_commands.specs.Answering.{Answers, answered, cut_short}
 use Rattle.urna_commands.specs.Command.{Reconta}
-use Rattle.urna_commands.specs.Documents.{HasRecord, HasReport, IsFault}
+use Rattle.command_parts.specs.Documents.{HasRecord, HasReport}
+use Rattle.urna_commands.specs.Documents.{IsFault}
 use Rattle.urna_commands.specs.Findings.{finding_status}
 use Rattle.urna_commands.specs.Laws.{OneRecountStatus, RecountEndsSo}
 use Rattle.urna_commands.specs.Reconta.{HasRecordAndReport, HasNoReport, IsNoReport, IsRecountFault, IsRecountStatus, RecontaEnds, at_fault, both_read, fields_fault, first_report, no_recount, no_report, parts_fault, recount_no_cabinet, recount_no_memory, record_at_fault, recounted, report_at_fault, then_record}
 use Rattle.urna_commands.specs.Verdicts.{verdict_status}
-use Rattle.urna_commands.specs.declared.status.Doc.TheVariants as doc
+use Rattle.command_parts.specs.declared.error.Doc.TheVariants as doc
 use Rattle.urna_commands.specs.declared.status.Status.{Status}
 use Rattle.urna_commands.specs.declared.status.Status.TheVariants as status
-use Rattle.urna_commands.proofs.Once.{fault_once, record_not_fault, report_not_fault, same_bytes, small}
+use Rattle.command_parts.proofs.Once.{same_bytes, small}
+use Rattle.urna_commands.proofs.Once.{fault_once, record_not_fault, report_not_fault}
 
 -- ---- the file of a report
 

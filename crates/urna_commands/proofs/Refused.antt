@@ -8,14 +8,15 @@ use Rattle.section_intake.specs.declared.verdict.Verdict.{Verdict}
 use Rattle.urna_commands.specs.Carga.{CargaEnds, load_no_cabinet, load_no_memory, load_refused, loaded, no_section, not_loaded, not_told}
 use Rattle.urna_commands.specs.Command.{Carga, Command, Confere, Emite, Repoe, ToCheck, ToEmit, ToLoad, ToRecount, ToRehearse, ToReplace, ToTotal, ToVote, Vota, command_of}
 use Rattle.urna_commands.specs.Confere.{ConfereEnds, HasVerdict, check_no_cabinet, check_no_memory, check_not_told, check_refused, checked}
-use Rattle.urna_commands.specs.Documents.{HasDocuments, IsFirstFault}
+use Rattle.command_parts.specs.Documents.{HasDocuments}
+use Rattle.urna_commands.specs.Documents.{IsFirstFault}
 use Rattle.urna_commands.specs.Emite.{EmiteEnds, emit_no_cabinet, emit_no_memory, emit_refused, emitted, files_stopped, no_files, not_emitted, not_found, not_sealed}
 use Rattle.urna_commands.specs.Ending.{CommandEnds}
 use Rattle.urna_commands.specs.Laws.{AreRefused, RefusedEndSo, VerdictEndsSo}
 use Rattle.urna_commands.specs.Repoe.{RepoeEnds, not_replaced, replace_no_cabinet, replace_no_memory, replace_refused, replaced, replaced_untold}
 use Rattle.urna_commands.specs.Verdicts.{verdict_status}
 use Rattle.urna_commands.specs.Vota.{IsGiven, IsRefused, VotaEnds, cut, no_cabinet, no_memory, not_started, refused, session_held}
-use Rattle.urna_commands.specs.declared.status.Doc.TheVariants as doc
+use Rattle.command_parts.specs.declared.error.Doc.TheVariants as doc
 use Rattle.urna_commands.specs.declared.status.Status.{Status}
 use Rattle.urna_commands.specs.declared.status.Status.TheVariants as status
 use Rattle.urna_commands.proofs.Recounts.{recount_refused}

@@ -45,14 +45,15 @@ use Rattle.contingency.proofs.Spare.{spare_is_found}
 use Rattle.urna_commands.specs.Again.{AreNoCollision, GivesNoCollision, HavePoll, by_both, by_one}
 use Rattle.urna_commands.specs.AtRest.{RestWith}
 use Rattle.urna_commands.specs.Command.{Emite, Repoe, Vota}
-use Rattle.urna_commands.specs.Documents.{HasDocuments, IsFirstFault}
+use Rattle.command_parts.specs.Documents.{HasDocuments}
+use Rattle.urna_commands.specs.Documents.{IsFirstFault}
 use Rattle.urna_commands.specs.Emite.{EmiteEnds, HasPeeked, emit_no_cabinet, emit_no_memory, emit_refused, emitted, files_stopped, no_files, not_emitted, not_found, not_sealed}
 use Rattle.urna_commands.specs.Errors.{port_status, replace_status, store_status}
 use Rattle.urna_commands.specs.Idle.{AreIdle}
 use Rattle.urna_commands.specs.Replaced.{EndsForeign, ReplacedIsForeign, ReplacedIsLoaded}
 use Rattle.urna_commands.specs.Repoe.{HasReplaced, RepoeEnds, not_replaced, replace_no_cabinet, replace_no_memory, replace_refused, replaced, replaced_line, replaced_untold}
 use Rattle.urna_commands.specs.Vota.{IsGiven, IsRefused, VotaEnds}
-use Rattle.urna_commands.specs.declared.status.Doc.TheVariants as doc
+use Rattle.command_parts.specs.declared.error.Doc.TheVariants as doc
 use Rattle.urna_commands.specs.declared.status.Status.{Status}
 use Rattle.urna_commands.specs.declared.status.Status.TheVariants as status
 use Rattle.urna_commands.proofs.Headline.{given_once}

@@ -35,18 +35,21 @@ use Rattle.urna_commands.specs.Confere.{ConfereEnds, check_no_cabinet, check_no_
 use Rattle.urna_commands.specs.Emite.{EmiteEnds, emit_no_cabinet, emit_no_memory, emit_refused, emitted, emitted_line, files_stopped, no_files, not_emitted, not_found, not_sealed}
 use Rattle.urna_commands.specs.Ending.{CommandEnds, NoCommandEnds}
 use Rattle.urna_commands.specs.Ensaio.{EnsaioEnds, not_rehearsed, rehearsal_files, rehearsal_names, rehearsal_not_put, rehearsal_not_told, rehearsed}
-use Rattle.urna_commands.specs.FaultLines.{Tells, fault_line, fault_text}
+use Rattle.command_parts.specs.FaultLines.{Tells, fault_line}
+use Rattle.urna_commands.specs.FaultLines.{fault_text}
 use Rattle.urna_commands.specs.Findings.{finding_line, finding_status}
 use Rattle.urna_commands.specs.Putting.{HavePut, PutsResults, StopPutting, no_results, result_files, result_names, results_not_made, results_not_put, results_put}
 use Rattle.urna_commands.specs.Reconta.{RecontaEnds, no_recount, recount_no_cabinet, recount_no_memory, record_at_fault, recounted, report_at_fault}
 use Rattle.urna_commands.specs.Repoe.{RepoeEnds, not_replaced, replace_no_cabinet, replace_no_memory, replace_refused, replaced, replaced_line, replaced_untold}
-use Rattle.urna_commands.specs.Taking.{HasTaken, calls_made}
-use Rattle.urna_commands.specs.Totaliza.{TotalizaEnds, list_no_cabinet, list_no_memory, list_refused, report_no_cabinet, report_no_memory, report_refused, totalled, totals_not_told, verdict_not_told, IsListed}
+use Rattle.command_parts.specs.Taking.{calls_made}
+use Rattle.urna_commands.specs.Taking.{HasTaken}
+use Rattle.command_parts.specs.Documents.{IsListed}
+use Rattle.urna_commands.specs.Totaliza.{TotalizaEnds, list_no_cabinet, list_no_memory, list_refused, report_no_cabinet, report_no_memory, report_refused, totalled, totals_not_told, verdict_not_told}
 use Rattle.urna_commands.specs.Touching.{AreAny, AreSyncsAndShows, EachTouchesAtMost, Touches, TouchesAtMost}
 use Rattle.urna_outside.specs.Shows.{AreShows}
 use Rattle.urna_outside.proofs.Showing.{are_shows-append}
 use Rattle.urna_outside.proofs.ShowingLines.{cut_front, shows_lines}
-use Rattle.urna_commands.proofs.Calls.{calls_more}
+use Rattle.command_parts.proofs.Calls.{calls_more}
 use Rattle.report_lines.specs.Verdicts.{verdict_line, verdict_lines}
 use Rattle.urna_commands.specs.Verdicts.{verdict_status}
 use Rattle.urna_commands.specs.Vota.{VotaEnds, cut, no_cabinet, no_memory, not_started, refused, session_held}
@@ -181,7 +184,7 @@ reconta_touches names c d m b s (recounted {r} {p} has taken tells) =
     took AreShows [] 2 2 s c d m b (omega arith) (answer_so (finding_line r p) (finding_status (finding r p)) m b s tells) taken
 
 -- the reports that are listed
-listed_touches : (names : Totaliza) (c d : CabinetTold) (m b : Told) (s : Status) (t : TablesData) (listed : List (List ℕ)) → IsListed c.files names t listed → Shown m b
+listed_touches : (names : Totaliza) (c d : CabinetTold) (m b : Told) (s : Status) (t : TablesData) (listed : List (List ℕ)) → IsListed c.files names.tables names.list t listed → Shown m b
     → HasTaken (length listed + 2) s c d → TouchesAtMost (Some (ToTotal names)) c d m b
 listed_touches names c d m b s t listed is ops taken =
     (length listed, inr (t, listed, is, refl), took AreShows [] (length listed + 2) (length listed + 2) s c d m b (omega arith) ops taken)

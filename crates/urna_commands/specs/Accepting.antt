@@ -19,7 +19,7 @@ use Rattle.station.specs.Setting.{setting_of}
 use Rattle.urna_commands.specs.AtRest.{VotaOver}
 use Rattle.urna_commands.specs.Command.{Emite, Vota}
 use Rattle.urna_commands.specs.Confere.{ConfereEnds}
-use Rattle.urna_commands.specs.Documents.{HasDocuments}
+use Rattle.command_parts.specs.Documents.{HasDocuments}
 use Rattle.urna_commands.specs.Emite.{EmiteEnds}
 use Rattle.urna_commands.specs.Putting.{report_name, result_names}
 use Rattle.report_lines.specs.Verdicts.{verdict_line}

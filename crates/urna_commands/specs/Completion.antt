@@ -21,14 +21,15 @@ use Rattle.state_store.specs.Calls.{AreFound}
 use Rattle.contingency.specs.Replaced.{IsReplaced}
 use Rattle.urna_commands.specs.Carga.{IsSectionAsked}
 use Rattle.urna_commands.specs.Command.{Carga, Command, Confere, Emite, Reconta, Repoe, ToCheck, ToEmit, ToLoad, ToRecount, ToRehearse, ToReplace, ToTotal, ToVote, Totaliza, Vota, command_of}
-use Rattle.urna_commands.specs.Documents.{HasDocuments, HasTables, IsTaken}
+use Rattle.command_parts.specs.Documents.{HasDocuments, HasTables, IsTaken}
 use Rattle.urna_commands.specs.Ending.{Ends}
 use Rattle.urna_commands.specs.Findings.{finding_status}
 use Rattle.urna_commands.specs.Reconta.{HasRecordAndReport}
 use Rattle.report_lines.specs.Verdicts.{refused_count}
-use Rattle.urna_commands.specs.Totaliza.{AreTaken, HasOffered, IsListed, refused_status}
+use Rattle.command_parts.specs.Documents.{AreTaken, IsListed}
+use Rattle.urna_commands.specs.Totaliza.{HasOffered, refused_status}
 use Rattle.urna_commands.specs.Vota.{IsGiven}
-use Rattle.urna_commands.specs.declared.status.Doc.TheVariants as doc
+use Rattle.command_parts.specs.declared.error.Doc.TheVariants as doc
 use Rattle.urna_commands.specs.declared.status.Status.{Status}
 use Rattle.urna_commands.specs.declared.status.Status.TheVariants as status
 
@@ -113,7 +114,7 @@ pub record CanCheck (names : Confere) (files : Option Files) : Type 0 where
 pub record CanTotal (names : Totaliza) (files : Option Files) : Type 0 where
   pub t : TablesData
   pub listed : List (List ℕ)
-  pub given : IsListed files names t listed
+  pub given : IsListed files names.tables names.list t listed
   pub reports : List File
   pub taken : AreTaken files listed reports
 
@@ -136,7 +137,7 @@ pub record CanRecount (names : Reconta) (files : Option Files) : Type 0 where
 pub record IsByVerdicts (names : Totaliza) (files : Option Files) (s : Status) : Type 0 where
   pub t : TablesData
   pub listed : List (List ℕ)
-  pub given : IsListed files names t listed
+  pub given : IsListed files names.tables names.list t listed
   pub verdicts : List Verdict
   pub accepted : List File
   pub offered : HasOffered files t listed [] verdicts accepted

@@ -8,7 +8,8 @@ use Rattle.urna_commands.specs.Command.{Command, ToCheck, ToEmit, ToLoad, ToReco
 use Rattle.urna_commands.specs.Confere.{ConfereEnds}
 use Rattle.urna_commands.specs.Emite.{EmiteEnds}
 use Rattle.urna_commands.specs.Ensaio.{EnsaioEnds}
-use Rattle.urna_commands.specs.FaultLines.{Tells, fault_text}
+use Rattle.command_parts.specs.FaultLines.{Tells}
+use Rattle.urna_commands.specs.FaultLines.{fault_text}
 use Rattle.urna_commands.specs.Reconta.{RecontaEnds}
 use Rattle.urna_commands.specs.Repoe.{RepoeEnds}
 use Rattle.urna_commands.specs.Taking.{HasTaken}

@@ -14,12 +14,13 @@ use Rattle.record_audit.specs.declared.text.RecordText.{RecordText}
 use Rattle.flash_store.specs.Syncs.{IsUntouched}
 use Rattle.urna_commands.specs.Answering.{Answers}
 use Rattle.urna_commands.specs.Command.{Reconta}
-use Rattle.urna_commands.specs.Documents.{HasRecord, HasReport, IsFault, IsTaken}
+use Rattle.command_parts.specs.Documents.{HasRecord, HasReport, IsTaken}
+use Rattle.urna_commands.specs.Documents.{IsFault}
 use Rattle.urna_commands.specs.Findings.{finding_line, finding_status}
 use Rattle.urna_commands.specs.Taking.{HasTaken}
 use Rattle.report_lines.specs.Verdicts.{verdict_line}
 use Rattle.urna_commands.specs.Verdicts.{verdict_status}
-use Rattle.urna_commands.specs.declared.status.Doc.TheVariants as doc
+use Rattle.command_parts.specs.declared.error.Doc.TheVariants as doc
 use Rattle.urna_commands.specs.declared.status.Status.{Status}
 use Rattle.urna_commands.specs.declared.status.Status.TheVariants as status
 

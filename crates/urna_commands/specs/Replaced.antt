@@ -17,7 +17,7 @@ use Rattle.contingency.specs.Replaced.{IsReplaced, IsStanding}
 use Rattle.urna_commands.specs.Again.{GivesNoCollision}
 use Rattle.urna_commands.specs.AtRest.{RestWith}
 use Rattle.urna_commands.specs.Command.{Emite, Repoe, Vota}
-use Rattle.urna_commands.specs.Documents.{HasDocuments}
+use Rattle.command_parts.specs.Documents.{HasDocuments}
 use Rattle.urna_commands.specs.Emite.{EmiteEnds}
 use Rattle.urna_commands.specs.Errors.{port_status}
 use Rattle.urna_commands.specs.Repoe.{RepoeEnds}

@@ -20,11 +20,12 @@ use Rattle.state_store.specs.Rest.{AreAtRest}
 use Rattle.contingency.specs.Calls.{FailsToReplace, IsReplacement, Replaces}
 use Rattle.contingency.specs.declared.replacement.ReplaceError.{ReplaceError}
 use Rattle.urna_commands.specs.Command.{Repoe}
-use Rattle.urna_commands.specs.Documents.{HasDocuments, IsFirstFault}
+use Rattle.command_parts.specs.Documents.{HasDocuments}
+use Rattle.urna_commands.specs.Documents.{IsFirstFault}
 use Rattle.urna_commands.specs.Errors.{replace_status}
-use Rattle.urna_commands.specs.FaultLines.{device_word}
+use Rattle.command_parts.specs.FaultLines.{device_word}
 use Rattle.urna_commands.specs.Taking.{HasTaken}
-use Rattle.urna_commands.specs.declared.status.Doc.TheVariants as doc
+use Rattle.command_parts.specs.declared.error.Doc.TheVariants as doc
 use Rattle.urna_commands.specs.declared.status.Status.{Status}
 use Rattle.urna_commands.specs.declared.status.Status.TheVariants as status
 

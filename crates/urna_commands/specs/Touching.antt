@@ -10,8 +10,8 @@ use Rattle.urna_commands.specs.Command.{Command, ToCheck, ToEmit, ToLoad, ToReco
 use Rattle.urna_commands.specs.Ending.{Ends}
 use Rattle.urna_commands.specs.Ensaio.{rehearsal_names}
 use Rattle.urna_commands.specs.Putting.{OthersStay, result_names}
-use Rattle.urna_commands.specs.Taking.{calls_made}
-use Rattle.urna_commands.specs.Totaliza.{IsListed}
+use Rattle.command_parts.specs.Taking.{calls_made}
+use Rattle.command_parts.specs.Documents.{IsListed}
 use Rattle.urna_commands.specs.declared.status.Status.{Status}
 
 -- ---- what is done on the machine
@@ -37,7 +37,7 @@ pub record Touches (does : List Op → Type 0) (own : List (List ℕ)) (most : �
 
 -- how many reports there are to take: none, or as many as a list that can be read names
 abbrev pub AreToTake : CabinetTold → Totaliza → ℕ → Type 0
-AreToTake c names k = (k ≡ 0) ⊎ ((t : TablesData) × (listed : List (List ℕ)) × IsListed c.files names t listed × (k ≡ length listed))
+AreToTake c names k = (k ≡ 0) ⊎ ((t : TablesData) × (listed : List (List ℕ)) × IsListed c.files names.tables names.list t listed × (k ≡ length listed))
 
 -- What each command may touch, however it ends. Words of no command, confere, totaliza, reconta and ensaio put and sync nothing on a flash; emite
 -- syncs each at most once, and puts nothing; confere, totaliza, reconta, carga and repoe leave each file as it is; vota and emite change their two files of

@@ -7,9 +7,9 @@ ghost use Rattle.urna_commands.specs.Carga.{CargaEnds, loaded_line};
 ghost use Rattle.urna_commands.specs.Taking.{status_in};
 
 use crate::command::CargaNames;
-use crate::documents::take_tables_and;
 use crate::status::Status;
 use crate::telling::tell_line;
+use command_parts::take_tables_and;
 use election_tables::{Roll, Section, Tables};
 use state_store::Store;
 use std::alloc::Global;

@@ -3,10 +3,10 @@ ghost use Rattle.urna_commands.specs.Confere.{ConfereEnds};
 ghost use Rattle.urna_commands.specs.Taking.{status_in};
 
 use crate::command::ConfereNames;
-use crate::documents::take_tables_and;
 use crate::status::Status;
 use crate::telling::tell_line;
 use crate::verdict::ended_by;
+use command_parts::take_tables_and;
 use report_lines::verdict_line;
 use section_intake::check;
 use std::alloc::Global;

@@ -6,10 +6,10 @@ ghost use Rattle.urna_commands.specs.Emite.{EmiteEnds, emitted_line};
 ghost use Rattle.urna_commands.specs.Taking.{status_in};
 
 use crate::command::EmiteNames;
-use crate::documents::take_tables_and;
 use crate::results::deliver_sealed;
 use crate::status::Status;
 use crate::telling::tell_line;
+use command_parts::take_tables_and;
 use election_tables::{Roll, Section};
 use state_store::Store;
 use std::alloc::Global;

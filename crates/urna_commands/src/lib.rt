@@ -14,7 +14,6 @@ ghost use Rattle.urna_commands.specs.Taking.{status_in};
 mod carga;
 mod command;
 mod confere;
-mod documents;
 mod emite;
 mod ensaio;
 mod errors;
@@ -32,13 +31,15 @@ mod vota;
 
 use carga::carga;
 use command::{Command, command_of};
+pub use command_parts::Doc;
+use command_parts::tell_fault;
 use confere::confere;
 use emite::emite;
 use ensaio::ensaio;
-use fault::tell_fault;
+use fault::fault_line;
 use reconta::reconta;
 use repoe::repoe;
-pub use status::{Doc, Status};
+pub use status::Status;
 use std::alloc::Global;
 use totaliza::totaliza;
 pub use totals::contest_of;
@@ -68,7 +69,7 @@ pub fn urna<M: Machine, C: Cabinet>(
         Ok(()) => Status::Done,
         Err(status) => status,
     };
-    tell_fault(machine, &status);
+    tell_fault(machine, fault_line(&status));
     status
 }
 

@@ -3,11 +3,11 @@ ghost use Rattle.urna_commands.specs.Reconta.{RecontaEnds};
 ghost use Rattle.urna_commands.specs.Taking.{status_in};
 
 use crate::command::RecontaNames;
-use crate::documents::Document;
 use crate::finding::{ended_by_finding, finding_line};
 use crate::status::Status;
 use crate::telling::tell_answer;
 use crate::verdict::tell_verdict;
+use command_parts::Document;
 use record_audit::{RecordText, audit};
 use section_intake::{Refusal, Verdict, read_file};
 use std::alloc::Global;

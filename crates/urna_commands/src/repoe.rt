@@ -6,10 +6,9 @@ ghost use Rattle.urna_commands.specs.Repoe.{RepoeEnds, replaced_line};
 ghost use Rattle.urna_commands.specs.Taking.{status_in};
 
 use crate::command::RepoeNames;
-use crate::documents::take_tables_and;
-use crate::fault::device_word;
 use crate::status::Status;
 use crate::telling::tell_line;
+use command_parts::{device_word, take_tables_and};
 use contingency::replace;
 use election_tables::{Roll, Section};
 use image_codec::State;

@@ -7,9 +7,9 @@ ghost use Rattle.urna_commands.specs.Taking.{status_in};
 ghost use Rattle.urna_commands.specs.Totaliza.{TotalizaEnds, refused_status};
 
 use crate::command::TotalizaNames;
-use crate::documents::{Document, take_tables_and};
 use crate::status::Status;
 use crate::telling::{tell_line, tell_lines};
+use command_parts::{Document, take_tables_and};
 use election_tables::Tables;
 use key_script::Names;
 use report_lines::numbered_line;

@@ -7,9 +7,9 @@ ghost use Rattle.urna_commands.specs.Taking.{status_in};
 ghost use Rattle.urna_commands.specs.Vota.{HasVoted, VotaEnds};
 
 use crate::command::VotaNames;
-use crate::documents::{Document, take_tables_and};
 use crate::results::deliver;
 use crate::status::Status;
+use command_parts::{Document, take_tables_and};
 use election_tables::{Roll, Tables};
 use key_script::Script;
 use station::{StartError, Station};

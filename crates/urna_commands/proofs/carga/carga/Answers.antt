@@ -4,13 +4,15 @@ use Rattle.urna_outside.specs.ShownLines.{Shows}
 use Rattle.image_codec.specs.Valid.{ready_state}
 use Rattle.state_store.specs.Rest.{AreAtRest}
 use Rattle.state_store.specs.declared.load.Load.{Load}
+use Rattle.command_parts.specs.Documents.{IsFirstFault as IsFirstFaultOf}
+use Rattle.command_parts.specs.declared.error.Doc.TheVariants as doc
 use Rattle.urna_commands.specs.Carga.{CargaEnds, HasLoaded, IsSectionAsked, load_no_cabinet, load_no_memory, load_refused, loaded, loaded_line, no_section, not_loaded, not_told}
 use Rattle.urna_commands.specs.Command.{Carga}
-use Rattle.urna_commands.specs.Documents.{HasDocuments}
+use Rattle.command_parts.specs.Documents.{HasDocuments}
 use Rattle.urna_commands.specs.Errors.{load_status}
 use Rattle.urna_commands.specs.Taking.{HasTaken}
 use Rattle.urna_commands.specs.declared.status.Status.TheVariants as status
-use Rattle.urna_commands.proofs.Calls.{taken_as}
+use Rattle.command_parts.proofs.Calls.{taken_as}
 use Rattle.urna_commands.proofs.Endings.{counts_load, fault_ends, passed_on, told, untouched}
 use Rattle.urna_commands.proofs.carga.carga.Goals as goal
 
@@ -20,10 +22,8 @@ returns-in_err-tables g c =
     let x = g.C.Cabinet.told c.args.cabinet.now in
     let y = g.C.Cabinet.told c.take_tables_and.new.cabinet in
     let m = g.M.Machine.told c.args.machine.now in
-    let s = c.in_err-tables.field-0.0 in
-    subst (CargaEnds names x y m m) (sym (passed_on c.from_residual.result s c.from_residual.ensures.1 (λ e h. h)))
-    (fault_ends (CargaEnds names x y m m) 2 x y s (λ taken. load_no_memory taken (untouched m)) (λ taken. load_no_cabinet taken (untouched m))
-    (λ memory failed taken. load_refused (c.in_err-tables.ensures.fault memory failed) taken (untouched m)) c.in_err-tables.ensures.taken)
+    fault_ends (CargaEnds names x y m m) 2 x y (IsFirstFaultOf x.files names.tables doc.Roll names.roll) c.from_residual.result c.in_err-tables.field-0.0 c.from_residual.ensures.1 (λ taken. load_no_memory taken (untouched m)) (λ taken. load_no_cabinet taken (untouched m))
+    (λ s why taken. load_refused why taken (untouched m)) c.in_err-tables.ensures.fault c.in_err-tables.ensures.taken
 
 pub returns-in_default : goal.returns-in_default
 returns-in_default g c =
@@ -34,7 +34,7 @@ returns-in_default g c =
     let taken : HasTaken 2 status.Done x y = c.in_ok-tables.ensures.taken in
     let given : HasDocuments x.files names.tables names.roll c.in_ok-tables.tables c.in_ok-tables.roll = record { tables = c.in_ok-tables.ensures.tables; roll = c.in_ok-tables.ensures.other } in
     no_section given (λ section is. c.in_default.ensures.none section is.fits is.zone is.number)
-    (taken_as 2 status.NoSection x y (λ same. same) taken) (untouched m)
+    (taken_as 2 x y (λ same. same) taken) (untouched m)
 
 pub returns-in_err-_store : goal.returns-in_err-_store
 returns-in_err-_store g c =
@@ -49,7 +49,7 @@ returns-in_err-_store g c =
     let asked : IsSectionAsked names c.in_ok-tables.tables c.in_ok-tables.roll c.in-Some.section =
     record { fits = c.in-Some.ensures.some; zone = c.in-Some.ensures.asked.0; number = c.in-Some.ensures.asked.1 } in
     subst (CargaEnds names x y m n) (sym (passed_on c.from_residual-in_err-_store.result (load_status e) c.from_residual-in_err-_store.ensures.1 (λ s h. h)))
-    (not_loaded e given asked (taken_as 2 (load_status e) x y (counts_load e x.tally y.tally) taken) (record { fails = c.in_err-_store.ensures.fails; order = c.in_err-_store.ensures.order }))
+    (not_loaded e given asked (taken_as 2 x y (counts_load e x.tally y.tally) taken) (record { fails = c.in_err-_store.ensures.fails; order = c.in_err-_store.ensures.order }))
 
 pub returns : goal.returns
 returns g c =
@@ -74,4 +74,4 @@ returns g c =
     } in
     told (CargaEnds names x y m n) (loaded_line c.in-Some.section ∷ []) c.tell_line.result b n
     (subst (λ (bytes : List ℕ). Shows c.tell_line.result (bytes ∷ []) b n) c.loaded_line.ensures c.tell_line.ensures.shown) c.tell_line.ensures.err
-    (loaded b given asked taken has) (not_told b given asked (taken_as 2 status.Display x y (λ same. same) taken) has)
+    (loaded b given asked taken has) (not_told b given asked (taken_as 2 x y (λ same. same) taken) has)

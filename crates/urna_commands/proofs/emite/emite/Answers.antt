@@ -7,15 +7,17 @@ use Rattle.election_tables.specs.TablesData.{TablesData}
 use Rattle.election_tables.specs.declared.tables.sections.Section.{Section}
 use Rattle.turnout.specs.declared.phase.Phase.TheVariants as phase
 use Rattle.image_codec.specs.State.{State}
+use Rattle.command_parts.specs.Documents.{IsFirstFault as IsFirstFaultOf}
+use Rattle.command_parts.specs.declared.error.Doc.TheVariants as doc
 use Rattle.urna_commands.specs.Command.{Emite}
-use Rattle.urna_commands.specs.Documents.{HasDocuments}
+use Rattle.command_parts.specs.Documents.{HasDocuments}
 use Rattle.urna_commands.specs.Emite.{EmiteEnds, HasPeeked, emit_no_cabinet, emit_no_memory, emit_refused, emitted, emitted_line, files_stopped, no_files, not_emitted, not_found, not_sealed}
 use Rattle.urna_commands.specs.Errors.{store_status}
 use Rattle.urna_commands.specs.Putting.{HavePut, PutsResults, no_results, result_files, results_not_made, results_not_put, results_put}
 use Rattle.urna_commands.specs.Taking.{HasTaken}
 use Rattle.urna_commands.specs.declared.status.Status.{Status}
 use Rattle.urna_commands.specs.declared.status.Status.TheVariants as status
-use Rattle.urna_commands.proofs.Calls.{taken_as}
+use Rattle.command_parts.proofs.Calls.{taken_as}
 use Rattle.urna_commands.proofs.Endings.{counts_store, fault_ends, passed_on, told, untouched}
 use Rattle.urna_commands.proofs.emite.emite.Goals as goal
 
@@ -26,7 +28,7 @@ stopped : (names : Emite) (c taken d : CabinetTold) (m n : Told) (t : TablesData
 stopped names c taken d m n t r section s opened closed _ given took peeked sealed fails (no_results none same) = absurd (fails refl)
 stopped names c taken d m n t r section s opened closed _ given took peeked sealed fails (results_put is put) = absurd (fails refl)
 stopped names c taken d m n t r section s opened closed _ given took peeked sealed fails (results_not_made is same) =
-    no_files given (taken_as 2 status.Memory c d (λ kept. kept) (subst (HasTaken 2 status.Done c) (sym same) took)) peeked is
+    no_files given (taken_as 2 c d (λ kept. kept) (subst (HasTaken 2 status.Done c) (sym same) took)) peeked is
 stopped names c taken d m n t r section s opened closed _ given took peeked sealed fails (results_not_put is stop) = files_stopped taken given took peeked is stop
 
 -- and where no error came, they were
@@ -44,10 +46,8 @@ returns-in_err-tables g c =
     let x = g.C.Cabinet.told c.args.cabinet.now in
     let y = g.C.Cabinet.told c.take_tables_and.new.cabinet in
     let m = g.M.Machine.told c.args.machine.now in
-    let s = c.in_err-tables.field-0.0 in
-    subst (EmiteEnds names x y m m) (sym (passed_on c.from_residual.result s c.from_residual.ensures.1 (λ e h. h)))
-    (fault_ends (EmiteEnds names x y m m) 2 x y s (λ taken. emit_no_memory taken (untouched m)) (λ taken. emit_no_cabinet taken (untouched m))
-    (λ memory failed taken. emit_refused (c.in_err-tables.ensures.fault memory failed) taken (untouched m)) c.in_err-tables.ensures.taken)
+    fault_ends (EmiteEnds names x y m m) 2 x y (IsFirstFaultOf x.files names.tables doc.Roll names.roll) c.from_residual.result c.in_err-tables.field-0.0 c.from_residual.ensures.1 (λ taken. emit_no_memory taken (untouched m)) (λ taken. emit_no_cabinet taken (untouched m))
+    (λ s why taken. emit_refused why taken (untouched m)) c.in_err-tables.ensures.fault c.in_err-tables.ensures.taken
 
 pub returns-in_err-section : goal.returns-in_err-section
 returns-in_err-section g c =
@@ -63,7 +63,7 @@ returns-in_err-section g c =
     let e = c.in_err-section.field-0.0 in
     subst (EmiteEnds names x y m n)
     (sym (passed_on c.from_residual-in_err-section.result (store_status e) c.from_residual-in_err-section.ensures.1 (λ s h. h)))
-    (not_found e given (taken_as 2 (store_status e) x y (counts_store e x.tally y.tally) taken) c.in_err-section.ensures.fails)
+    (not_found e given (taken_as 2 x y (counts_store e x.tally y.tally) taken) c.in_err-section.ensures.fails)
 
 pub returns-in_default : goal.returns-in_default
 returns-in_default g c =
@@ -79,7 +79,7 @@ returns-in_default g c =
     let found = c.in_ok-section.ensures in
     let peeked : HasPeeked t r c.in_ok-section.section c.in_ok-section.state m n =
     record { synced = found.synced; one_of = found.section; state = found.state; found = found.found } in
-    not_sealed given (taken_as 2 status.NotSealed x y (λ same. same) taken) peeked
+    not_sealed given (taken_as 2 x y (λ same. same) taken) peeked
     (λ opened closed same. c.in_default.not-Sealed opened closed (c.phase.ensures.phase ∙ same))
 
 pub returns-in_err-deliver_sealed : goal.returns-in_err-deliver_sealed

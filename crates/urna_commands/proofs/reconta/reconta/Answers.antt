@@ -1,4 +1,4 @@
-use Rattle.std.proofs.Common.{◌≡◌, ℕ, List, Option, sym, subst, arith}
+use Rattle.std.proofs.Common.{◌≡◌, ℕ, List, Option, subst, arith}
 use Rattle.urna_outside.specs.Cabinet.{CabinetTold, Files}
 use Rattle.urna_outside.specs.Told.{Told}
 use Rattle.hash_chain.specs.declared.fault.PartFault.{PartFault}
@@ -11,17 +11,18 @@ use Rattle.section_intake.specs.declared.verdict.Verdict.{Verdict}
 use Rattle.section_intake.specs.declared.verdict.Verdict.TheVariants as verdict
 use Rattle.urna_commands.specs.Answering.{Answers}
 use Rattle.urna_commands.specs.Command.{Reconta}
-use Rattle.urna_commands.specs.Documents.{HasRecord, HasReport, IsFault, IsTaken}
+use Rattle.command_parts.specs.Documents.{HasRecord, HasReport, IsFault as IsFaultOf, IsTaken}
+use Rattle.urna_commands.specs.Documents.{IsFault}
 use Rattle.urna_commands.specs.Findings.{finding_line, finding_status}
 use Rattle.urna_commands.specs.Reconta.{HasNoReport, HasRecordAndReport, IsNoReport, RecontaEnds, fields_fault, no_recount, parts_fault, recount_no_cabinet, recount_no_memory, record_at_fault, recounted, report_at_fault}
 use Rattle.urna_commands.specs.Taking.{HasTaken, status_in}
 use Rattle.report_lines.specs.Verdicts.{verdict_line}
 use Rattle.urna_commands.specs.Verdicts.{verdict_status}
-use Rattle.urna_commands.specs.declared.status.Doc.TheVariants as doc
+use Rattle.command_parts.specs.declared.error.Doc.TheVariants as doc
 use Rattle.urna_commands.specs.declared.status.Status.{Status}
 use Rattle.urna_commands.specs.declared.status.Status.TheVariants as status
-use Rattle.urna_commands.proofs.Calls.{taken_as, taken_more, taken_within}
-use Rattle.urna_commands.proofs.Endings.{counts_answer, counts_finding, counts_verdict, fault_ends, passed_on, untouched}
+use Rattle.command_parts.proofs.Calls.{taken_as, taken_more, taken_within}
+use Rattle.urna_commands.proofs.Endings.{counts_answer, counts_finding, counts_verdict, fault_ends, untouched}
 use Rattle.urna_commands.proofs.reconta.reconta.Goals as goal
 
 -- the bytes that were taken are those that were read
@@ -37,7 +38,7 @@ fault_of_file files name bytes read v taken same is = record { bytes = bytes; ta
 refused_ends : (names : Reconta) (x y : CabinetTold) (m n : Told) (v : Verdict) (s : Status) → HasNoReport x.files names.report v → HasTaken 1 status.Done x y
     → Answers (verdict_line v) (verdict_status v) m n s → RecontaEnds names x y m n s
 refused_ends names x y m n v s has taken tells =
-    no_recount has (taken_as 1 s x y (λ same. counts_answer (verdict_line v) (verdict_status v) m n s x.tally y.tally tells (counts_verdict v x.tally y.tally same) same) taken) tells
+    no_recount has (taken_as 1 x y (λ same. counts_answer (verdict_line v) (verdict_status v) m n s x.tally y.tally tells (counts_verdict v x.tally y.tally same) same) taken) tells
 
 pub returns-in_err-bytes : goal.returns-in_err-bytes
 returns-in_err-bytes g c =
@@ -45,18 +46,16 @@ returns-in_err-bytes g c =
     let x = g.C.Cabinet.told c.args.cabinet.now in
     let y = g.C.Cabinet.told c.take_document.new.cabinet in
     let m = g.M.Machine.told c.args.machine.now in
-    let s = c.in_err-bytes.field-0.0 in
-    subst (RecontaEnds names x y m m) (sym (passed_on c.from_residual.result s c.from_residual.ensures.1 (λ e h. h)))
-    (fault_ends (RecontaEnds names x y m m) 1 x y s (λ taken. recount_no_memory (taken_within 1 2 status.Memory x y (omega arith) taken) (untouched m))
-    (λ taken. recount_no_cabinet (taken_within 1 2 status.Cabinet x y (omega arith) taken) (untouched m))
-    (λ memory failed taken. report_at_fault (c.in_err-bytes.ensures.fault memory failed) taken (untouched m)) c.in_err-bytes.ensures.taken)
+    fault_ends (RecontaEnds names x y m m) 1 x y (IsFaultOf x.files names.report doc.Report) c.from_residual.result c.in_err-bytes.field-0.0 c.from_residual.ensures.1 (λ taken. recount_no_memory (taken_within 1 2 x y (omega arith) taken) (untouched m))
+    (λ taken. recount_no_cabinet (taken_within 1 2 x y (omega arith) taken) (untouched m))
+    (λ s why taken. report_at_fault why taken (untouched m)) c.in_err-bytes.ensures.fault c.in_err-bytes.ensures.taken
 
 pub returns-in-Err-Memory : goal.returns-in-Err-Memory
 returns-in-Err-Memory g c =
     let x = g.C.Cabinet.told c.args.cabinet.now in
     let y = g.C.Cabinet.told c.take_document.new.cabinet in
     let taken : HasTaken 1 status.Done x y = c.in_ok-bytes.ensures.taken in
-    recount_no_memory (taken_within 1 2 status.Memory x y (omega arith) (taken_as 1 status.Memory x y (λ same. same) taken)) (untouched (g.M.Machine.told c.args.machine.now))
+    recount_no_memory (taken_within 1 2 x y (omega arith) (taken_as 1 x y (λ same. same) taken)) (untouched (g.M.Machine.told c.args.machine.now))
 
 pub returns-in-Err-Part : goal.returns-in-Err-Part
 returns-in-Err-Part g c =
@@ -95,14 +94,13 @@ returns-in_err-text g c =
     let y = g.C.Cabinet.told c.take_document.new.cabinet in
     let z = g.C.Cabinet.told c.take_document-2.new.cabinet in
     let m = g.M.Machine.told c.args.machine.now in
-    let s = c.in_err-text.field-0.0 in
     let first : HasTaken 1 status.Done x y = c.in_ok-bytes.ensures.taken in
     let has =
     report_of_file x.files names.report c.in_ok-bytes.bytes.items c.deref.result.now c.in-Ok.report c.in_ok-bytes.ensures.read c.deref.ensures.value c.in-Ok.ensures.ok in
-    let both = taken_more 1 1 s x y z first c.in_err-text.ensures.taken in
-    subst (RecontaEnds names x z m m) (sym (passed_on c.from_residual-in_err-text.result s c.from_residual-in_err-text.ensures.1 (λ e h. h)))
-    (fault_ends (RecontaEnds names x z m m) 2 x z s (λ taken. recount_no_memory taken (untouched m)) (λ taken. recount_no_cabinet taken (untouched m))
-    (λ memory failed taken. record_at_fault has (subst (λ (o : Option Files). IsFault o names.rdv doc.Record s) first.files (c.in_err-text.ensures.fault memory failed)) taken (untouched m)) both)
+    fault_ends (RecontaEnds names x z m m) 2 x z (IsFaultOf y.files names.rdv doc.Record) c.from_residual-in_err-text.result c.in_err-text.field-0.0
+    c.from_residual-in_err-text.ensures.1 (λ taken. recount_no_memory taken (untouched m)) (λ taken. recount_no_cabinet taken (untouched m))
+    (λ s why taken. record_at_fault has (subst (λ (o : Option Files). IsFault o names.rdv doc.Record s) first.files why) taken (untouched m)) c.in_err-text.ensures.fault
+    (taken_more 1 1 x y z first c.in_err-text.ensures.taken)
 
 pub returns : goal.returns
 returns g c =
@@ -116,7 +114,7 @@ returns g c =
     let p = c.in-Ok.report in
     let first : HasTaken 1 status.Done x y = c.in_ok-bytes.ensures.taken in
     let second : HasTaken 1 status.Done y z = c.in_ok-text.ensures.taken in
-    let both : HasTaken 2 status.Done x z = taken_more 1 1 status.Done x y z first second in
+    let both : HasTaken 2 status.Done x z = taken_more 1 1 x y z first second in
     let given : HasRecordAndReport x.files names r p =
     record {
       report = report_of_file x.files names.report c.in_ok-bytes.bytes.items c.deref.result.now p c.in_ok-bytes.ensures.read c.deref.ensures.value c.in-Ok.ensures.ok;
@@ -126,5 +124,5 @@ returns g c =
     let tells : Answers (finding_line r p) (finding_status (finding r p)) m n s =
     rw (c.finding_line.ensures, c.ended_by_finding.ensures, c.audit-finding.ensures) at c.tell_answer.ensures in
     recounted given
-    (taken_as 2 s x z (λ same. counts_answer (finding_line r p) (finding_status (finding r p)) m n s x.tally z.tally tells (counts_finding (finding r p) x.tally z.tally same) same) both)
+    (taken_as 2 x z (λ same. counts_answer (finding_line r p) (finding_status (finding r p)) m n s x.tally z.tally tells (counts_finding (finding r p) x.tally z.tally same) same) both)
     tells

@@ -1,12 +1,14 @@
 use Rattle.std.proofs.Common.{◌∷◌, [], ℕ, List, sym, subst}
 use Rattle.urna_outside.specs.ShownLines.{Shows}
+use Rattle.command_parts.specs.Documents.{IsFirstFault as IsFirstFaultOf}
+use Rattle.command_parts.specs.declared.error.Doc.TheVariants as doc
 use Rattle.urna_commands.specs.Command.{Repoe}
-use Rattle.urna_commands.specs.Documents.{HasDocuments}
+use Rattle.command_parts.specs.Documents.{HasDocuments}
 use Rattle.urna_commands.specs.Errors.{replace_status}
 use Rattle.urna_commands.specs.Repoe.{HasReplaced, RepoeEnds, not_replaced, replace_no_cabinet, replace_no_memory, replace_refused, replaced, replaced_line, replaced_untold}
 use Rattle.urna_commands.specs.Taking.{HasTaken}
 use Rattle.urna_commands.specs.declared.status.Status.TheVariants as status
-use Rattle.urna_commands.proofs.Calls.{taken_as}
+use Rattle.command_parts.proofs.Calls.{taken_as}
 use Rattle.urna_commands.proofs.Endings.{counts_replace, fault_ends, passed_on, told, untouched}
 use Rattle.urna_commands.proofs.repoe.repoe.Goals as goal
 
@@ -16,10 +18,8 @@ returns-in_err-tables g c =
     let x = g.C.Cabinet.told c.args.cabinet.now in
     let y = g.C.Cabinet.told c.take_tables_and.new.cabinet in
     let m = g.M.Machine.told c.args.machine.now in
-    let s = c.in_err-tables.field-0.0 in
-    subst (RepoeEnds names x y m m) (sym (passed_on c.from_residual.result s c.from_residual.ensures.1 (λ e h. h)))
-    (fault_ends (RepoeEnds names x y m m) 2 x y s (λ taken. replace_no_memory taken (untouched m)) (λ taken. replace_no_cabinet taken (untouched m))
-    (λ memory failed taken. replace_refused (c.in_err-tables.ensures.fault memory failed) taken (untouched m)) c.in_err-tables.ensures.taken)
+    fault_ends (RepoeEnds names x y m m) 2 x y (IsFirstFaultOf x.files names.tables doc.Roll names.roll) c.from_residual.result c.in_err-tables.field-0.0 c.from_residual.ensures.1 (λ taken. replace_no_memory taken (untouched m)) (λ taken. replace_no_cabinet taken (untouched m))
+    (λ s why taken. replace_refused why taken (untouched m)) c.in_err-tables.ensures.fault c.in_err-tables.ensures.taken
 
 pub returns-in_err-section : goal.returns-in_err-section
 returns-in_err-section g c =
@@ -33,7 +33,7 @@ returns-in_err-section g c =
     let e = c.in_err-section.field-0.0 in
     subst (RepoeEnds names x y m n)
     (sym (passed_on c.from_residual-in_err-section.result (replace_status e) c.from_residual-in_err-section.ensures.1 (λ s h. h)))
-    (not_replaced e given (taken_as 2 (replace_status e) x y (counts_replace e x.tally y.tally) taken) c.in_err-section.ensures.fails)
+    (not_replaced e given (taken_as 2 x y (counts_replace e x.tally y.tally) taken) c.in_err-section.ensures.fails)
 
 pub returns : goal.returns
 returns g c =
@@ -54,4 +54,4 @@ returns g c =
     record { one_of = done.section; state = done.state; ran = done.ran; exact = done.exact; rest = done.rest; fine = done.fine } in
     told (RepoeEnds names x y m n) (replaced_line names.replaced section state ∷ []) c.tell_line.result b n
     (subst (λ (bytes : List ℕ). Shows c.tell_line.result (bytes ∷ []) b n) {y = replaced_line names.replaced section state} c.replaced_line.ensures c.tell_line.ensures.shown) c.tell_line.ensures.err
-    (replaced b given taken has) (replaced_untold b given (taken_as 2 status.Display x y (λ same. same) taken) has)
+    (replaced b given taken has) (replaced_untold b given (taken_as 2 x y (λ same. same) taken) has)

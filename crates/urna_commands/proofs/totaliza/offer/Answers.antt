@@ -6,7 +6,7 @@ use Rattle.section_intake.specs.Intake.{accepted_files}
 use Rattle.urna_commands.specs.Offering.{HasVerdictBehind, offer_no_memory, offer_not_shown, offered}
 use Rattle.urna_commands.specs.Taking.{HasTaken}
 use Rattle.urna_commands.specs.declared.status.Status.TheVariants as status
-use Rattle.urna_commands.proofs.Calls.{taken_as}
+use Rattle.command_parts.proofs.Calls.{taken_as}
 use Rattle.urna_commands.proofs.Offers.{offer_not_taken}
 use Rattle.urna_commands.proofs.totaliza.offer.Goals as goal
 
@@ -19,9 +19,9 @@ offer-requires-clause-short g c =
 pub returns-in_err-bytes-clause-ends : goal.returns-in_err-bytes-clause-ends
 returns-in_err-bytes-clause-ends g c =
     let p = err_from_is_err_and c.from_residual.result c.from_residual.ensures.1 in
-    rw (p.1, p.2)
+    rw p.1
     (offer_not_taken c.args.tables.now (accepted_files c.args.intake.now) c.args.name.now c.args.number (g.C.Cabinet.told c.args.cabinet.now)
-    (g.C.Cabinet.told c.take_document.new.cabinet) (g.M.Machine.told c.args.machine.now) (accepted_files c.args.intake.now) c.in_err-bytes.field-0.0
+    (g.C.Cabinet.told c.take_document.new.cabinet) (g.M.Machine.told c.args.machine.now) (accepted_files c.args.intake.now) p.0 c.in_err-bytes.field-0.0 p.2
     c.in_err-bytes.ensures.fault c.in_err-bytes.ensures.taken)
 
 pub returns-in_err-verdict-clause-ends : goal.returns-in_err-verdict-clause-ends
@@ -30,7 +30,7 @@ returns-in_err-verdict-clause-ends g c =
     let y = g.C.Cabinet.told c.take_document.new.cabinet in
     let taken : HasTaken 1 status.Done x y = c.in_ok-bytes.ensures.taken in
     let p = err_from_is_err_and c.from_residual-in_err-verdict.result c.from_residual-in_err-verdict.ensures.1 in
-    rw (p.1, p.2) (offer_no_memory (taken_as 1 status.Memory x y (λ same. same) taken) refl)
+    rw (p.1, p.2) (offer_no_memory (taken_as 1 x y (λ same. same) taken) refl)
 
 pub returns-in_err-tell_line-clause-ends : goal.returns-in_err-tell_line-clause-ends
 returns-in_err-tell_line-clause-ends g c =
@@ -50,7 +50,7 @@ returns-in_err-tell_line-clause-ends g c =
     } in
     let p = err_from_is_err_and c.from_residual-in_err-tell_line.result c.from_residual-in_err-tell_line.ensures.1 in
     rw (p.1, p.2, c.in_err-tell_line.ensures.err)
-    (offer_not_shown has (taken_as 1 status.Display x y (λ same. same) taken)
+    (offer_not_shown has (taken_as 1 x y (λ same. same) taken)
     (subst (λ (line : List ℕ). IsCutOff (line ∷ []) m n) c.numbered_line.ensures c.in_err-tell_line.ensures.shown))
 
 pub returns-clause-ends : goal.returns-clause-ends

@@ -8,7 +8,7 @@ use Rattle.section_intake.specs.declared.verdict.Verdict.TheVariants as verdict
 use Rattle.section_intake.proofs.HolderLaws.{not_listed}
 use Rattle.intake_ledger.specs.Body.{hash_in, is_marked}
 use Rattle.intake_ledger.specs.Calls.{FailsToOffer}
-use Rattle.intake_ledger.specs.Checked.{IsChecked}
+use Rattle.section_intake.specs.Checked.{IsChecked}
 use Rattle.intake_ledger.specs.Ledger.{LedgerData, with_report}
 use Rattle.intake_ledger.specs.Offers.{IsReportAt, again, another, by_itself, first}
 use Rattle.intake_ledger.specs.Totals.{TotalsData}

@@ -1,0 +1,5 @@
+pub mod Calls
+pub mod Ending
+mod Faults
+pub mod Listing
+pub mod Once

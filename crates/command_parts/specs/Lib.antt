@@ -1,0 +1,4 @@
+pub mod Documents
+pub mod Errors
+pub mod FaultLines
+pub mod Taking
