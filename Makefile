@@ -1,4 +1,4 @@
-.PHONY: list try demo test check-house bench crash-trial hostile urna
+.PHONY: list try demo test check-house bench crash-trial hostile urna urna_ledger
 
 TRIALS = 25
 MINUTES = 10
@@ -9,6 +9,7 @@ list:
 	@echo "make try          the example day, compiled without a proof: a minute"
 	@echo "make demo         urna proved and built, a rehearsal of 400 voters, the example day, that day with a flash lost in the middle of it, the totals of an election with a federation, and an election with two senators on real files in out/demo: 20 minutes from nothing, then seconds"
 	@echo "make urna         the program, proved and built, and beside it, in urna_app.txt, of which commit and with which kit: part of a demo"
+	@echo "make urna_ledger  the counting centre's program, proved and built, and beside it ledger_app.txt: a few minutes after a demo"
 	@echo "make test         the gate, each proof from nothing, each edit that must be refused, each test and program, and check-house: an hour"
 	@echo "make check-house  names, sessions and lines of the documents and the sources: seconds"
 	@echo "make bench        how long sessions, commits, the reading of tables, the text of a report, its file, a check of it, a recount, the totals of many reports, the seats and a rehearsal take, as ratios to plainer programs, and what changed since the last time: a few minutes after a demo"
@@ -36,6 +37,9 @@ crash-trial: urna
 hostile: urna
 	tests/hostile "$(URNA)" $(MINUTES) $(SEED)
 
-# The program, proved and built where something has changed, and the record of that build.
+# A program, proved and built where something has changed, and the record of that build.
 urna:
-	@tests/build
+	@tests/build urna_app
+
+urna_ledger:
+	@tests/build ledger_app

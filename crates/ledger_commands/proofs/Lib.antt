@@ -1,0 +1,5 @@
+mod Statuses
+mod Opened
+mod Received
+mod Receiving
+mod Sums

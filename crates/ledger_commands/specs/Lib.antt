@@ -1,0 +1,12 @@
+pub mod Abre
+pub mod Codes
+pub mod Command
+pub mod Documents
+pub mod Ending
+pub mod Errors
+pub mod Lines
+pub mod Opening
+pub mod Recebe
+pub mod Receiving
+pub mod Totais
+pub mod Words
