@@ -1,7 +1,7 @@
 //! The program `urna_ledger` of a counting centre: reads its words, and does their command over the files of the working folder and standard
 //! output.
 //!
-//! The commands, and what is proved of them, stand in the library `ledger_commands`; `urna_ledger` is its call (docs/FORMATS.md, "Statuses").
+//! The commands, and what is proved of them, stand in the library `ledger_commands`; `urna_ledger` is its call (docs/FORMATS.md, "Commands of the ledger").
 #![tactic(auto)]
 
 #[cfg(test)]

@@ -32,7 +32,7 @@ pub record HasBegun (t : TablesData) (old new : Told) : Type 0 where
   pub rest : ForSome new.flashes (AreAtRest t (empty_ledger t))
   pub fine : IsFaultless old new
 
--- It was not laid, and this is why. What was done is a front of that.
+-- It was not laid, and this is why. What was done is the first part of laying it.
 pub record HasNotBegun (t : TablesData) (e : LedgerError) (old new : Told) : Type 0 where
   pub fails : FailsToFormat old new e
   pub order : (body : List ℕ) → StandsFor t (empty_ledger t) body

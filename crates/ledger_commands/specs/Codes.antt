@@ -1,4 +1,4 @@
--- The numbers of the statuses (docs/FORMATS.md, "Statuses")
+-- The numbers of the statuses (docs/FORMATS.md, "Commands of the ledger")
 use Rattle.std.specs.Prelude.{ℕ}
 use Rattle.ledger_commands.specs.declared.status.LedgerStatus.{LedgerStatus}
 use Rattle.ledger_commands.specs.declared.status.LedgerStatus.TheVariants as status

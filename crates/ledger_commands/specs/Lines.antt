@@ -1,4 +1,4 @@
--- The lines that tell a ledger (docs/FORMATS.md, "Totals"): how many sections are accepted, and of each office the sums of its votes
+-- The lines that tell a ledger (docs/FORMATS.md, "Commands of the ledger"): how many sections are accepted, and of each office the sums of its votes
 use Rattle.std.specs.Prelude.{ℕ, ◌+◌, List, [], ◌∷◌, ◌++◌, length, map}
 use Rattle.std.specs.List.{sum_by}
 use Rattle.election_tables.specs.TablesData.{TablesData}

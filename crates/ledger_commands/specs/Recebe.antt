@@ -38,7 +38,8 @@ pub record AreTakenIn (files : Option Files) (t : TablesData) (first : LedgerDat
   pub offered : AreOfferedTo t first reports verdicts pieces last
 
 -- The ledger that the flashes hold was opened and told, and the first of the listed reports were offered to it: each accepted one was committed
--- before its line. Wherever the power had gone, the flashes would have survived it. They are at rest with the ledger that the offers leave.
+-- before its line. What the power leaves at the stops of all that, behind the two opening syncs, is said by IsSafe. Both are at rest with the
+-- ledger that the offers leave.
 pub record HasReceived (files : Option Files) (t : TablesData) (listed left : List (List ℕ)) (verdicts : List Verdict) (old new : Told) : Type 0 where
   pub first : LedgerData
   pub last : LedgerData
@@ -50,7 +51,7 @@ pub record HasReceived (files : Option Files) (t : TablesData) (listed left : Li
   pub rest : ForSome new.flashes (AreAtRest t last)
   pub survives : IsSafe (ledgers t) first (opening first ++ pieces) old new
 
--- The same up to a fault of a port, in the opening line or in the last of these offers.
+-- The same up to a fault of a port, in the opening line or in one of these offers.
 pub record HasReceivedTo (files : Option Files) (t : TablesData) (listed left : List (List ℕ)) (verdicts : List Verdict) (port : Port) (old new : Told)
     : Type 0 where
   pub first : LedgerData

@@ -17,7 +17,7 @@ pub enum LedgerDoc {
     List,
 }
 
-/// What a command answers (docs/FORMATS.md, "Statuses").
+/// What a command answers (docs/FORMATS.md, "Commands of the ledger").
 #[derive(Clone, Copy, Debug, PartialEq, Eq)]
 pub enum LedgerStatus {
     /// The command did all its steps.
