@@ -1,8 +1,9 @@
 -- Calls of a cabinet, some after others
 use Rattle.std.proofs.Common.{◌≡◌, ◌+◌, ◌≤◌, ℕ, zero, suc, Option, Some, None, refl, ap, subst, ◌∙◌, arith}
 use Rattle.std.specs.Option.{option_map}
-use Rattle.urna_outside.specs.Told.{one_more}
+use Rattle.urna_outside.specs.Told.{Faults, Rose, Told, faults_of, one_more}
 use Rattle.urna_outside.specs.Cabinet.{CabinetTold, Tally, CountsFault, CountsMissing, CountsTooLong}
+use Rattle.urna_outside.specs.declared.device.Port.{Port}
 use Rattle.urna_outside.specs.declared.cabinet.CabinetError.{CabinetError}
 use Rattle.urna_outside.specs.declared.cabinet.CabinetError.TheVariants as take
 use Rattle.election_tables.specs.declared.tables.TablesError.{TablesError}
@@ -71,3 +72,10 @@ pub counts_roll : (e : RollError) (old new : Tally) → new ≡ old → CountsFo
 counts_roll roll.Memory old new same = same
 counts_roll roll.Count old new same = same
 counts_roll (roll.Line k) old new same = same
+
+-- ---- counts of ports
+
+-- a count that rose since a later moment rose since an earlier one where no call failed between
+pub since : (p : Port) (m between b : Told) → between.faults ≡ m.faults → Rose (faults_of p between.faults) (faults_of p b.faults)
+    → Rose (faults_of p m.faults) (faults_of p b.faults)
+since p m between b same rose = subst (λ (f : Faults). Rose (faults_of p f) (faults_of p b.faults)) same rose

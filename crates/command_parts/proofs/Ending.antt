@@ -5,21 +5,21 @@ use Rattle.command_parts.specs.Taking.{HasTaken}
 use Rattle.command_parts.specs.declared.error.CommandError.{CommandError}
 use Rattle.command_parts.specs.declared.error.CommandError.TheVariants as error
 
+-- the error of a status that tells one
+pub error_told : {S : Type 0} (error_of : S → Option CommandError) (s : S) (P : CommandError → Type 0) → IsSomeAnd (error_of s) P → (e : CommandError) × (error_of s ≡ Some e) × P e
+error_told error_of s P h = go (error_of s) h
+  where
+    go : (o : Option CommandError) → IsSomeAnd o P → (e : CommandError) × (o ≡ Some e) × P e
+    go None h = absurd h
+    go (Some e) h = (e, refl, h)
+
 -- Statuses of a program: the error that each tells, if it tells one; and the one status that tells an error.
 module _ {S : Type 0} (error_of : S → Option CommandError) (status_of : CommandError → S) (only : (s : S) (e : CommandError) → error_of s ≡ Some e → s ≡ status_of e) where
-  -- the error of a status that tells one
-  pub error_told : (s : S) (P : CommandError → Type 0) → IsSomeAnd (error_of s) P → (e : CommandError) × (error_of s ≡ Some e) × P e
-  error_told s P h = go (error_of s) h
-    where
-      go : (o : Option CommandError) → IsSomeAnd o P → (e : CommandError) × (o ≡ Some e) × P e
-      go None h = absurd h
-      go (Some e) h = (e, refl, h)
-
   -- statuses that tell one error are one
   pub one_status : (s u : S) (P Q : CommandError → Type 0) → IsSomeAnd (error_of s) P → IsSomeAnd (error_of u) Q → ((e f : CommandError) → P e → Q f → e ≡ f) → s ≡ u
   one_status s u P Q h i once =
-      let first = error_told s P h in
-      let second = error_told u Q i in
+      let first = error_told error_of s P h in
+      let second = error_told error_of u Q i in
       only s first.0 first.1 ∙ ap status_of (once first.0 second.0 first.2 second.2) ∙ sym (only u second.0 second.1)
 
   -- For want of memory, by a fault of the cabinet, or as one that refuses the document.

@@ -50,7 +50,7 @@ pub data IsFault (files : Option Files) (name : List ℕ) (d : Doc) : CommandErr
   longer : ForSome files (HoldsLonger name (limit_of d)) → IsFault files name d (error.TooLong d)
   bad : {bytes : List ℕ} {e : CommandError} → IsTaken files d name bytes → IsBad d bytes e → IsFault files name d e
 
--- the file of that name holds these tables, this roll or these events
+-- a file of this name is taken, and holds these tables
 pub record HasTables (files : Option Files) (name : List ℕ) (t : TablesData) : Type 0 where
   pub bytes : List ℕ
   pub taken : IsTaken files doc.Tables name bytes

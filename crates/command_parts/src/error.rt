@@ -1,4 +1,4 @@
-//! Why a command stops that has done nothing yet.
+//! Why a command stops: what is wrong with its words, its files or its flashes.
 ghost use Rattle.std.specs.Prelude.{◌≡◌};
 ghost use Rattle.command_parts.specs.Errors.{line_error, memory_error, record_error, roll_error, tables_error, take_error};
 
@@ -20,7 +20,7 @@ pub enum Doc {
     Record,
 }
 
-/// Why a command stops (docs/FORMATS.md, "Statuses"): of the reasons those that both programs may have.
+/// Why a command stops (docs/FORMATS.md, "Fault lines"), in either program; a roll and a record `urna` alone takes.
 #[derive(Clone, Copy, Debug, PartialEq, Eq)]
 pub enum CommandError {
     /// Want of memory.

@@ -1,5 +1,4 @@
-//! What the commands of both programs have in common: the files that they take, why one stops that has done nothing yet, and the line that
-//! tells so.
+//! What the commands of both programs have in common: the files that they take, why one stops, and the line that tells so.
 //!
 //! The layer above takes its files by `Document::take_document` and `take_tables_and`. `specs/Documents.antt` says what a file holds and what
 //! may be wrong with it, `specs/Taking.antt` what taking it leaves of the cabinet's counts, and `specs/FaultLines.antt` which line tells it

@@ -1,16 +1,29 @@
 -- Pieces after pieces: their lines, their states, and how many of them a front of the text reaches into.
-use Rattle.std.proofs.Common.{◌≡◌, ◌⊎◌, inl, inr, ℕ, zero, suc, ◌+◌, ◌-◌, ◌<◌, ◌≤◌, Bool, cond, Option, Some, None, Contains, List, [], ◌∷◌, ◌++◌, length, slice_get, take, unwrap_or, option_to_list, refl, sym, ap, subst, ◌∙◌, arith, append_assoc, length-append}
+use Rattle.std.proofs.Common.{◌≡◌, ◌⊎◌, inl, inr, ℕ, zero, suc, ◌+◌, ◌-◌, ◌<◌, ◌≤◌, Bool, cond, Option, Some, None, Contains, List, [], ◌∷◌, ◌++◌, length, slice_get, take, drop, unwrap_or, option_to_list, refl, sym, ap, subst, ◌∙◌, arith, append_assoc, length-append}
 use Rattle.std.proofs.lemmas.Bool.{cases_lt, ne_eqb}
-use Rattle.std.proofs.lemmas.List.{map-append, take-map}
+use Rattle.std.proofs.lemmas.List.{append-nil, map-append, take-append-drop, take-map, take_all}
 use Rattle.std.proofs.lemmas.List.Elements.{Contains-append_left, Contains-append_right}
 use Rattle.std.specs.List.{concat}
-use Rattle.flash_store.specs.Played.{IsStateOrNext}
-use Rattle.flash_store.specs.Pieces.{Piece, quiet, telling, lines_in, text_in, commits_in, state_after, lines_reached, commits_reached, AreFull}
+use Rattle.flash_store.specs.Held.{IsEither}
+use Rattle.flash_store.specs.Pieces.{Piece, quiet, lines_in, text_in, commits_in, state_after, lines_reached, AreFull}
+
+-- no bytes reach into none
+nothing_reached : (lines : List (List ℕ)) → lines_reached lines 0 ≡ 0
+nothing_reached [] = refl
+nothing_reached (line ∷ lines) = refl
 
 -- some bytes reach into the first line
 pub reached_more : (line : List ℕ) (lines : List (List ℕ)) (n : ℕ) → 0 < n → lines_reached (line ∷ lines) n ≡ suc (lines_reached lines (n - length line))
 reached_more line lines n some =
     let past = ap (λ (b : Bool). cond b 0 (1 + lines_reached lines (n - length line))) (ne_eqb n 0 (λ same. omega arith)) in omega (arith, past)
+
+-- no more lines are reached than there are
+pub few_reached : (lines : List (List ℕ)) (n : ℕ) → lines_reached lines n ≤ length lines
+few_reached [] n = omega arith
+few_reached (line ∷ lines) n = elim (cases_lt 0 n) [
+  | inl some ↦ omega (arith, reached_more line lines n some, few_reached lines (n - length line))
+  | inr nothing ↦ let none : n ≡ 0 = omega arith in omega (arith, ap (lines_reached (line ∷ lines)) none)
+]
 
 module _ {S : Type 0} where
   -- Pieces after pieces
@@ -32,52 +45,6 @@ module _ {S : Type 0} where
   state_after-append s [] ys = refl
   state_after-append s (x ∷ xs) ys = state_after-append (unwrap_or x.commit s) xs ys
 
-  -- The pieces whose lines are reached
-
-  abbrev pieces_reached : List (Piece S) → ℕ → List (Piece S)
-  pieces_reached xs n = take (lines_reached (lines_in xs) n) xs
-
-  none_reached : (xs : List (Piece S)) → pieces_reached xs 0 ≡ []
-  none_reached [] = refl
-  none_reached (x ∷ xs) = refl
-
-  -- some bytes go past the first line
-  one_reached : (x : Piece S) (xs : List (Piece S)) (n : ℕ) → 0 < n → pieces_reached (x ∷ xs) n ≡ x ∷ pieces_reached xs (n - length x.line)
-  one_reached x xs n some = ap (λ (k : ℕ). take k (x ∷ xs)) (reached_more x.line (lines_in xs) n some)
-
-  -- none behind the first pieces, where the bytes are a front of their text
-  front_reached : (xs ys : List (Piece S)) (n : ℕ) → n ≤ length (text_in xs) → pieces_reached (xs ++ ys) n ≡ pieces_reached xs n
-  front_reached [] ys n within = let none : n ≡ 0 = omega arith in ap (pieces_reached ys) none ∙ none_reached ys
-  front_reached (x ∷ xs) ys n within = elim (cases_lt 0 n) [
-    | inl some ↦
-        let left_over : n - length x.line ≤ length (text_in xs) = omega (arith, length-append x.line (text_in xs)) in
-        one_reached x (xs ++ ys) n some ∙ ap (λ (l : List (Piece S)). x ∷ l) (front_reached xs ys (n - length x.line) left_over) ∙ sym (one_reached x xs n some)
-    | inr nothing ↦
-        let none : n ≡ 0 = omega arith in
-        ap (pieces_reached (x ∷ (xs ++ ys))) none ∙ sym (ap (pieces_reached (x ∷ xs)) none)
-  ]
-
-  -- all of the first pieces and what is reached of the others, where the bytes are the whole text and more
-  all_reached : (xs ys : List (Piece S)) (more : List ℕ) → AreFull xs → pieces_reached (xs ++ ys) (length (text_in xs ++ more)) ≡ xs ++ pieces_reached ys (length more)
-  all_reached [] ys more full = refl
-  all_reached (x ∷ xs) ys more full =
-      let n : ℕ = length (text_in (x ∷ xs) ++ more) in
-      let long : n ≡ length x.line + length (text_in xs ++ more) =
-      ap length (append_assoc x.line (text_in xs) more) ∙ length-append x.line (text_in xs ++ more) in
-      let left_over : n - length x.line ≡ length (text_in xs ++ more) = omega (arith, long) in
-      one_reached x (xs ++ ys) n (omega (arith, long, full.0))
-      ∙ ap (λ (l : List (Piece S)). x ∷ l) (ap (pieces_reached (xs ++ ys)) left_over ∙ all_reached xs ys more full.1)
-
-  -- How many lines that tell a state are reached
-
-  pub reached_before : (xs ys : List (Piece S)) (n : ℕ) → n ≤ length (text_in xs) → commits_reached (xs ++ ys) n ≡ commits_reached xs n
-  reached_before xs ys n within = ap (λ (l : List (Piece S)). length (commits_in l)) (front_reached xs ys n within)
-
-  pub reached_after : (xs ys : List (Piece S)) (more : List ℕ) → AreFull xs → commits_reached (xs ++ ys) (length (text_in xs ++ more)) ≡ length (commits_in xs) + commits_reached ys (length more)
-  reached_after xs ys more full =
-      let ends = pieces_reached ys (length more) in
-      ap (λ (l : List (Piece S)). length (commits_in l)) (all_reached xs ys more full) ∙ ap length (commits_in-append xs ends) ∙ length-append (commits_in xs) (commits_in ends)
-
   -- The states
 
   next_one : (x : S) (states : List S) (k : ℕ) → slice_get (x ∷ states) (1 + k) ≡ slice_get states k
@@ -88,17 +55,6 @@ module _ {S : Type 0} where
       → slice_get (s ∷ (option_to_list commit ++ states)) (length (option_to_list commit) + k) ≡ slice_get (unwrap_or commit s ∷ states) k
   first_state s None states k = let same : 0 + k ≡ k = omega arith in ap (λ (j : ℕ). slice_get (s ∷ states) j) same
   first_state s (Some u) states k = next_one s (u ∷ states) k
-
-  -- the same of several pieces
-  pub states_after : (s : S) (xs : List (Piece S)) (states : List S) (k : ℕ) → slice_get (s ∷ (commits_in xs ++ states)) (length (commits_in xs) + k) ≡ slice_get (state_after s xs ∷ states) k
-  states_after s [] states k = let same : 0 + k ≡ k = omega arith in ap (λ (j : ℕ). slice_get (s ∷ states) j) same
-  states_after s (x ∷ xs) states k =
-      let number : length (option_to_list x.commit ++ commits_in xs) + k ≡ length (option_to_list x.commit) + (length (commits_in xs) + k) =
-      omega (arith, length-append (option_to_list x.commit) (commits_in xs)) in
-      ap (λ (l : List S). slice_get (s ∷ l) (length (option_to_list x.commit ++ commits_in xs) + k)) (append_assoc (option_to_list x.commit) (commits_in xs) states)
-      ∙ ap (λ (j : ℕ). slice_get (s ∷ (option_to_list x.commit ++ (commits_in xs ++ states))) j) number
-      ∙ first_state s x.commit (commits_in xs ++ states) (length (commits_in xs) + k)
-      ∙ states_after (unwrap_or x.commit s) xs states k
 
   pub last_contained : (s : S) (xs : List (Piece S)) → Contains (s ∷ commits_in xs) (state_after s xs)
   last_contained s [] = (0, omega arith, refl)
@@ -119,46 +75,135 @@ module _ {S : Type 0} where
   contained_after s u xs ys (suc k, below, is) =
       subst (λ (l : List S). Contains (s ∷ l) u) (sym (commits_in-append xs ys)) (Contains-append_right (s ∷ commits_in xs) (commits_in ys) u (k, omega arith, is))
 
-  -- The state of a number, or the next one
+  -- The state after some pieces, or after one more
 
-  get_more : (states more : List S) (k : ℕ) (v : S) → slice_get states k ≡ Some v → slice_get (states ++ more) k ≡ Some v
-  get_more [] more k v is = absurd (cc)
-  get_more (x ∷ states) more zero v is = is
-  get_more (x ∷ states) more (suc k) v is = get_more states more k v is
+  -- some of the pieces, before or behind others
+  state_before : (s : S) (xs ys : List (Piece S)) (k : ℕ) → k ≤ length xs → state_after s (take k (xs ++ ys)) ≡ state_after s (take k xs)
+  state_before s xs ys zero within = refl
+  state_before s [] ys (suc k) within = absurd (omega arith)
+  state_before s (x ∷ xs) ys (suc k) within = state_before (unwrap_or x.commit s) xs ys k (omega arith)
 
-  -- among more states
-  pub state_or_next_more : (states more : List S) (c : ℕ) (held : S → Type 0) → IsStateOrNext states c held → IsStateOrNext (states ++ more) c held
-  state_or_next_more states more c held (u, is, inl same) = (u, is, inl (get_more states more c u same))
-  state_or_next_more states more c held (u, is, inr same) = (u, is, inr (get_more states more (c + 1) u same))
+  pub state_behind : (s : S) (xs ys : List (Piece S)) (k : ℕ) → state_after s (take (length xs + k) (xs ++ ys)) ≡ state_after (state_after s xs) (take k ys)
+  state_behind s [] ys k = let same : 0 + k ≡ k = omega arith in ap (λ (j : ℕ). state_after s (take j ys)) same
+  state_behind s (x ∷ xs) ys k =
+      let same : suc (length xs) + k ≡ suc (length xs + k) = omega arith in
+      ap (λ (j : ℕ). state_after s (take j (x ∷ (xs ++ ys)))) same ∙ state_behind (unwrap_or x.commit s) xs ys k
 
-  -- among the states of more pieces
-  pub state_or_next_before : (s : S) (xs ys : List (Piece S)) (c : ℕ) (held : S → Type 0) → IsStateOrNext (s ∷ commits_in xs) c held → IsStateOrNext (s ∷ commits_in (xs ++ ys)) c held
-  state_or_next_before s xs ys c held is =
-      subst (λ (l : List S). IsStateOrNext (s ∷ l) c held) (sym (commits_in-append xs ys)) (state_or_next_more (s ∷ commits_in xs) (commits_in ys) c held is)
+  -- among more pieces: behind the last of the first ones nothing more is told of them
+  pub either_before : (s : S) (xs ys : List (Piece S)) (k : ℕ) (held : S → Type 0) → k ≤ length xs
+      → IsEither (state_after s (take k xs)) (state_after s (take (k + 1) xs)) held
+      → IsEither (state_after s (take k (xs ++ ys))) (state_after s (take (k + 1) (xs ++ ys))) held
+  either_before s xs ys k held within (inl is) = inl (subst held (sym (state_before s xs ys k within)) is)
+  either_before s xs ys k held within (inr is) = elim (cases_lt k (length xs)) [
+    | inl more ↦ inr (subst held (sym (state_before s xs ys (k + 1) (omega arith))) is)
+    | inr all ↦
+        let whole : take (k + 1) xs ≡ take k xs = take_all (k + 1) xs (omega arith) ∙ sym (take_all k xs (omega arith)) in
+        inl (subst held (ap (state_after s) whole ∙ sym (state_before s xs ys k within)) is)
+  ]
 
-  -- by its number from the state before the first pieces
-  pub state_or_next_after : (s : S) (xs ys : List (Piece S)) (c : ℕ) (held : S → Type 0) → IsStateOrNext (state_after s xs ∷ commits_in ys) c held → IsStateOrNext (s ∷ commits_in (xs ++ ys)) (length (commits_in xs) + c) held
-  state_or_next_after s xs ys c held (u, is, which) =
-      subst (λ (l : List S). IsStateOrNext (s ∷ l) (length (commits_in xs) + c) held) (sym (commits_in-append xs ys)) (u, is, go which)
+  -- and behind the first ones
+  pub either_after : (s : S) (xs ys : List (Piece S)) (k : ℕ) (held : S → Type 0)
+      → IsEither (state_after (state_after s xs) (take k ys)) (state_after (state_after s xs) (take (k + 1) ys)) held
+      → IsEither (state_after s (take (length xs + k) (xs ++ ys))) (state_after s (take (length xs + k + 1) (xs ++ ys))) held
+  either_after s xs ys k held (inl is) = inl (subst held (sym (state_behind s xs ys k)) is)
+  either_after s xs ys k held (inr is) =
+      let number : length xs + k + 1 ≡ length xs + (k + 1) = omega arith in
+      inr (subst held (sym (ap (λ (j : ℕ). state_after s (take j (xs ++ ys))) number ∙ state_behind s xs ys (k + 1))) is)
+
+  -- The lines that are reached
+
+  pub lines_before : (xs ys : List (Piece S)) (n : ℕ) → n ≤ length (text_in xs) → lines_reached (lines_in (xs ++ ys)) n ≡ lines_reached (lines_in xs) n
+  lines_before [] ys n within = let none : n ≡ 0 = omega arith in ap (lines_reached (lines_in ys)) none ∙ nothing_reached (lines_in ys)
+  lines_before (x ∷ xs) ys n within = elim (cases_lt 0 n) [
+    | inl some ↦
+        let left_over : n - length x.line ≤ length (text_in xs) = omega (arith, length-append x.line (text_in xs)) in
+        reached_more x.line (lines_in (xs ++ ys)) n some ∙ ap suc (lines_before xs ys (n - length x.line) left_over) ∙ sym (reached_more x.line (lines_in xs) n some)
+    | inr nothing ↦
+        let none : n ≡ 0 = omega arith in ap (lines_reached (lines_in (x ∷ (xs ++ ys)))) none ∙ sym (ap (lines_reached (lines_in (x ∷ xs))) none)
+  ]
+
+  pub lines_behind : (xs ys : List (Piece S)) (more : List ℕ) → AreFull xs
+      → lines_reached (lines_in (xs ++ ys)) (length (text_in xs ++ more)) ≡ length xs + lines_reached (lines_in ys) (length more)
+  lines_behind [] ys more full = omega arith
+  lines_behind (x ∷ xs) ys more full =
+      let n : ℕ = length (text_in (x ∷ xs) ++ more) in
+      let long : n ≡ length x.line + length (text_in xs ++ more) =
+      ap length (append_assoc x.line (text_in xs) more) ∙ length-append x.line (text_in xs ++ more) in
+      let left_over : n - length x.line ≡ length (text_in xs ++ more) = omega (arith, long) in
+      let first = reached_more x.line (lines_in (xs ++ ys)) n (omega (arith, long, full.0)) in
+      let others = ap (lines_reached (lines_in (xs ++ ys))) left_over ∙ lines_behind xs ys more full.1 in
+      omega (arith, first, others)
+
+  -- the whole text reaches into all lines
+  pub all_reached : (xs : List (Piece S)) → AreFull xs → lines_reached (lines_in xs) (length (text_in xs)) ≡ length xs
+  all_reached xs full =
+      let whole = lines_behind xs [] [] full in
+      let lines = ap (λ (l : List (Piece S)). lines_reached (lines_in l) (length (text_in xs ++ []))) (sym (append-nil xs)) in
+      let text = ap (λ (l : List ℕ). lines_reached (lines_in xs) (length l)) (sym (append-nil (text_in xs))) in
+      omega (arith, whole, lines, text)
+
+  -- others behind them reach into no more of the first
+  reached_first : (xs ys : List (Piece S)) (n j : ℕ) → take (lines_reached (lines_in (xs ++ ys)) n + j) xs ≡ take (lines_reached (lines_in xs) n + j) xs
+  reached_first [] ys n j = take_all (lines_reached (lines_in ys) n + j) [] (omega arith) ∙ sym (take_all (0 + j) [] (omega arith))
+  reached_first (x ∷ xs) ys n j = elim (cases_lt 0 n) [
+    | inl some ↦
+        let k = lines_reached (lines_in (xs ++ ys)) (n - length x.line) in
+        let m = lines_reached (lines_in xs) (n - length x.line) in
+        let long : lines_reached (lines_in (x ∷ (xs ++ ys))) n + j ≡ suc (k + j) = omega (arith, reached_more x.line (lines_in (xs ++ ys)) n some) in
+        let short : lines_reached (lines_in (x ∷ xs)) n + j ≡ suc (m + j) = omega (arith, reached_more x.line (lines_in xs) n some) in
+        ap (λ (i : ℕ). take i (x ∷ xs)) long ∙ ap (λ (l : List (Piece S)). x ∷ l) (reached_first xs ys (n - length x.line) j) ∙ sym (ap (λ (i : ℕ). take i (x ∷ xs)) short)
+    | inr nothing ↦
+        let none : n ≡ 0 = omega arith in
+        ap (λ (i : ℕ). take (lines_reached (lines_in (x ∷ (xs ++ ys))) i + j) (x ∷ xs)) none ∙ sym (ap (λ (i : ℕ). take (lines_reached (lines_in (x ∷ xs)) i + j) (x ∷ xs)) none)
+  ]
+
+  -- The number of a state among those that are told
+
+  pub numbered : (s : S) (xs : List (Piece S)) (k : ℕ) → slice_get (s ∷ commits_in xs) (length (commits_in (take k xs))) ≡ Some (state_after s (take k xs))
+  numbered s xs zero = refl
+  numbered s [] (suc k) = refl
+  numbered s (x ∷ xs) (suc k) =
+      let number : length (option_to_list x.commit ++ commits_in (take k xs)) ≡ length (option_to_list x.commit) + length (commits_in (take k xs)) =
+      length-append (option_to_list x.commit) (commits_in (take k xs)) in
+      ap (λ (j : ℕ). slice_get (s ∷ commits_in (x ∷ xs)) j) number ∙ first_state s x.commit (commits_in xs) (length (commits_in (take k xs)))
+      ∙ numbered (unwrap_or x.commit s) xs k
+
+  -- one piece more tells one state more, or none
+  pub one_more : (xs : List (Piece S)) (k : ℕ)
+      → (length (commits_in (take (k + 1) xs)) ≡ length (commits_in (take k xs))) ⊎ (length (commits_in (take (k + 1) xs)) ≡ length (commits_in (take k xs)) + 1)
+  one_more xs k = subst (λ (j : ℕ). (told xs j ≡ told xs k) ⊎ (told xs j ≡ told xs k + 1)) same (go xs k)
     where
-      go : (slice_get (state_after s xs ∷ commits_in ys) c ≡ Some u) ⊎ (slice_get (state_after s xs ∷ commits_in ys) (c + 1) ≡ Some u)
-          → (slice_get (s ∷ (commits_in xs ++ commits_in ys)) (length (commits_in xs) + c) ≡ Some u) ⊎ (slice_get (s ∷ (commits_in xs ++ commits_in ys)) (length (commits_in xs) + c + 1) ≡ Some u)
-      go (inl same) = inl (states_after s xs (commits_in ys) c ∙ same)
-      go (inr same) =
-          let number : length (commits_in xs) + c + 1 ≡ length (commits_in xs) + (c + 1) = omega arith in
-          inr (ap (λ (j : ℕ). slice_get (s ∷ (commits_in xs ++ commits_in ys)) j) number ∙ states_after s xs (commits_in ys) (c + 1) ∙ same)
+      told : List (Piece S) → ℕ → ℕ
+      told xs k = length (commits_in (take k xs))
 
-  -- the only state
-  pub only_state : (s : S) (c : ℕ) (held : S → Type 0) → IsStateOrNext (s ∷ []) c held → held s
-  only_state s c held (u, is, inl same) = go c same
-    where
-      go : (c : ℕ) → slice_get (s ∷ []) c ≡ Some u → held s
-      go zero same = let one : u ≡ s = cc in subst held one is
-      go (suc c) same = absurd (cc)
-  only_state s c held (u, is, inr same) = absurd (past same)
-    where
-      past : slice_get (s ∷ []) (c + 1) ≡ Some u → ⊥
-      past same = let number : c + 1 ≡ suc c = omega arith in let none : None ≡ Some u = ap (λ (j : ℕ). slice_get (s ∷ []) j) (sym number) ∙ same in cc
+      same : suc k ≡ k + 1
+      same = omega arith
+
+      first : (x : Piece S) (commit : Option S) → x.commit ≡ commit → (told (x ∷ []) 1 ≡ 0) ⊎ (told (x ∷ []) 1 ≡ 1)
+      first x None is = inl (ap (λ (o : Option S). length (option_to_list o ++ [])) is)
+      first x (Some u) is = inr (ap (λ (o : Option S). length (option_to_list o ++ [])) is)
+
+      go : (xs : List (Piece S)) (k : ℕ) → (told xs (suc k) ≡ told xs k) ⊎ (told xs (suc k) ≡ told xs k + 1)
+      go [] zero = inl refl
+      go [] (suc k) = inl refl
+      go (x ∷ xs) zero = first x x.commit refl
+      go (x ∷ xs) (suc k) =
+          let here = λ (j : ℕ). length-append (option_to_list x.commit) (commits_in (take j xs)) in
+          elim (go xs k) [
+            | inl as_many ↦ inl (omega (arith, here (suc k), here k, as_many))
+            | inr more ↦ inr (omega (arith, here (suc k), here k, more))
+          ]
+
+  told_contained : (s : S) (xs : List (Piece S)) (k : ℕ) → Contains (s ∷ commits_in xs) (state_after s (take k xs))
+  told_contained s xs k =
+      subst (λ (l : List (Piece S)). Contains (s ∷ commits_in l) (state_after s (take k xs))) (take-append-drop k xs)
+      (contained_before s (state_after s (take k xs)) (take k xs) (drop k xs) (last_contained s (take k xs)))
+
+  -- a state that is held after some of the pieces, or after one more, is among those that are told
+  pub held_among : (s : S) (xs : List (Piece S)) (k : ℕ) (held : S → Type 0) → IsEither (state_after s (take k xs)) (state_after s (take (k + 1) xs)) held
+      → (u : S) × held u × Contains (s ∷ commits_in xs) u
+  held_among s xs k held (inl is) = (state_after s (take k xs), is, told_contained s xs k)
+  held_among s xs k held (inr is) = (state_after s (take (k + 1) xs), is, told_contained s xs (k + 1))
 
   -- Lines that tell no state
 
@@ -170,10 +215,21 @@ module _ {S : Type 0} where
   state_after-quiet s [] = refl
   state_after-quiet s (line ∷ lines) = state_after-quiet s lines
 
-  -- One line that tells a state
+  -- some of them
+  pub state_of-quiet : (s : S) (lines : List (List ℕ)) (k : ℕ) → state_after s (take k (quiet lines)) ≡ s
+  state_of-quiet s lines k =
+      ap (state_after s) (take-map (λ (line : List ℕ). record { line = line; commit = None }) k lines) ∙ state_after-quiet s (take k lines)
 
-  pub reached-telling : (u : S) (line : List ℕ) (n : ℕ) → 0 < n → commits_reached (telling u line) n ≡ 1
-  reached-telling u line n some = ap (λ (l : List (Piece S)). length (commits_in l)) (one_reached (record { line = line; commit = Some u }) [] n some)
+  -- behind other pieces they tell no more
+  quiet_behind : (s : S) (xs : List (Piece S)) (lines : List (List ℕ)) (k : ℕ) → state_after s (take k (xs ++ quiet lines)) ≡ state_after s (take k xs)
+  quiet_behind s xs lines zero = refl
+  quiet_behind s [] lines (suc k) = state_of-quiet s lines (suc k)
+  quiet_behind s (x ∷ xs) lines (suc k) = quiet_behind (unwrap_or x.commit s) xs lines k
+
+  pub reached_quiet : (s : S) (xs : List (Piece S)) (lines : List (List ℕ)) (n j : ℕ)
+      → state_after s (take (lines_reached (lines_in (xs ++ quiet lines)) n + j) (xs ++ quiet lines)) ≡ state_after s (take (lines_reached (lines_in xs) n + j) xs)
+  reached_quiet s xs lines n j =
+      quiet_behind s xs lines (lines_reached (lines_in (xs ++ quiet lines)) n + j) ∙ ap (state_after s) (reached_first xs (quiet lines) n j)
 
 -- Their lines, their text, and that none of them tells one
 
@@ -184,8 +240,3 @@ module _ (S : Type 0) where
 
   pub text_in-quiet : (lines : List (List ℕ)) → text_in (quiet {S = S} lines) ≡ concat lines
   text_in-quiet lines = ap concat (lines_in-quiet lines)
-
-  pub reached-quiet : (lines : List (List ℕ)) (n : ℕ) → commits_reached (quiet {S = S} lines) n ≡ 0
-  reached-quiet lines n =
-      let k = lines_reached (lines_in (quiet {S = S} lines)) n in
-      ap (λ (l : List (Piece S)). length (commits_in l)) (take-map (λ (line : List ℕ). record { line = line; commit = None }) k lines) ∙ ap length (commits_in-quiet (take k lines))

@@ -1,6 +1,7 @@
 -- Pieces that are put out over two flashes, some after others.
-use Rattle.std.proofs.Common.{◌≡◌, inl, inr, ℕ, ◌+◌, ◌<◌, ◌≤◌, Option, Some, None, IsSome, List, [], ◌∷◌, ◌++◌, length, slice_get, unwrap_or, refl, sym, ap, subst, ◌∙◌, arith, append_assoc, length-append}
+use Rattle.std.proofs.Common.{◌≡◌, inl, inr, ℕ, ◌+◌, ◌<◌, ◌≤◌, Option, Some, None, IsSome, List, [], ◌∷◌, ◌++◌, length, take, unwrap_or, refl, sym, ap, subst, ◌∙◌, arith, append_assoc, length-append}
 use Rattle.std.proofs.lemmas.Bool.{cases_lt}
+use Rattle.std.proofs.lemmas.List.{length-map}
 use Rattle.std.proofs.lemmas.Option.{same_Some}
 use Rattle.std.specs.List.{concat}
 use Rattle.std.specs.Option.{ForSome}
@@ -26,10 +27,10 @@ use Rattle.twin_image.specs.Rewrite.{PutsAtMost}
 use Rattle.twin_image.specs.Twin.{IsOfTwin}
 use Rattle.flash_store.specs.Calls.{Commits, KeepsHeld}
 use Rattle.flash_store.specs.Held.{HeldAlone, HeldByBoth, HoldEither, IsEither, KeepFrames}
-use Rattle.flash_store.specs.Pieces.{AreFull, Piece, commits_in, commits_reached, lines_in, quiet, state_after, telling, text_in}
-use Rattle.flash_store.specs.Played.{AreInOrder, AreInOrderTo, IsBeforeLine, IsCutCommit, IsCutPiece, Follows, HasPut, HasStopped, IsCutAt, IsInCommit, IsSafe, IsStateOrNext, Keeping, Plays, Survives, shows_in}
+use Rattle.flash_store.specs.Pieces.{AreFull, Piece, lines_in, lines_reached, quiet, state_after, telling, text_in}
+use Rattle.flash_store.specs.Played.{AreInOrder, AreInOrderTo, IsBeforeLine, IsCutCommit, IsCutPiece, Follows, HasPut, HasStopped, HoldAfter, IsCutAt, IsInCommit, IsSafe, Keeping, Plays, Survives, shows_in}
 use Rattle.flash_store.specs.Syncs.{both_synced}
-use Rattle.flash_store.proofs.Counting.{commits_in-quiet, contained_after, contained_before, lines_in-append, lines_in-quiet, only_state, reached-quiet, reached-telling, reached_after, reached_before, state_after-append, state_after-quiet, state_or_next_after, state_or_next_before, text_in-append, text_in-quiet}
+use Rattle.flash_store.proofs.Counting.{contained_after, contained_before, either_after, either_before, few_reached, lines_before, lines_behind, lines_in-append, lines_in-quiet, reached_more, reached_quiet, state_after-append, state_after-quiet, state_of-quiet, text_in-append, text_in-quiet}
 use Rattle.flash_store.proofs.Resting.{frames_at_end, frames_same, frames_text, frames_trans}
 use Rattle.flash_store.proofs.ShowStops.{front_of_text, session-append, session_shows, session_slots, shows_in-append, shows_in_shows, shows_in_silent, stops_of_shows, text_of_lines}
 use Rattle.flash_store.proofs.Tracing.{TellsToo, still_tells, traced_bytes, traced_over}
@@ -46,12 +47,10 @@ module _ {S : Type 0} (keeping : Keeping S) where
 
   -- Lines that tell no state
 
-  quiet_state : (s : S) (lines : List (List ℕ)) (n : ℕ) (held : S → Type 0) → IsEither s s held → IsStateOrNext (s ∷ commits_in (quiet {S = S} lines)) (commits_reached (quiet {S = S} lines) n) held
-  quiet_state s lines n held either = (s, own either, inl (ap (λ (k : ℕ). slice_get (s ∷ commits_in (quiet {S = S} lines)) k) (reached-quiet S lines n)))
-    where
-      own : IsEither s s held → held s
-      own (inl is) = is
-      own (inr is) = is
+  quiet_state : (s : S) (lines : List (List ℕ)) (k : ℕ) (left : Left) → HoldEither keeping.codec s s left → HoldAfter keeping.codec s (quiet lines) k left
+  quiet_state s lines k left holds =
+      subst (λ (u : S). HoldEither keeping.codec u (state_after s (take (k + 1) (quiet lines))) left) (sym (state_of-quiet s lines k))
+      (subst (λ (u : S). HoldEither keeping.codec s u left) (sym (state_of-quiet s lines (k + 1))) holds)
 
   -- shows of a front of their text, from flashes at rest on
   plays_quiet : (s : S) (lines : List (List ℕ)) (start : Option Flashes) (ops : List Op) → RestHolds keeping s → ForSome start (keeping.AreAtRest s) → ShowsFront (concat lines) ops → Plays keeping.codec s (quiet lines) start ops
@@ -65,9 +64,7 @@ module _ {S : Type 0} (keeping : Keeping S) where
               record {
                 rest = more ++ part.back;
                 front = text_in-quiet S lines ∙ part.front ∙ ap (λ (l : List ℕ). l ++ part.back) split ∙ append_assoc left.shown more part.back;
-                both = quiet_state s lines (length left.shown) (HeldByBoth keeping.codec left.internal left.external) holds.both;
-                internal = quiet_state s lines (length left.shown) (HeldAlone keeping.codec left.internal) holds.internal;
-                external = quiet_state s lines (length left.shown) (HeldAlone keeping.codec left.external) holds.external;
+                holds = quiet_state s lines (lines_reached (lines_in (quiet {S = S} lines)) (length left.shown)) left holds;
               },
               frames_same keeping.codec.size flashes left (stored.clean flashes resting) internal external,
             ));
@@ -208,34 +205,28 @@ module _ {S : Type 0} (keeping : Keeping S) where
     while_committed a ops commits start told =
         stops_both start ops (λ left. HoldEither keeping.codec s u left × KeepFrames keeping.codec.size start left) (λ left. left.shown ≡ []) (Leaves s (telling u line) start)
         (commits.stops start told) (stops_silent (λ d k. IsOfTwin keeping.codec.size k) start ops commits.slots.within) (λ left holds silent.
-        let none = ap length silent in
-        let number : commits_reached (telling u line) (length left.shown) ≡ 0 = ap (λ (n : ℕ). commits_reached (telling u line) n) none in (
+        let none : 0 ≡ lines_reached (line ∷ []) (length left.shown) = sym (ap (λ (l : List ℕ). lines_reached (line ∷ []) (length l)) silent) in (
           record {
             rest = line ++ [];
             front = ap (λ (l : List ℕ). l ++ (line ++ [])) (sym silent);
-            both = either (commits_reached (telling u line) (length left.shown)) number (HeldByBoth keeping.codec left.internal left.external) holds.0.both;
-            internal = either (commits_reached (telling u line) (length left.shown)) number (HeldAlone keeping.codec left.internal) holds.0.internal;
-            external = either (commits_reached (telling u line) (length left.shown)) number (HeldAlone keeping.codec left.external) holds.0.external;
+            holds = subst (λ (k : ℕ). HoldAfter keeping.codec s (telling u line) k left) none holds.0;
           },
           holds.1,
         ))
-      where
-        either : (c : ℕ) → c ≡ 0 → (held : S → Type 0) → IsEither s u held → IsStateOrNext (s ∷ u ∷ []) c held
-        either c none held (inl old) = (s, old, inl (ap (λ (k : ℕ). slice_get (s ∷ u ∷ []) k) none))
-        either c none held (inr new) = (u, new, inr (ap (λ (k : ℕ). slice_get (s ∷ u ∷ []) (k + 1)) none))
 
     -- the state is kept, and some of the line was shown, or none of it
-    told_state : (n : ℕ) (held : S → Type 0) → IsEither u u held → IsStateOrNext (s ∷ u ∷ []) (commits_reached (telling u line) n) held
-    told_state n held either = elim (cases_lt 0 n) [
-      | inl some ↦ (u, own either, inl (ap (λ (k : ℕ). slice_get (s ∷ u ∷ []) k) (reached-telling u line n some)))
+    told_state : (left : Left) → HoldEither keeping.codec u u left → HoldAfter keeping.codec s (telling u line) (lines_reached (line ∷ []) (length left.shown)) left
+    told_state left holds = elim (cases_lt 0 (length left.shown)) [
+      | inl some ↦ subst (λ (k : ℕ). HoldAfter keeping.codec s (telling u line) k left) (sym (reached_more line [] (length left.shown) some)) holds
       | inr nothing ↦
-          let none : n ≡ 0 = omega arith in
-          (u, own either, inr (ap (λ (m : ℕ). slice_get (s ∷ u ∷ []) (commits_reached (telling u line) m + 1)) none))
+          let none : 0 ≡ length left.shown = omega arith in
+          subst (λ (n : ℕ). HoldAfter keeping.codec s (telling u line) (lines_reached (line ∷ []) n) left) none
+          (record { both = next (HeldByBoth keeping.codec left.internal left.external) holds.both; internal = next (HeldAlone keeping.codec left.internal) holds.internal; external = next (HeldAlone keeping.codec left.external) holds.external })
     ]
       where
-        own : IsEither u u held → held u
-        own (inl is) = is
-        own (inr is) = is
+        next : (held : S → Type 0) → IsEither u u held → IsEither s u held
+        next held (inl is) = inr is
+        next held (inr is) = inr is
 
     -- a commit that a port cut off
     plays_commit : (a : Told) (ops : List Op) → Commits keeping.codec s u a ops → Plays keeping.codec s (telling u line) a.flashes ops
@@ -260,9 +251,7 @@ module _ {S : Type 0} (keeping : Keeping S) where
                 record {
                   rest = more ++ part.back;
                   front = part.front ∙ ap (λ (l : List ℕ). l ++ part.back) split ∙ append_assoc left.shown more part.back;
-                  both = told_state (length left.shown) (HeldByBoth keeping.codec left.internal left.external) holds.both;
-                  internal = told_state (length left.shown) (HeldAlone keeping.codec left.internal) holds.internal;
-                  external = told_state (length left.shown) (HeldAlone keeping.codec left.external) holds.external;
+                  holds = told_state left holds;
                 },
                 frames_trans keeping.codec.size start mid left kept (frames_same keeping.codec.size mid left (stored.clean mid resting) internal external),
               )));
@@ -374,17 +363,22 @@ module _ {S : Type 0} (keeping : Keeping S) where
       record {
         rest = follows.rest ++ text_in ys;
         front = text_in-append xs ys ∙ ap (λ (l : List ℕ). l ++ text_in ys) follows.front ∙ append_assoc left.shown follows.rest (text_in ys);
-        both = each (HeldByBoth keeping.codec left.internal left.external) follows.both;
-        internal = each (HeldAlone keeping.codec left.internal) follows.internal;
-        external = each (HeldAlone keeping.codec left.external) follows.external;
+        holds = subst (λ (k : ℕ). HoldAfter keeping.codec s (xs ++ ys) k left) (sym (lines_before xs ys (length left.shown) within))
+            (record { both = each (HeldByBoth keeping.codec left.internal left.external) follows.holds.both; internal = each (HeldAlone keeping.codec left.internal) follows.holds.internal; external = each (HeldAlone keeping.codec left.external) follows.holds.external });
       }
     where
       within : length left.shown ≤ length (text_in xs)
       within = let fits = ap length follows.front in omega (arith, fits, length-append left.shown follows.rest)
 
-      each : (held : S → Type 0) → IsStateOrNext (s ∷ commits_in xs) (commits_reached xs (length left.shown)) held → IsStateOrNext (s ∷ commits_in (xs ++ ys)) (commits_reached (xs ++ ys) (length left.shown)) held
-      each held is =
-          subst (λ (n : ℕ). IsStateOrNext (s ∷ commits_in (xs ++ ys)) n held) (sym (reached_before xs ys (length left.shown) within)) (state_or_next_before s xs ys (commits_reached xs (length left.shown)) held is)
+      k : ℕ
+      k = lines_reached (lines_in xs) (length left.shown)
+
+      few : k ≤ length xs
+      few = omega (arith, few_reached (lines_in xs) (length left.shown), length-map xs (λ (piece : Piece S). piece.line))
+
+      each : (held : S → Type 0) → IsEither (state_after s (take k xs)) (state_after s (take (k + 1) xs)) held
+          → IsEither (state_after s (take k (xs ++ ys))) (state_after s (take (k + 1) (xs ++ ys))) held
+      each held is = either_before s xs ys k held few is
 
   -- and what follows the pieces behind them, once their text was shown
   pub follows_after : (s : S) (xs ys : List (Piece S)) (left : Left) → AreFull xs → Follows keeping.codec (state_after s xs) ys left → Follows keeping.codec s (xs ++ ys) (record left { shown = text_in xs ++ left.shown })
@@ -392,14 +386,29 @@ module _ {S : Type 0} (keeping : Keeping S) where
       record {
         rest = follows.rest;
         front = text_in-append xs ys ∙ ap (λ (l : List ℕ). text_in xs ++ l) follows.front ∙ sym (append_assoc (text_in xs) left.shown follows.rest);
-        both = each (HeldByBoth keeping.codec left.internal left.external) follows.both;
-        internal = each (HeldAlone keeping.codec left.internal) follows.internal;
-        external = each (HeldAlone keeping.codec left.external) follows.external;
+        holds = subst (λ (n : ℕ). HoldAfter keeping.codec s (xs ++ ys) n (record left { shown = text_in xs ++ left.shown })) (sym (lines_behind xs ys left.shown full))
+            (record { both = each (HeldByBoth keeping.codec left.internal left.external) follows.holds.both; internal = each (HeldAlone keeping.codec left.internal) follows.holds.internal; external = each (HeldAlone keeping.codec left.external) follows.holds.external });
       }
     where
-      each : (held : S → Type 0) → IsStateOrNext (state_after s xs ∷ commits_in ys) (commits_reached ys (length left.shown)) held → IsStateOrNext (s ∷ commits_in (xs ++ ys)) (commits_reached (xs ++ ys) (length (text_in xs ++ left.shown))) held
-      each held is =
-          subst (λ (n : ℕ). IsStateOrNext (s ∷ commits_in (xs ++ ys)) n held) (sym (reached_after xs ys left.shown full)) (state_or_next_after s xs ys (commits_reached ys (length left.shown)) held is)
+      k : ℕ
+      k = lines_reached (lines_in ys) (length left.shown)
+
+      each : (held : S → Type 0) → IsEither (state_after (state_after s xs) (take k ys)) (state_after (state_after s xs) (take (k + 1) ys)) held
+          → IsEither (state_after s (take (length xs + k) (xs ++ ys))) (state_after s (take (length xs + k + 1) (xs ++ ys))) held
+      each held is = either_after s xs ys k held is
+
+  -- lines behind the pieces that tell no state
+  pub follows_quiet : (s : S) (xs : List (Piece S)) (lines : List (List ℕ)) (left : Left) → Follows keeping.codec s (xs ++ quiet lines) left
+      → HoldAfter keeping.codec s xs (lines_reached (lines_in xs) (length left.shown)) left
+  follows_quiet s xs lines left follows =
+      let n = length left.shown in
+      let k = lines_reached (lines_in (xs ++ quiet lines)) n in
+      let none : k + 0 ≡ k = omega arith in
+      let still_none : lines_reached (lines_in xs) n + 0 ≡ lines_reached (lines_in xs) n = omega arith in
+      let this : state_after s (take k (xs ++ quiet lines)) ≡ state_after s (take (lines_reached (lines_in xs) n) xs) =
+      ap (λ (i : ℕ). state_after s (take i (xs ++ quiet lines))) (sym none) ∙ reached_quiet s xs lines n 0 ∙ ap (λ (i : ℕ). state_after s (take i xs)) still_none in
+      subst (λ (u : S). HoldEither keeping.codec u (state_after s (take (lines_reached (lines_in xs) n + 1) xs)) left) this
+      (subst (λ (u : S). HoldEither keeping.codec (state_after s (take k (xs ++ quiet lines))) u left) (reached_quiet s xs lines n 1) follows.holds)
 
   plays_before : (s : S) (xs ys : List (Piece S)) (start : Option Flashes) (ops : List Op) → Plays keeping.codec s xs start ops → Plays keeping.codec s (xs ++ ys) start ops
   plays_before s xs ys start ops plays =
@@ -543,10 +552,15 @@ module _ {S : Type 0} (keeping : Keeping S) where
 
     -- what the opening lines leave
     opening_holds : (left : Left) → Follows keeping.codec s opening left → HeldByBoth keeping.codec left.internal left.external s
-    opening_holds left follows =
-        let reached = commits_reached opening (length left.shown) in
-        let held = HeldByBoth keeping.codec left.internal left.external in
-        only_state s reached held (subst (λ (l : List S). IsStateOrNext (s ∷ l) reached held) (commits_in-quiet (line ∷ lines)) follows.both)
+    opening_holds left follows = go follows.holds.both
+      where
+        k : ℕ
+        k = lines_reached (lines_in opening) (length left.shown)
+
+        go : IsEither (state_after s (take k opening)) (state_after s (take (k + 1) opening)) (HeldByBoth keeping.codec left.internal left.external)
+            → HeldByBoth keeping.codec left.internal left.external s
+        go (inl is) = subst (HeldByBoth keeping.codec left.internal left.external) (state_of-quiet s (line ∷ lines) k) is
+        go (inr is) = subst (HeldByBoth keeping.codec left.internal left.external) (state_of-quiet s (line ∷ lines) (k + 1)) is
 
     -- while they are shown, behind whatever kept the frames
     while_opened : (b : Told) (ops : List Op) (start mid : Flashes) → Plays keeping.codec s opening b.flashes ops → b.flashes ≡ Some mid

@@ -1,5 +1,5 @@
 -- Putting pieces out over two flashes: each state is committed, and then its line is shown
-use Rattle.std.specs.Prelude.{◌≡◌, ◌⊎◌, ℕ, ◌+◌, ◌<◌, ◌≤◌, List, [], ◌∷◌, ◌++◌, Option, Some, None, Result, Ok, Err, length, slice_get, unwrap_or, IsSome, Contains}
+use Rattle.std.specs.Prelude.{◌≡◌, ◌⊎◌, ℕ, ◌+◌, ◌<◌, ◌≤◌, List, [], ◌∷◌, ◌++◌, Option, None, Result, Ok, Err, length, take, unwrap_or, IsSome, Contains}
 use Rattle.std.specs.List.{AllByRecursion}
 use Rattle.std.specs.Option.{ForSome, option_to_list}
 use Rattle.urna_outside.specs.Confined.{count_syncs}
@@ -13,8 +13,8 @@ use Rattle.urna_outside.specs.declared.device.Port.TheVariants as port
 use Rattle.gate_slot.specs.Front.{IsFrontOfSome}
 use Rattle.gate_slot.specs.Page.{put_bytes}
 use Rattle.twin_image.specs.Twin.{IsOfTwin}
-use Rattle.flash_store.specs.Held.{Codec, HeldAlone, HeldByBoth, KeepFrames}
-use Rattle.flash_store.specs.Pieces.{Piece, commits_in, commits_reached, lines_in, state_after, text_in}
+use Rattle.flash_store.specs.Held.{Codec, HeldByBoth, HoldEither, KeepFrames}
+use Rattle.flash_store.specs.Pieces.{Piece, commits_in, lines_in, lines_reached, state_after, text_in}
 use Rattle.flash_store.specs.Syncs.{both_synced}
 
 -- the shows among some operations, in order
@@ -30,21 +30,19 @@ IsOfSession size (Put d at bytes) = (k : ℕ) → at ≤ k → k < at + length b
 IsOfSession size (Sync d) = Unit {0}
 IsOfSession size (Show bytes) = Unit {0}
 
--- the state of that number is held, or the next one
-abbrev pub IsStateOrNext : {S : Type 0} → List S → ℕ → (S → Type 0) → Type 0
-IsStateOrNext {S} states c held = (u : S) × held u × ((slice_get states c ≡ Some u) ⊎ (slice_get states (c + 1) ≡ Some u))
-
 -- ---- what a power cut leaves
 
 module _ {S : Type 0} (codec : Codec S) where
-  -- What a power cut leaves while the pieces are put out from a state. The shown text is a front of the whole. Where it reaches into c
-  -- of the lines that tell a state, both flashes, and each alone, hold the state of number c, from the one at the start, or the next.
+  -- both flashes, and each alone, hold the state after so many of the pieces, or after one piece more
+  abbrev pub HoldAfter : S → List (Piece S) → ℕ → Left → Type 0
+  HoldAfter s pieces k left = HoldEither codec (state_after s (take k pieces)) (state_after s (take (k + 1) pieces)) left
+
+  -- What a power cut leaves while the pieces are put out from a state. The shown text is a front of the whole. Both flashes, and each alone,
+  -- hold the state after the pieces into whose lines it reaches, or after one piece more.
   pub record Follows (s : S) (pieces : List (Piece S)) (left : Left) : Type 0 where
     pub rest : List ℕ
     pub front : text_in pieces ≡ left.shown ++ rest
-    pub both : IsStateOrNext (s ∷ commits_in pieces) (commits_reached pieces (length left.shown)) (HeldByBoth codec left.internal left.external)
-    pub internal : IsStateOrNext (s ∷ commits_in pieces) (commits_reached pieces (length left.shown)) (HeldAlone codec left.internal)
-    pub external : IsStateOrNext (s ∷ commits_in pieces) (commits_reached pieces (length left.shown)) (HeldAlone codec left.external)
+    pub holds : HoldAfter s pieces (lines_reached (lines_in pieces) (length left.shown)) left
 
   -- what holds of the operations while the pieces are put out, whole or up to a fault
   pub record Plays (s : S) (pieces : List (Piece S)) (start : Option Flashes) (ops : List Op) : Type 0 where

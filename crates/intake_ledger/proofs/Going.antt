@@ -1,7 +1,6 @@
 -- What a power cut leaves is a ledger again.
-use Rattle.std.proofs.Common.{◌≡◌, inl, inr, ℕ, ◌+◌, List, [], ◌∷◌, Some, length, subst, ◌∙◌, arith}
-use Rattle.std.specs.Prelude.{Contains, slice_get}
-use Rattle.std.proofs.lemmas.Option.{get_or_from_slice_get, slice_get_within}
+use Rattle.std.proofs.Common.{List, [], ◌∷◌, length, ◌∙◌, arith}
+use Rattle.std.specs.Prelude.{Contains}
 use Rattle.std.proofs.lemmas.List.Elements.{Contains-get_or}
 use Rattle.urna_outside.specs.Flash.{Flashes}
 use Rattle.urna_outside.specs.Started.{clean_flashes}
@@ -10,8 +9,8 @@ use Rattle.urna_outside.specs.declared.device.Dev.TheVariants.{Internal, Externa
 use Rattle.election_tables.specs.TablesData.{TablesData}
 use Rattle.twin_image.proofs.Laid.{frame_kept}
 use Rattle.flash_store.specs.Held.{HeldByBoth, KeepFrames}
-use Rattle.flash_store.specs.Pieces.{commits_in, commits_reached}
-use Rattle.flash_store.specs.Played.{IsStateOrNext}
+use Rattle.flash_store.specs.Pieces.{commits_in, lines_in, lines_reached}
+use Rattle.flash_store.proofs.Counting.{held_among}
 use Rattle.intake_ledger.specs.Header.{header}
 use Rattle.intake_ledger.specs.Kept.{AreFramed, ledgers}
 use Rattle.intake_ledger.specs.Laws.{AreWhole, IsLedgerAgain, OffersGoOn, OpeningGoesOn}
@@ -34,15 +33,8 @@ module _ (t : TablesData) (m : LedgerData) (of : List LedgerData) (start : Flash
 pub opening_goes_on : OpeningGoesOn
 opening_goes_on t l start left whole found held keeps = again t l (l ∷ []) start left whole found.framed keeps held (Contains-get_or (l ∷ []) 0 l (omega arith))
 
--- what stands in a place of a list is of it
-there_in : (of : List LedgerData) (k : ℕ) (m : LedgerData) → slice_get of k ≡ Some m → Contains of m
-there_in of k m is = subst (Contains of) (get_or_from_slice_get of k m m is) (Contains-get_or of k m (slice_get_within of k m is))
-
-one_of : (of : List LedgerData) (k : ℕ) (P : LedgerData → Type 0) → IsStateOrNext of k P → (m : LedgerData) × P m × Contains of m
-one_of of k P (m, is, inl this) = (m, is, there_in of k m this)
-one_of of k P (m, is, inr next) = (m, is, there_in of (k + 1) m next)
-
 pub offers_go_on : OffersGoOn
 offers_go_on t l pieces start left whole framed follows keeps =
-    let held = one_of (l ∷ commits_in pieces) (commits_reached pieces (length left.shown)) (HeldByBoth (ledgers t) left.internal left.external) follows.both in
+    let k = lines_reached (lines_in pieces) (length left.shown) in
+    let held = held_among l pieces k (HeldByBoth (ledgers t) left.internal left.external) follows.holds.both in
     again t held.0 (l ∷ commits_in pieces) start left whole framed keeps held.1 held.2

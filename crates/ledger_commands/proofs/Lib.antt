@@ -3,3 +3,5 @@ mod Opened
 mod Received
 mod Receiving
 mod Sums
+mod Headline
+mod Completion

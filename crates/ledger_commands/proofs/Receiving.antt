@@ -69,7 +69,7 @@ after_pieces t l _ _ _ _ (one_more {files} {verdicts} {pieces} {m} {k} {file} {v
     ∙ ap (λ (s : LedgerData). unwrap_or (told_by v k) s) (after_pieces t l m files verdicts pieces before) ∙ left_by t m k file v offer
 
 -- as many verdicts as files
-as_many : (t : TablesData) (l m : LedgerData) (files : List File) (verdicts : List Verdict) (pieces : List (Piece LedgerData)) → AreOfferedTo t l files verdicts pieces m → length verdicts ≡ length files
+pub as_many : (t : TablesData) (l m : LedgerData) (files : List File) (verdicts : List Verdict) (pieces : List (Piece LedgerData)) → AreOfferedTo t l files verdicts pieces m → length verdicts ≡ length files
 as_many t l _ _ _ _ none_offered = refl
 as_many t l _ _ _ _ (one_more {files} {verdicts} {pieces} {m} {k} {file} {v} before offer) =
     length-append verdicts (v ∷ []) ∙ ap (λ (n : ℕ). n + 1) (as_many t l m files verdicts pieces before) ∙ sym (length-append files (file ∷ []))

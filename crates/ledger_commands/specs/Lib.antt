@@ -1,9 +1,11 @@
 pub mod Abre
 pub mod Codes
 pub mod Command
+pub mod Completion
 pub mod Documents
 pub mod Ending
 pub mod Errors
+pub mod Headline
 pub mod Lines
 pub mod Opening
 pub mod Recebe

@@ -1,7 +1,6 @@
 -- What is found on two flashes is one, and what a power cut leaves is a poll again.
-use Rattle.std.proofs.Common.{◌≡◌, inl, inr, ℕ, ◌+◌, ◌≤◌, List, [], ◌∷◌, Some, length, refl, sym, ap, subst, ◌∙◌, arith}
-use Rattle.std.specs.Prelude.{Contains, slice_get}
-use Rattle.std.proofs.lemmas.Option.{get_or_from_slice_get, slice_get_within}
+use Rattle.std.proofs.Common.{◌≡◌, ℕ, ◌≤◌, List, [], ◌∷◌, Some, length, refl, sym, ap, subst, ◌∙◌, arith}
+use Rattle.std.specs.Prelude.{Contains}
 use Rattle.std.proofs.lemmas.List.Elements.{All-contains, Contains-get_or}
 use Rattle.urna_outside.specs.Flash.{Flashes, after, part, shown_by}
 use Rattle.urna_outside.specs.Started.{clean_flashes}
@@ -21,8 +20,8 @@ use Rattle.state_store.specs.Laws.{AreWhole, EndGoesOn, ForeignOnce, IsPollOf, L
 use Rattle.state_store.specs.Load.{IsSectionOf, header, load_of}
 use Rattle.state_store.specs.Played.{Survives}
 use Rattle.flash_store.specs.Held.{bodies_of_both}
-use Rattle.flash_store.specs.Pieces.{commits_in}
-use Rattle.flash_store.specs.Played.{IsStateOrNext}
+use Rattle.flash_store.specs.Pieces.{commits_in, lines_in, lines_reached}
+use Rattle.flash_store.proofs.Counting.{held_among}
 use Rattle.flash_store.specs.Syncs.{both_synced}
 use Rattle.flash_store.proofs.Holding.{one_held}
 use Rattle.flash_store.proofs.Resting.{at_end}
@@ -94,15 +93,6 @@ pub recovery_goes_on : RecoveryGoesOn
 recovery_goes_on t r section s start left whole found held keeps =
     poll_left t r section s s (s ∷ []) start left whole found keeps held (Contains-get_or (s ∷ []) 0 s (omega arith))
 
--- what is at a place of a list is of it
-pub got_state : (states : List State) (k : ℕ) (u : State) → slice_get states k ≡ Some u → Contains states u
-got_state states k u is =
-    subst (Contains states) (get_or_from_slice_get states k u u is) (Contains-get_or states k u (slice_get_within states k u is))
-
-next_held : (states : List State) (k : ℕ) (held : State → Type 0) → IsStateOrNext states k held → (u : State) × held u × Contains states u
-next_held states k held (u, is, inl this) = (u, is, got_state states k u this)
-next_held states k held (u, is, inr next) = (u, is, got_state states (k + 1) u next)
-
 pub session_goes_on : SessionGoesOn
 session_goes_on t r section s pieces start left whole found survives = go left.shown refl
   where
@@ -123,8 +113,9 @@ session_goes_on t r section s pieces start left whole found survives = go left.s
     go [] none = end s (survives.0 none) (Contains-get_or states 0 s (omega arith))
     go (byte ∷ bytes) some =
         let follows = survives.1 (omega (arith, ap length some)) in
-        let next = next_held states _ (held_now section.voters) follows.both in
-        end next.0 next.1 next.2
+        let k = lines_reached (lines_in pieces) (length left.shown) in
+        let held = held_among s pieces k (held_now section.voters) follows.holds.both in
+        end held.0 held.1 held.2
 
 -- ---- where a session ends
 

@@ -2,7 +2,7 @@
 use Rattle.std.proofs.Common.{◌≡◌, ◌⊎◌, inl, inr, false, ℕ, zero, suc, ◌+◌, ◌≤◌, List, [], ◌∷◌, length, Option, None, Some, refl, sym, ap, subst, ◌∙◌, IsSomeAnd}
 use Rattle.urna_outside.specs.Cabinet.{CabinetTold, Entry, Files, Tally}
 use Rattle.urna_outside.specs.Flash.{Flashes, flash_of}
-use Rattle.urna_outside.specs.Told.{Faults, Rose, Told, faults_of, port_of}
+use Rattle.urna_outside.specs.Told.{Rose, Told, faults_of, port_of}
 use Rattle.urna_outside.specs.declared.device.Dev.{Dev}
 use Rattle.urna_outside.specs.declared.device.Dev.TheVariants as dev
 use Rattle.urna_outside.specs.declared.device.Port.{Port}
@@ -65,6 +65,7 @@ use Rattle.command_parts.specs.declared.error.Doc.{Doc}
 use Rattle.command_parts.specs.declared.error.Doc.TheVariants as doc
 use Rattle.urna_commands.specs.declared.status.Status.{Status}
 use Rattle.urna_commands.specs.declared.status.Status.TheVariants as status
+use Rattle.command_parts.proofs.Calls.{since}
 use Rattle.command_parts.proofs.Once.{same_names, same_roll, same_tables}
 use Rattle.urna_commands.proofs.Once.{record_not_fault, refused_or_documents, refused_or_given, refused_or_listed, refused_or_taken, report_not_fault}
 use Rattle.urna_commands.proofs.Recounts.{no_report_not_read}
@@ -87,11 +88,6 @@ pub calm : (s : Status) (m b n : Told) → ((p : Port) → ¬ Rose (faults_of p 
 calm s m b n none told p is rose =
     let no_line = subst (λ (x : Status). Tells (fault_text x) b n) is told in
     none p (subst (λ (x : Told). Rose (faults_of p m.faults) (faults_of p x.faults)) (sym (port_silent p b n no_line)) rose)
-
--- a count that rose since a later moment rose since an earlier one where no call failed between
-since : (p : Port) (m between b : Told) → between.faults ≡ m.faults → Rose (faults_of p between.faults) (faults_of p b.faults)
-    → Rose (faults_of p m.faults) (faults_of p b.faults)
-since p m between b same rose = subst (λ (f : Faults). Rose (faults_of p f) (faults_of p b.faults)) same rose
 
 -- where a file was not put, the cabinet's count rose
 stopped_rose : (files : List Entry) (c d : CabinetTold) → StopPutting files c d → Rose c.tally.faults d.tally.faults

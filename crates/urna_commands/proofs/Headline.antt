@@ -32,7 +32,7 @@ use Rattle.flash_store.specs.Pieces.{lines_in, text_in}
 use Rattle.state_store.specs.declared.load.Load.{Load}
 use Rattle.state_store.proofs.Going.{found_once, loaded_once, loaded_or_foreign}
 use Rattle.flash_store.proofs.Holding.{hold_or_none}
-use Rattle.flash_store.proofs.Syncing.{frames_before}
+use Rattle.flash_store.proofs.Syncing.{behind_is, frames_before, not_done, not_within}
 use Rattle.flash_store.proofs.Resting.{clean_image, frames_same}
 use Rattle.flash_store.proofs.ShowStops.{text_of_lines}
 use Rattle.station.specs.Cast.{ballots_of}
@@ -56,7 +56,7 @@ use Rattle.command_parts.specs.declared.error.Doc.TheVariants as doc
 use Rattle.urna_commands.specs.declared.status.Status.{Status}
 use Rattle.urna_commands.proofs.Completion.{port_silent}
 use Rattle.urna_commands.proofs.Idle.{synced_both}
-use Rattle.urna_commands.proofs.Keeping.{behind_is, found_roll, kept_silent, not_done, not_within, safe_stops, session_kept}
+use Rattle.urna_commands.proofs.Keeping.{found_roll, kept_silent, safe_stops, session_kept}
 use Rattle.command_parts.proofs.Once.{same_bytes, same_roll, same_tables}
 use Rattle.urna_commands.proofs.Once.{refused_or_given}
 use Rattle.image_codec.specs.Layout.{body_size}

@@ -1,7 +1,7 @@
 -- How far a session comes that finds a poll, and to which poll it leads
 use Rattle.state_store.specs.Held.{HeldAlone, HeldByBoth, poll}
-use Rattle.std.proofs.Common.{◌≡◌, ◌≢◌, ◌⊎◌, inl, inr, ℕ, ◌+◌, ◌<◌, List, [], ◌∷◌, ◌++◌, Option, Some, length, refl, sym, ap, subst, ◌∙◌, arith, length-append}
-use Rattle.std.proofs.lemmas.List.{append-nil, append_cancel_left}
+use Rattle.std.proofs.Common.{◌≡◌, ◌≢◌, ◌⊎◌, inl, inr, ℕ, ◌+◌, ◌<◌, List, [], ◌∷◌, ◌++◌, Option, Some, length, take, refl, sym, ap, subst, ◌∙◌, arith, length-append}
+use Rattle.std.proofs.lemmas.List.{append_cancel_left, take_all}
 use Rattle.std.proofs.lemmas.List.Elements.{Contains-get_or}
 use Rattle.urna_outside.specs.Cabinet.{CabinetTold, Files}
 use Rattle.urna_outside.specs.Flash.{Flashes, IsImage, Op, Sync, after, shown_by}
@@ -25,7 +25,7 @@ use Rattle.state_store.specs.Calls.{AreFound}
 use Rattle.state_store.specs.Laws.{AreWhole, IsPollOf}
 use Rattle.flash_store.specs.Pieces.{AreFull, commits_in, commits_reached, lines_in, text_in}
 use Rattle.state_store.specs.Pieces.{Piece}
-use Rattle.flash_store.proofs.Counting.{reached_after}
+use Rattle.flash_store.proofs.Counting.{all_reached}
 use Rattle.flash_store.proofs.Syncing.{syncs_leave_no_more}
 use Rattle.state_store.proofs.Going.{found_once, poll_left}
 use Rattle.station.specs.Cast.{ballots_of, fims_reached}
@@ -117,10 +117,8 @@ opened_full t s out = (full_opening t s, full_pieces t out)
 -- it reaches into all lines that tell a state
 commits_whole : (pieces : List Piece) → AreFull pieces → commits_reached pieces (length (text_in pieces)) ≡ length (commits_in pieces)
 commits_whole pieces full =
-    ap (λ (l : List Piece). commits_reached l (length (text_in pieces))) (sym (append-nil pieces))
-    ∙ ap (λ (l : List ℕ). commits_reached (pieces ++ []) (length l)) (sym (append-nil (text_in pieces)))
-    ∙ reached_after pieces [] [] full
-    ∙ omega arith
+    ap (λ (k : ℕ). length (commits_in (take k pieces))) (all_reached pieces full)
+    ∙ ap (λ (l : List Piece). length (commits_in l)) (take_all (length pieces) pieces (omega arith))
 
 -- ---- stops within the two syncs
 

@@ -3,8 +3,7 @@ use Rattle.std.specs.Prelude.{◌≡◌, ◌⊎◌, ℕ, Bool, true, false, List
 use Rattle.std.specs.Option.{IsSomeAnd}
 use Rattle.urna_outside.specs.Cabinet.{CabinetTold, Files}
 use Rattle.urna_outside.specs.Flash.{Flashes}
-use Rattle.urna_outside.specs.Told.{Rose, Told, faults_of}
-use Rattle.urna_outside.specs.declared.device.Port.{Port}
+use Rattle.urna_outside.specs.Told.{Rose, Told}
 use Rattle.election_tables.specs.Roll.{RollData}
 use Rattle.election_tables.specs.TablesData.{TablesData}
 use Rattle.election_tables.specs.declared.tables.sections.Section.{Section}
@@ -19,6 +18,7 @@ use Rattle.record_audit.specs.declared.text.RecordText.{RecordText}
 use Rattle.state_store.specs.Rest.{AreFree}
 use Rattle.state_store.specs.Calls.{AreFound}
 use Rattle.contingency.specs.Replaced.{IsReplaced}
+use Rattle.command_parts.specs.Taking.{NothingFailed}
 use Rattle.urna_commands.specs.Carga.{IsSectionAsked}
 use Rattle.urna_commands.specs.Command.{Carga, Command, Confere, Emite, Reconta, Repoe, ToCheck, ToEmit, ToLoad, ToRecount, ToRehearse, ToReplace, ToTotal, ToVote, Totaliza, Vota, command_of}
 use Rattle.command_parts.specs.Documents.{HasDocuments, HasTables, IsTaken}
@@ -32,11 +32,6 @@ use Rattle.urna_commands.specs.Vota.{IsGiven}
 use Rattle.command_parts.specs.declared.error.Doc.TheVariants as doc
 use Rattle.urna_commands.specs.declared.status.Status.{Status}
 use Rattle.urna_commands.specs.declared.status.Status.TheVariants as status
-
--- in a call no count of faults rose: neither the cabinet's nor a port's
-pub record NothingFailed (c d : CabinetTold) (m n : Told) : Type 0 where
-  pub cabinet : ¬ Rose c.tally.faults d.tally.faults
-  pub ports : (p : Port) → ¬ Rose (faults_of p m.faults) (faults_of p n.faults)
 
 -- the call did all its steps, or memory was wanted
 abbrev pub IsDoneOrMemory : Status → Type 0
