@@ -1,12 +1,12 @@
 //! A command over a machine and a cabinet in memory, and what it shows.
-ghost use Rattle.urna_outside.specs.Recorder.{recorder_told};
-ghost use Rattle.state_store.specs.Store.{AreDevices};
-
-use crate::flashes::{Flashes, machine};
+use crate::flashes::{Flashes, Program, machine};
 use crate::halt::Halt;
 use crate::papers::{Paper, cabinet_of};
 use crate::stage::Faults;
 use crate::watched::Watched;
+use crate::words::head;
+use ledger_commands::urna_ledger;
+use state_store::DEVICE_SIZE;
 use std::alloc::Global;
 use std::str;
 use urna_commands::urna;
@@ -15,9 +15,10 @@ use urna_outside::Recorder;
 /// The file that the keys of a session are.
 const KEYS: &str = "k";
 
-/// A command: its words, and the keys of a session, which are the file `KEYS`.
+/// A command: the program and its words, and the keys of a session, which are the file `KEYS`.
 #[derive(Drop)]
 pub(crate) struct Call {
+    pub program: Program,
     pub words: String,
     pub keys: Option<String>,
 }
@@ -41,11 +42,40 @@ fn words_of(alloc: Global, line: &str) -> Result<Vec<String>, Halt> {
     Ok(words)
 }
 
-/// The number with which `urna` ends.
-fn answer(alloc: Global, words: &[String], machine: &mut Recorder, cabinet: &mut Watched) -> u8
-    requires { AreDevices (recorder_told machine.old).sizes }
-{
-    urna(alloc, words, machine, cabinet).code()
+/// A command of these words, or of those behind `livro`, which are one of the ledger.
+pub(crate) fn call_of(alloc: Global, text: &str) -> Result<Call, Halt> {
+    let (program, words) = match head(text) {
+        ("livro", words) => (Program::Ledger, words),
+        _ => (Program::Urna, text),
+    };
+    Ok(Call {
+        program,
+        words: String::from_str(alloc, words)?,
+        keys: None,
+    })
+}
+
+/// The number with which a program ends, and the machine that it leaves.
+fn answer(
+    alloc: Global,
+    program: Program,
+    words: &[String],
+    flashes: Flashes,
+    faults: &Faults,
+    cabinet: &mut Watched,
+) -> Result<(u8, Recorder), Halt> {
+    match program {
+        Program::Urna => {
+            let mut machine = machine(alloc, flashes, faults, DEVICE_SIZE)?;
+            let code = urna(alloc, words, &mut machine, cabinet).code();
+            Ok((code, machine))
+        }
+        Program::Ledger => {
+            let mut machine = machine(alloc, flashes, faults, intake_ledger::DEVICE_SIZE)?;
+            let code = urna_ledger(alloc, words, &mut machine, cabinet).code();
+            Ok((code, machine))
+        }
+    }
 }
 
 /// The files that were put, in their order.
@@ -84,8 +114,7 @@ pub(crate) fn run(
     if let Some(keys) = &call.keys {
         cabinet.shelf.place(KEYS, keys.as_bytes())?;
     }
-    let mut machine = machine(alloc, flashes, faults)?;
-    let code = answer(alloc, &words, &mut machine, &mut cabinet);
+    let (code, machine) = answer(alloc, call.program, &words, flashes, faults, &mut cabinet)?;
     if cabinet.lost {
         return Err(Halt::Memory);
     }
@@ -102,6 +131,7 @@ pub(crate) fn run(
 /// A session of the section with these keys.
 pub(crate) fn session_of(alloc: Global, keys: String) -> Result<Call, Halt> {
     Ok(Call {
+        program: Program::Urna,
         words: String::from_str(alloc, "vota t r k o")?,
         keys: Some(keys),
     })

@@ -1,5 +1,5 @@
 //! Commands one after another, each of which is stopped behind an operation that a seed draws.
-use crate::calls::{Call, run, say};
+use crate::calls::{Call, call_of, run, say};
 use crate::cuts::{Fill, WAYS, cut};
 use crate::flashes::{Flashes, copied, left};
 use crate::halt::Halt;
@@ -180,10 +180,7 @@ pub(crate) fn each_chain(
 ) -> Result<(), Halt> {
     let (count, later) = head(rest);
     let later = kept_as(&stage.kept, later)?;
-    let emit = Call {
-        words: String::from_str(alloc, "emite t r o")?,
-        keys: None,
-    };
+    let emit = call_of(alloc, "emite t r o")?;
     let mut kept = 0u32;
     for seed in 0..number(count)? {
         let keeps = match chain(alloc, stage, &emit, u64::from(seed), later)? {

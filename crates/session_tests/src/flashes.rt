@@ -1,7 +1,8 @@
 //! What both flashes hold.
-ghost use Rattle.std.specs.Prelude.{IfOk};
+ghost use Rattle.std.specs.Prelude.{◌≡◌, ◌<◌, ◌^◌, IfOk};
 ghost use Rattle.urna_outside.specs.Recorder.{recorder_told};
-ghost use Rattle.state_store.specs.Store.{AreDevices};
+ghost use Rattle.urna_outside.specs.Told.{size_of};
+ghost use Rattle.urna_outside.specs.declared.device.Dev.{Dev};
 
 use crate::halt::Halt;
 use crate::stage::Faults;
@@ -11,8 +12,22 @@ use state_store::DEVICE_SIZE;
 use std::alloc::Global;
 use urna_outside::{Dev, Recorder};
 
-/// The bytes of a device.
-const DEVICE: usize = DEVICE_SIZE as usize;
+/// The program that a command is of. Each has flashes of another size.
+#[derive(Clone, Copy, PartialEq, Eq)]
+pub(crate) enum Program {
+    Urna,
+    Ledger,
+}
+
+impl Program {
+    /// The bytes of a device.
+    fn device(self) -> usize {
+        match self {
+            Program::Urna => DEVICE_SIZE as usize,
+            Program::Ledger => intake_ledger::DEVICE_SIZE as usize,
+        }
+    }
+}
 
 /// How many bytes a slot has: its gate with what fills up the page, and its body.
 const SLOT: usize = FRONT_SIZE + BODY_SIZE;
@@ -35,11 +50,11 @@ pub(crate) fn no_flashes(alloc: Global) -> Flashes {
     }
 }
 
-/// Flashes of zeros.
-pub(crate) fn blank(alloc: Global) -> Result<Flashes, Halt> {
+/// Flashes of zeros, as a program has them.
+pub(crate) fn blank(alloc: Global, program: Program) -> Result<Flashes, Halt> {
     Ok(Flashes {
-        internal: vec![in alloc; 0; DEVICE]?,
-        external: vec![in alloc; 0; DEVICE]?,
+        internal: vec![in alloc; 0; program.device()]?,
+        external: vec![in alloc; 0; program.device()]?,
     })
 }
 
@@ -69,12 +84,18 @@ pub(crate) fn is_left(m: &Recorder, flashes: &Flashes) -> bool {
         && m.content(Dev::External) == flashes.external.as_slice()
 }
 
-/// A machine over these flashes, with these faults.
-pub(crate) fn machine(alloc: Global, flashes: Flashes, faults: &Faults) -> Result<Recorder, Halt>
-    ensures { IfOk result (λ m. AreDevices (recorder_told m).sizes) }
+/// A machine over these flashes, which have so many bytes, with these faults.
+pub(crate) fn machine(
+    alloc: Global,
+    flashes: Flashes,
+    faults: &Faults,
+    size: u32,
+) -> Result<Recorder, Halt>
+    requires { size < 2 ^ 31 }
+    ensures { IfOk result (λ m. (d : Dev) → size_of d (recorder_told m).sizes ≡ size) }
 {
     let Flashes { internal, external } = flashes;
-    if internal.len() != DEVICE || external.len() != DEVICE {
+    if internal.len() != size as usize || external.len() != size as usize {
         return Err(Halt::Script);
     }
     Ok(Recorder::restart(

@@ -1,6 +1,6 @@
 //! What a script works on: the files, the flashes, those that were kept, and the last command.
 use crate::calls::{Call, Ran};
-use crate::flashes::{Flashes, blank};
+use crate::flashes::{Flashes, Program, blank};
 use crate::halt::Halt;
 use crate::papers::Paper;
 use std::alloc::Global;
@@ -56,7 +56,7 @@ impl Stage {
         Ok(Stage {
             papers: Vec::new(alloc),
             faults: no_faults(alloc),
-            flashes: blank(alloc)?,
+            flashes: blank(alloc, Program::Urna)?,
             kept: Vec::new(alloc),
             last: None,
         })

@@ -1,8 +1,8 @@
 //! The lines of a script that set up, and those that are commands.
-use crate::calls::{Call, run, say_end, say_ran, session_of, shown};
+use crate::calls::{Call, call_of, run, say_end, say_ran, session_of, shown};
 use crate::cuts::{cut, fill_of};
 use crate::edits::{edited, hashed};
-use crate::flashes::{Flashes, blank, copied, left, set, shut_device};
+use crate::flashes::{Flashes, Program, blank, copied, left, set, shut_device};
 use crate::halt::Halt;
 use crate::looks::{look, look_at_each};
 use crate::papers::{bytes_of, lines_of, place, remove};
@@ -136,7 +136,8 @@ fn stop(alloc: Global, stage: &mut Stage, rest: &str) -> Result<(), Halt> {
 /// The lines that change what both flashes hold.
 fn change(alloc: Global, stage: &mut Stage, word: &str, rest: &str) -> Result<bool, Halt> {
     match word {
-        "blank" if rest.is_empty() => stage.flashes = blank(alloc)?,
+        "blank" if rest.is_empty() => stage.flashes = blank(alloc, Program::Urna)?,
+        "blank" if rest == "livro" => stage.flashes = blank(alloc, Program::Ledger)?,
         "keep" => keep(alloc, stage, rest)?,
         "back" => bring_back(alloc, stage, rest)?,
         "shut" => shut_device(&mut stage.flashes, device(rest)?),
@@ -188,11 +189,7 @@ fn press(alloc: Global, stage: &mut Stage, line: &str, out: &mut String) -> Resu
 /// Runs a command of the script's own words.
 fn run_words(alloc: Global, stage: &mut Stage, words: &str) -> Result<(), Halt> {
     let given = copied(alloc, &stage.flashes)?;
-    let call = Call {
-        words: String::from_str(alloc, words)?,
-        keys: None,
-    };
-    command(alloc, stage, call, given)
+    command(alloc, stage, call_of(alloc, words)?, given)
 }
 
 /// Runs one, and prints what it shows.
@@ -250,6 +247,7 @@ fn act(
 ) -> Result<bool, Halt> {
     match word {
         "urna" => run_shown(alloc, stage, rest, out)?,
+        "livro" => run_shown(alloc, stage, line, out)?,
         "hush" => run_hushed(alloc, stage, rest, out)?,
         "session" if rest.is_empty() => begin_session(alloc, stage, out)?,
         "M" | "E" => press(alloc, stage, line, out)?,

@@ -1,5 +1,5 @@
 //! What is left where a command is stopped: behind each of its operations, inside of one, or at each of its calls.
-use crate::calls::{Call, Ran, push_files, run, say, session_of, shown};
+use crate::calls::{Call, Ran, call_of, push_files, run, say, session_of, shown};
 use crate::cuts::{Fill, WAYS, cut, cut_at};
 use crate::flashes::{Flashes, are_same, copied, is_left, left, no_flashes, shut_device};
 use crate::halt::Halt;
@@ -88,10 +88,7 @@ fn told_of(
             Ok(text)
         }
         How::Command(words) => {
-            let call = Call {
-                words: String::from_str(alloc, words)?,
-                keys: None,
-            };
+            let call = call_of(alloc, words)?;
             told_by(alloc, papers, &call, copied(alloc, flashes)?)
         }
     }
