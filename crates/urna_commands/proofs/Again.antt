@@ -41,20 +41,23 @@ use Rattle.station.specs.Setting.{setting_of}
 use Rattle.station.proofs.Casting.{run_counts}
 use Rattle.station.proofs.Performing.{tables_setting}
 use Rattle.station.proofs.RunLaws.{run_exists}
-use Rattle.urna_commands.specs.Again.{AreDone, AreNoCollision, AreReady, Call, Called, EitherMayBeExchanged, ExchangeLeavesIt, Exchanged, HasKept, HavePoll, IsCall, IsExchange, IsNext, IsSessionOf, LeadTo, LeadsTo, MayBeCalled, NextIsSafe, ReplaceNothing, RestStandsAlone, StandsAlone, Step, StepsKeepVotes, StillStandsAlone, TellsForeign, ballots_in, ballots_led, by_both, by_one, cut, cut_behind, done_call, done_exchange, done_nothing, ended, exchanges, foreign, leads, other, session, silent, stays, stopped}
+use Rattle.urna_commands.specs.Again.{AreDone, AreNoCollision, AreReady, Call, Called, EitherMayBeExchanged, ExchangeLeavesIt, Exchanged, HasKept, HavePoll, IsCall, IsExchange, IsSessionOf, LeadTo, LeadsTo, MayBeCalled, NextIsSafe, ReplaceNothing, RestStandsAlone, StandsAlone, Step, StepsKeepVotes, StillStandsAlone, TellsForeign, ballots_in, ballots_led, by_both, by_one, done_call, done_exchange, done_nothing, exchanges, foreign, leads, other, session, silent, stays}
 use Rattle.urna_commands.specs.Command.{Carga, Command, Repoe, ToCheck, ToEmit, ToLoad, ToRecount, ToRehearse, ToReplace, ToTotal, ToVote, Vota, command_of}
 use Rattle.command_parts.specs.FaultLines.{Tells, device_word, fault_line}
 use Rattle.urna_commands.specs.FaultLines.{fault_text}
-use Rattle.urna_commands.specs.Idle.{AreIdle, GivesOthers, IsIdleEnding}
+use Rattle.urna_commands.specs.Errors.{port_status}
+use Rattle.urna_commands.specs.Idle.{GivesOthers, IsIdleEnding}
 use Rattle.urna_commands.specs.Replaced.{EndsForeign}
 use Rattle.urna_commands.specs.Vota.{IsGiven, IsRefused, VotaEnds, no_cabinet, no_memory, not_started, refused, session_held, cut as vota_cut}
 use Rattle.urna_commands.specs.declared.status.Status.{Status}
 use Rattle.urna_commands.proofs.Completion.{port_silent}
 use Rattle.urna_commands.proofs.Endings.{ends_as}
 use Rattle.urna_commands.proofs.Headline.{given_once, votes_are_kept}
-use Rattle.urna_commands.proofs.Idle.{Idles, front_idles, idle_left, idle_stop, idle_trail, idles-append, told_idles, untouched_idles}
+use Rattle.command_parts.specs.Idle.{AreIdle}
+use Rattle.command_parts.proofs.Idle.{Idles, front_idles, idle_left, idle_stop, idle_trail, idles-append, told_idles, untouched_idles}
 use Rattle.urna_commands.proofs.Keeping.{found_roll}
-use Rattle.urna_commands.proofs.Leading.{IsOver, left_so, session_leaves, found_left, stop_none}
+use Rattle.command_parts.proofs.Steps.{IsOver, goes, stop_none}
+use Rattle.urna_commands.proofs.Leading.{left_so, session_leaves, found_left}
 use Rattle.urna_commands.proofs.Leaving.{idle_endings, load_is_kept_out, opened_is_in_use, standing_is_in_use}
 use Rattle.urna_commands.proofs.Once.{refused_or_given}
 use Rattle.urna_commands.proofs.Opened.{led_has_ballots}
@@ -64,10 +67,6 @@ use Rattle.urna_commands.proofs.Replacing.{DoesReplace, keeps, leaves_poll, one_
 use Rattle.image_codec.specs.Layout.{body_size}
 
 -- ---- what was kept
-
-pub clean_is_clean : (content : List ℕ) → IsClean (clean_flash content)
-clean_is_clean content =
-    subst (λ (n : ℕ). (k : ℕ) → slice_index_or (replicate n false) k false ≡ false) (length-replicate (length content) false) (synced_clean (clean_flash content))
 
 -- what is left, of which the shown text doesn't matter
 abbrev images : List ℕ → List ℕ → Left
@@ -141,28 +140,6 @@ ready_or_opened : (p : Phase) → (p ≡ phase.Ready) ⊎ (p ≢ phase.Ready)
 ready_or_opened phase.Ready = inl refl
 ready_or_opened (phase.Polling at) = inr (λ is. absurd (cc))
 ready_or_opened (phase.Sealed at closed) = inr (λ is. absurd (cc))
-
--- ---- what there is for the next call
-
--- what a power cut left of flashes, on which nothing is dirty, is an image of them
-left_images : (flashes : Flashes) (text : List ℕ) (left : Left) → IsLeft flashes text left → (a b : List ℕ)
-    → IsImage (clean_flash left.internal) a → IsImage (clean_flash left.external) b → IsImage flashes.internal a × IsImage flashes.external b
-left_images flashes text left is a b internal external =
-    let i : a ≡ left.internal = clean_image (clean_flash left.internal) a (clean_is_clean left.internal) internal in
-    let e : b ≡ left.external = clean_image (clean_flash left.external) b (clean_is_clean left.external) external in
-    (subst (IsImage flashes.internal) (sym i) is.internal, subst (IsImage flashes.external) (sym e) is.external)
-
--- it is an image of a stop
-goes : (start : Flashes) (answer : Status) (ops done : List Op) (over : Option Status) (next : Flashes) (P : List ℕ → List ℕ → Type 0) → IsNext start ops answer done over next
-    → ((a b : List ℕ) → IsStop ops done → IsImage (after done start).internal a → IsImage (after done start).external b → IsOver over answer ops done → P a b)
-    → (a b : List ℕ) → IsImage next.internal a → IsImage next.external b → P a b
-goes start answer ops _ _ _ P ended h a b internal external = h a b (stop_whole ops) internal external (inr (refl, refl))
-goes start answer ops _ _ _ P (cut_behind {left} is) h a b internal external =
-    let images = left_images (after ops start) (shown_by ops) left is a b internal external in
-    h a b (stop_whole ops) images.0 images.1 (inr (refl, refl))
-goes start answer ops done _ _ P (cut {left} stop is) h a b internal external =
-    let images = left_images (after done start) (shown_by done) left is a b internal external in
-    h a b stop images.0 images.1 (inl stopped)
 
 module _ (t : TablesData) (r : RollData) (section : Section) (s : State) (origin : Flashes) (ready : AreReady t r section s origin) where
   abbrev At : List Step → List ℕ → List ℕ → Type 0
@@ -256,7 +233,7 @@ module _ (t : TablesData) (r : RollData) (section : Section) (s : State) (origin
     session_step : AreFound t r section here.state start → (names : Vota) (c d : CabinetTold) (m b n : Told) (answer : Status) → VotaEnds names c d m b answer → Tells (fault_text answer) b n
         → c.files ≡ Some x.files → (es : List Event) → IsSessionOf t r x es → IsGiven (Some x.files) names t r es → (ops : List Op) → IsTraced m n start ops
         → (done : List Op) → IsStop ops done → (a e : List ℕ) → IsImage (after done start).internal a → IsImage (after done start).external e → x.shown ≡ shown_by done
-        → IsOver x.status answer ops done → AtNext a e
+        → IsOver port_status x.status answer ops done → AtNext a e
     session_step found names c d m b n answer ends tells told es of given ops traced done stop a e internal external shown over =
         let run = run_exists (setting_of t r.titles) here.state es (tables_setting t r.titles ready.tables) in
         elim (session_leaves names x c d told t r es given section here.state run.0 run.1 run.2 m b n start ops found whole traced answer ends tells done stop a e internal external shown over) [
@@ -278,7 +255,7 @@ module _ (t : TablesData) (r : RollData) (section : Section) (s : State) (origin
 
     module _ (next : Flashes) (is : IsCall start x next) (may : MayBeCalled t r section start x is.done) (a e : List ℕ) (stop : IsStop is.ops is.done)
         (internal : IsImage (after is.done start).internal a) (external : IsImage (after is.done start).external e)
-        (over : IsOver x.status is.answer is.ops is.done) where
+        (over : IsOver port_status x.status is.answer is.ops is.done) where
       -- it did nothing but sync and show
       idle_here : Idles is.machine is.machine_after → ((es : List Event) → ¬ IsSessionOf t r x es) → AtNext a e
       idle_here idles others = idle_step is.done a e (idle_stop is.ops is.done (idle_trail is.machine is.machine_after start is.ops is.traced idles) stop) internal external others
@@ -502,7 +479,7 @@ module _ (t : TablesData) (r : RollData) (section : Section) (s : State) (origin
 
   step : (before : List Step) (start : Flashes) → Kept before start → (x : Call) (next : Flashes) (is : IsCall start x next) → MayBeCalled t r section start x is.done → Kept (Called x ∷ before) next
   step before start kept x next is may =
-      goes start is.answer is.ops is.done x.status next (λ a b. At (Called x ∷ before) a b) is.goes_on
+      goes port_status start is.answer is.ops is.done x.status next (λ a b. At (Called x ∷ before) a b) is.goes_on
       (λ a b stop internal external over. any_step before start kept x next is may a b stop internal external over (command_of x.words) refl)
 
   exchange_step : (before : List Step) (d : Dev) (now next : Flashes) → Kept before now → IsExchange d now next → (u : State) → LeadTo t r s before u
@@ -579,7 +556,7 @@ on_images t r section s steps dev.External left alone = alone
 pub either_may_be_exchanged : EitherMayBeExchanged
 either_may_be_exchanged t r section s start now next before x es ready done v found is of some d left at =
     on_images t r section s (Called x ∷ before) d left
-    (goes now is.answer is.ops is.done x.status next (λ a b. Alone t r section s (Called x ∷ before) d (left_on d (images a b))) is.goes_on
+    (goes port_status now is.answer is.ops is.done x.status next (λ a b. Alone t r section s (Called x ∷ before) d (left_on d (images a b))) is.goes_on
     (λ a b stop internal external over. by_device d (both a b stop internal external over)) left.internal left.external at.internal at.external)
   where
     kept : Kept t r section s start ready before now
@@ -598,7 +575,7 @@ either_may_be_exchanged t r section s start now next before x es ready done v fo
     by_device dev.Internal both = both.0
     by_device dev.External both = both.1
 
-    both : (a b : List ℕ) → IsStop is.ops is.done → IsImage (after is.done now).internal a → IsImage (after is.done now).external b → IsOver x.status is.answer is.ops is.done
+    both : (a b : List ℕ) → IsStop is.ops is.done → IsImage (after is.done now).internal a → IsImage (after is.done now).external b → IsOver port_status x.status is.answer is.ops is.done
         → Alone t r section s (Called x ∷ before) dev.Internal a × Alone t r section s (Called x ∷ before) dev.External b
     both a b stop internal external over =
         let run = run_exists (setting_of t r.titles) here.state es (tables_setting t r.titles ready.tables) in
@@ -694,7 +671,7 @@ module _ (t : TablesData) (r : RollData) (section : Section) (s : State) (now ne
 pub still_stands_alone : StillStandsAlone
 still_stands_alone t r section s now next before x d tables roll stands is how left at =
     on_images t r section s (Called x ∷ before) d left
-    (goes now is.answer is.ops is.done x.status next (λ a b. After t r section s now next before x d tables roll stands is a b) is.goes_on
+    (goes port_status now is.answer is.ops is.done x.status next (λ a b. After t r section s now next before x d tables roll stands is a b) is.goes_on
     (λ a b stop internal external over. elim how [
       | inl (idle, nowhere_it) ↦ still_idle t r section s now next before x d tables roll stands is is.done a b idle internal external nowhere_it
       | inr (names, is_this, which, gives) ↦ still_repoe t r section s now next before x d tables roll stands is names is_this which gives a b stop internal external

@@ -32,7 +32,7 @@ use Rattle.flash_store.specs.Pieces.{lines_in, text_in}
 use Rattle.state_store.specs.declared.load.Load.{Load}
 use Rattle.state_store.proofs.Going.{found_once, loaded_once, loaded_or_foreign}
 use Rattle.flash_store.proofs.Holding.{hold_or_none}
-use Rattle.flash_store.proofs.Syncing.{behind_is, frames_before, not_done, not_within}
+use Rattle.flash_store.proofs.Syncing.{behind_is, both_clean, frames_before, not_done, not_within}
 use Rattle.flash_store.proofs.Resting.{clean_image, frames_same}
 use Rattle.flash_store.proofs.ShowStops.{text_of_lines}
 use Rattle.station.specs.Cast.{ballots_of}
@@ -55,7 +55,6 @@ use Rattle.urna_commands.specs.Vota.{HasVoted, HasVotedTo, IsGiven, VotaEnds, cu
 use Rattle.command_parts.specs.declared.error.Doc.TheVariants as doc
 use Rattle.urna_commands.specs.declared.status.Status.{Status}
 use Rattle.urna_commands.proofs.Completion.{port_silent}
-use Rattle.urna_commands.proofs.Idle.{synced_both}
 use Rattle.urna_commands.proofs.Keeping.{found_roll, kept_silent, safe_stops, session_kept}
 use Rattle.command_parts.proofs.Once.{same_bytes, same_roll, same_tables}
 use Rattle.urna_commands.proofs.Once.{refused_or_given}
@@ -165,7 +164,7 @@ module _ (t : TablesData) (r : RollData) (s last : State) (es : List Event) (out
       let external = clean_image (after both_synced start).external left.external (synced_clean start.external) is.external in
       silent left is.shown (subst (λ (x : List ℕ). HeldByBoth t (length r.titles) x left.external s) (sym internal)
       (subst (λ (x : List ℕ). HeldByBoth t (length r.titles) start.internal.content x s) (sym external) found.held))
-      (frames_before body_size start left (frames_same body_size (after both_synced start) left (synced_both start) is.internal is.external))))
+      (frames_before body_size start left (frames_same body_size (after both_synced start) left (both_clean start) is.internal is.external))))
 
   -- a recovery that a flash cut short
   recovering_kept : (behind : List Op) (other : Section) (first : State) → Recovers t r other first m behind → AtEachStop (after both_synced start) behind Kept

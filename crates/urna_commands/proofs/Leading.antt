@@ -38,7 +38,9 @@ use Rattle.station.specs.declared.station.StartError.TheVariants as starting
 use Rattle.station.proofs.Casting.{opened_fims, pieces_commit}
 use Rattle.station.proofs.Pieces.{full_opening, full_pieces}
 use Rattle.station.proofs.RunLaws.{commits_of-append}
-use Rattle.urna_commands.specs.Again.{Call, IsInterrupted, IsToldOrOneMore, LeadsOn, failed}
+use Rattle.command_parts.specs.Steps.{IsInterrupted, IsToldOrOneMore, failed}
+use Rattle.command_parts.proofs.Steps.{IsOver, within_stop}
+use Rattle.urna_commands.specs.Again.{Call, LeadsOn}
 use Rattle.urna_commands.specs.Command.{Vota}
 use Rattle.urna_commands.specs.Errors.{port_status, start_status}
 use Rattle.command_parts.specs.FaultLines.{Tells}
@@ -61,7 +63,7 @@ module _ (names : Vota) (files : Files) (c d : CabinetTold) (told : c.files ≡ 
   abbrev Reaches : Status → Type 0
   Reaches answer =
       IsWithinSyncs ops
-      ⊎ ((rest : List Op) × (ops ≡ both_synced ++ rest) × (IsInterrupted (Some answer) ⊎ (shown_by rest ≡ text_in (session_of t s out))))
+      ⊎ ((rest : List Op) × (ops ≡ both_synced ++ rest) × (IsInterrupted port_status (Some answer) ⊎ (shown_by rest ≡ text_in (session_of t s out))))
 
   tables : IsTables t
   tables = given.tables.valid
@@ -72,11 +74,11 @@ module _ (names : Vota) (files : Files) (c d : CabinetTold) (told : c.files ≡ 
   not_touched : (answer : Status) → IsUntouched m b → n ≡ b → Reaches answer
   not_touched answer h same = inl (inl (sym (done_is [] (subst (Does [] m) (sym (same ∙ h)) (does_nothing m)))))
 
-  interrupted : {P : List Op → Type 0} (answer : Status) → IsInterrupted (Some answer) → Runs (λ done. (rest : List Op) × (done ≡ both_synced ++ rest) × P rest) m n
+  interrupted : {P : List Op → Type 0} (answer : Status) → IsInterrupted port_status (Some answer) → Runs (λ done. (rest : List Op) × (done ≡ both_synced ++ rest) × P rest) m n
       → Reaches answer
   interrupted answer is (done, does, (rest, front, h)) = inr (rest, sym (done_is done does) ∙ front, inl is)
 
-  flash_failed : {P : List Op → Type 0} (answer : Status) → IsInterrupted (Some answer) → Runs (FromSyncs P) m n → Reaches answer
+  flash_failed : {P : List Op → Type 0} (answer : Status) → IsInterrupted port_status (Some answer) → Runs (FromSyncs P) m n → Reaches answer
   flash_failed answer is (done, does, inl within) = inl (subst IsWithinSyncs (done_is done does) within)
   flash_failed answer is (done, does, inr (rest, front, h)) = inr (rest, sym (done_is done does) ∙ front, inl is)
 
@@ -120,31 +122,11 @@ commits_whole pieces full =
     ap (λ (k : ℕ). length (commits_in (take k pieces))) (all_reached pieces full)
     ∙ ap (λ (l : List Piece). length (commits_in l)) (take_all (length pieces) pieces (omega arith))
 
--- ---- stops within the two syncs
-
-nothing_stop : (done : List Op) → IsStop [] done → IsStop both_synced done
-nothing_stop [] stop = tt
-nothing_stop (one ∷ done) stop = absurd stop
-
-first_stop : (done : List Op) → IsStop (Sync dev.Internal ∷ []) done → IsStop both_synced done
-first_stop [] stop = tt
-first_stop (one ∷ []) (inl whole) = inl (whole.0, tt)
-first_stop (one ∷ two ∷ done) (inl whole) = absurd whole.1
-first_stop (one ∷ done) (inr part) = absurd part.0
-
-pub stop_none : (ops done : List Op) → ops ≡ [] → IsStop ops done → done ≡ []
-stop_none ops [] none stop = refl
-stop_none ops (one ∷ done) none stop = absurd (subst (λ (l : List Op). IsStop l (one ∷ done)) none stop)
-
 -- ---- a session over both flashes
 
 -- what is left, and what was shown of it
 abbrev pub left_so : List ℕ → List ℕ → List ℕ → Left
 left_so a b text = record { internal = a; external = b; shown = text }
-
--- the call was interrupted, or ended
-abbrev pub IsOver : Option Status → Status → List Op → List Op → Type 0
-IsOver over answer all done = IsInterrupted over ⊎ ((over ≡ Some answer) × (done ≡ all))
 
 module _ (names : Vota) (x : Call) (c d : CabinetTold) (told : c.files ≡ Some x.files) (t : TablesData) (r : RollData) (es : List Event) (given : IsGiven (Some x.files) names t r es)
     (section : Section) (u last : State) (out : List Output) (run : IsRun (setting_of t r.titles) u es last out) (m b n : Told) (start : Flashes) (ops : List Op)
@@ -171,9 +153,9 @@ module _ (names : Vota) (x : Call) (c d : CabinetTold) (told : c.files ≡ Some 
       let is = syncs_leave_no_more start done (left_so a e (shown_by done)) stop (record { internal = internal; external = external; shown = refl }) in
       (is.internal, is.external, shown ∙ is.shown)
 
-  module _ (rest : List Op) (front : ops ≡ both_synced ++ rest) (how : IsInterrupted (Some answer) ⊎ (shown_by rest ≡ text_in pieces)) (done : List Op) (stop : IsStop rest done) (a e : List ℕ)
+  module _ (rest : List Op) (front : ops ≡ both_synced ++ rest) (how : IsInterrupted port_status (Some answer) ⊎ (shown_by rest ≡ text_in pieces)) (done : List Op) (stop : IsStop rest done) (a e : List ℕ)
       (internal : IsImage (after done (after both_synced start)).internal a) (external : IsImage (after done (after both_synced start)).external e)
-      (shown : x.shown ≡ shown_by done) (over : IsOver x.status answer rest done) where
+      (shown : x.shown ≡ shown_by done) (over : IsOver port_status x.status answer rest done) where
     abbrev left : Left
     left = left_so a e (shown_by done)
 
@@ -187,17 +169,17 @@ module _ (names : Vota) (x : Call) (c d : CabinetTold) (told : c.files ≡ Some 
         }) last out run done stop left (record { internal = internal; external = external; shown = refl })
 
     -- it was interrupted, or the whole text was shown
-    ended_so : IsInterrupted x.status ⊎ (shown_by done ≡ text_in pieces)
+    ended_so : IsInterrupted port_status x.status ⊎ (shown_by done ≡ text_in pieces)
     ended_so = elim over [
       | inl cut_off ↦ inl cut_off
       | inr (with, all) ↦ elim how [
-        | inl cut_off ↦ inl (subst IsInterrupted (sym with) cut_off)
+        | inl cut_off ↦ inl (subst (IsInterrupted port_status) (sym with) cut_off)
         | inr text ↦ inr (ap shown_by all ∙ text)
       ]
     ]
 
     -- as many as were told, or one more of an interrupted call
-    told_so : (k j : ℕ) → ((k ≡ j) ⊎ (k ≡ j + 1)) → (shown_by done ≡ text_in pieces → k ≢ j + 1) → IsToldOrOneMore x.status j k
+    told_so : (k j : ℕ) → ((k ≡ j) ⊎ (k ≡ j + 1)) → (shown_by done ≡ text_in pieces → k ≢ j + 1) → IsToldOrOneMore port_status x.status j k
     told_so k j (inl is) none = inl is
     told_so k j (inr more) none = elim ended_so [
       | inl cut_off ↦ inr (cut_off, more)
@@ -231,9 +213,9 @@ module _ (names : Vota) (x : Call) (c d : CabinetTold) (told : c.files ≡ Some 
             front = votes_kept.front ∙ ap (λ (l : List ℕ). l ++ votes_kept.rest) (sym shown);
             number = p.number;
             after = p.after;
-            told = subst (λ (l : List ℕ). IsToldOrOneMore x.status (commits_reached pieces (length l)) p.number) (sym shown)
+            told = subst (λ (l : List ℕ). IsToldOrOneMore port_status x.status (commits_reached pieces (length l)) p.number) (sym shown)
                 (told_so p.number (commits_reached pieces (length (shown_by done))) p.told no_more_told);
-            fims = subst (λ (l : List ℕ). IsToldOrOneMore x.status (fims_reached (lines_in pieces) (length l)) (length (ballots_of p.after.run))) (sym shown)
+            fims = subst (λ (l : List ℕ). IsToldOrOneMore port_status x.status (fims_reached (lines_in pieces) (length l)) (length (ballots_of p.after.run))) (sym shown)
                 (told_so (length (ballots_of p.after.run)) (fims_reached (lines_in pieces) (length (shown_by done))) p.shown no_more_shown);
           }
 
@@ -247,16 +229,12 @@ module _ (names : Vota) (x : Call) (c d : CabinetTold) (told : c.files ≡ Some 
       λ some. on (HeldAlone t (length r.titles) e) (votes_kept.external some),
     )
 
-  within_stop : (done : List Op) → IsWithinSyncs ops → IsStop ops done → IsStop both_synced done
-  within_stop done (inl nothing) stop = nothing_stop done (subst (λ (l : List Op). IsStop l done) nothing stop)
-  within_stop done (inr one) stop = first_stop done (subst (λ (l : List Op). IsStop l done) one stop)
-
   pub session_leaves : (done : List Op) → IsStop ops done → (a e : List ℕ) → IsImage (after done start).internal a → IsImage (after done start).external e → x.shown ≡ shown_by done
-      → IsOver x.status answer ops done → Stopped a e ⊎ Leaves a e
+      → IsOver port_status x.status answer ops done → Stopped a e ⊎ Leaves a e
   session_leaves done stop a e internal external shown over =
       go (reaches names x.files c d told t r es given section u last out run m b n start ops found traced answer ends tells)
     where
-      later : (rest done_rest : List Op) → ops ≡ both_synced ++ rest → IsInterrupted (Some answer) ⊎ (shown_by rest ≡ text_in pieces) → done ≡ both_synced ++ done_rest → IsStop rest done_rest
+      later : (rest done_rest : List Op) → ops ≡ both_synced ++ rest → IsInterrupted port_status (Some answer) ⊎ (shown_by rest ≡ text_in pieces) → done ≡ both_synced ++ done_rest → IsStop rest done_rest
           → Leaves a e
       later rest done_rest front how is stop_rest =
           late rest front how done_rest stop_rest a e
@@ -268,8 +246,8 @@ module _ (names : Vota) (x : Call) (c d : CabinetTold) (told : c.files ≡ Some 
             | inr end ↦ inr (end.0, append_cancel_left both_synced done_rest rest (sym is ∙ end.1 ∙ front))
           ])
 
-      go : IsWithinSyncs ops ⊎ ((rest : List Op) × (ops ≡ both_synced ++ rest) × (IsInterrupted (Some answer) ⊎ (shown_by rest ≡ text_in pieces))) → Stopped a e ⊎ Leaves a e
-      go (inl within) = inl (early done a e (within_stop done within stop) internal external shown)
+      go : IsWithinSyncs ops ⊎ ((rest : List Op) × (ops ≡ both_synced ++ rest) × (IsInterrupted port_status (Some answer) ⊎ (shown_by rest ≡ text_in pieces))) → Stopped a e ⊎ Leaves a e
+      go (inl within) = inl (early done a e (within_stop ops done within stop) internal external shown)
       go (inr (rest, front, how)) = elim (stop-append both_synced rest done (subst (λ (l : List Op). IsStop l done) front stop)) [
         | inl before_them ↦ inl (early done a e before_them internal external shown)
         | inr behind ↦ inr (later rest behind.0 front how behind.1 behind.2)

@@ -5,7 +5,7 @@ use Rattle.urna_outside.specs.declared.device.Port.{Port}
 use Rattle.state_store.specs.declared.store.LoadError.{LoadError}
 use Rattle.state_store.specs.declared.store.LoadError.TheVariants as load
 use Rattle.urna_commands.specs.declared.status.Status.TheVariants as status
-use Rattle.std.proofs.Common.{◌≡◌, ◌≢◌, ◌⊎◌, inl, inr, ℕ, Bool, true, false, cond, eqb-true, List, [], ◌∷◌, ◌++◌, Option, Some, length, refl, ◌∙◌, None}
+use Rattle.std.proofs.Common.{◌≡◌, ◌≢◌, ◌⊎◌, inl, inr, ℕ, List, [], ◌∷◌, ◌++◌, Option, Some, length, take, refl, ◌∙◌, None}
 use Rattle.urna_outside.specs.Cabinet.{CabinetTold}
 use Rattle.urna_outside.specs.Flash.{Flashes, Op, shown_by, flash_of}
 use Rattle.urna_outside.specs.Told.{Runs, Told, port_of}
@@ -20,9 +20,9 @@ use Rattle.turnout.specs.declared.phase.Phase.TheVariants as phase
 use Rattle.image_codec.specs.Encoding.{IsEncoding, phase_byte}
 use Rattle.image_codec.specs.State.{State}
 use Rattle.flash_store.specs.Syncs.{both_synced, IsUntouched}
-use Rattle.state_store.specs.Calls.{FailsToLoad, Loads}
-use Rattle.flash_store.specs.Held.{Hold, open_bodies, open_body}
-use Rattle.state_store.specs.Rest.{IsUsed, IsInUse}
+use Rattle.state_store.specs.Calls.{AreFound, FailsToLoad, Loads}
+use Rattle.state_store.specs.Load.{magic}
+use Rattle.state_store.specs.Rest.{IsBegun, IsInUse}
 use Rattle.contingency.specs.Calls.{FailsToReplace}
 use Rattle.contingency.proofs.Spare.{begins_so, encoded_byte}
 use Rattle.contingency.specs.declared.replacement.ReplaceError.{ReplaceError}
@@ -48,10 +48,11 @@ use Rattle.report_lines.specs.Verdicts.{verdict_line, verdict_lines}
 use Rattle.urna_commands.specs.Verdicts.{verdict_status}
 use Rattle.urna_commands.specs.Vota.{VotaEnds, cut, no_cabinet, no_memory, not_started, refused, session_held}
 use Rattle.urna_commands.specs.declared.status.Status.{Status}
-use Rattle.urna_commands.proofs.Idle.{Idles, cut_idles, emite_idles, idle_left, idle_stop, idles-append, shown_idles, synced_idles, told_idles, untouched_idles}
+use Rattle.command_parts.proofs.Idle.{Idles, cut_idles, idle_left, idle_stop, idles-append, shown_idles, synced_idles, told_idles, untouched_idles}
+use Rattle.command_parts.proofs.InUse.{alone_in_use, one_in_use}
+use Rattle.urna_commands.proofs.Idle.{emite_idles}
 use Rattle.urna_commands.proofs.NeverBusy.{carga_does}
 use Rattle.state_store.specs.Held.{poll}
-use Rattle.image_codec.specs.Layout.{body_size}
 
 -- ---- commands that have no flash
 
@@ -99,68 +100,23 @@ opened_byte phase.Ready opened = absurd (opened refl)
 opened_byte (phase.Polling at) opened = inl refl
 opened_byte (phase.Sealed at closed) opened = inr refl
 
-module _ (t : TablesData) (voters : ℕ) (s : State) where
-  -- one of them is the encoding of s
-  abbrev Some_is : List (List ℕ) → Type 0
-  Some_is [] = ⊥
-  Some_is (body ∷ bodies) = IsEncoding t voters s body ⊎ Some_is bodies
-
-  held_some : (bodies : List (List ℕ)) → Hold (poll t voters) bodies s → Some_is bodies
-  held_some [] holds = absurd holds
-  held_some (body ∷ bodies) (inl first) = inl first.0
-  held_some (body ∷ bodies) (inr behind) = inr (held_some bodies behind.1)
-
-  some_parts : (xs ys : List (List ℕ)) → Some_is (xs ++ ys) → Some_is xs ⊎ Some_is ys
-  some_parts [] ys is = inr is
-  some_parts (x ∷ xs) ys (inl first) = inl (inl first)
-  some_parts (x ∷ xs) ys (inr behind) = elim (some_parts xs ys behind) [ inl one ↦ inl (inr one) | inr other ↦ inr other ]
-
-  some_open : (is_open : Bool) (body : List ℕ) → Some_is (cond is_open (body ∷ []) []) → (is_open ≡ true) × IsEncoding t voters s body
-  some_open true body (inl is) = (refl, is)
-  some_open true body (inr none) = absurd none
-  some_open false body none = absurd none
-
-  used_slot : (index : ℕ) (image : List ℕ) → s.phase ≢ phase.Ready → Some_is (open_body body_size index image) → IsUsed index image
-  used_slot index image opened is =
-      let one = some_open _ _ is in
-      let byte = encoded_byte t voters s _ one.1 in
-      (eqb-true _ _ one.0, elim (opened_byte s.phase opened) [ inl first ↦ inl (byte ∙ first) | inr second ↦ inr (byte ∙ second) ])
-
-  used_one : (image : List ℕ) → s.phase ≢ phase.Ready → Some_is (open_bodies body_size image) → IsUsed 0 image ⊎ IsUsed 1 image
-  unfolding open_bodies
-  used_one image opened is = elim (some_parts (open_body body_size 0 image) (open_body body_size 1 image) is) [
-    | inl first ↦ inl (used_slot 0 image opened first)
-    | inr second ↦ inr (used_slot 1 image opened second)
-  ]
+begun_body : (t : TablesData) (voters : ℕ) (s : State) → s.phase ≢ phase.Ready → (body : List ℕ) → IsEncoding t voters s body → IsBegun body
+begun_body t voters s opened body is =
+    let byte = encoded_byte t voters s body is in elim (opened_byte s.phase opened) [ inl first ↦ inl (byte ∙ first) | inr second ↦ inr (byte ∙ second) ]
 
 -- so a flash that stands for such a poll is in use
 pub standing_is_in_use : StandingIsInUse
 standing_is_in_use t r section s d image is opened =
-    record {
-      begins = begins_so t r section d image is.frame;
-      used = used_one t (length r.titles) s image opened (held_some t (length r.titles) s (open_bodies body_size image) is.held);
-    }
+    alone_in_use (poll t (length r.titles)) s magic IsBegun (begun_body t (length r.titles) s opened) image (begins_so t r section d image is.frame) is.held
 
 -- and of two that hold it one is
 pub opened_is_in_use : OpenedIsInUse
 opened_is_in_use t r section s start found opened =
-    elim (some_parts t (length r.titles) s (open_bodies body_size start.internal.content) (open_bodies body_size start.external.content)
-    (held_some t (length r.titles) s (open_bodies body_size start.internal.content ++ open_bodies body_size start.external.content) found.held)) [
-      | inl internal ↦ (
-        dev.Internal,
-        record {
-          begins = begins_so t r section dev.Internal start.internal.content found.loaded.internal_frame;
-          used = used_one t (length r.titles) s start.internal.content opened internal;
-        },
-      )
-      | inr external ↦ (
-        dev.External,
-        record {
-          begins = begins_so t r section dev.External start.external.content found.loaded.external_frame;
-          used = used_one t (length r.titles) s start.external.content opened external;
-        },
-      )
-    ]
+    one_in_use (poll t (length r.titles)) s magic IsBegun (begun_body t (length r.titles) s opened) start (begins start found) found.held
+  where
+    begins : (start : Flashes) → AreFound t r section s start → (d : Dev) → take 8 (flash_of d start).content ≡ magic
+    begins start found dev.Internal = begins_so t r section dev.Internal start.internal.content found.loaded.internal_frame
+    begins start found dev.External = begins_so t r section dev.External start.external.content found.loaded.external_frame
 
 -- ---- carga, where one is in use
 

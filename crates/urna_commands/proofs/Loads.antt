@@ -3,7 +3,7 @@ use Rattle.urna_outside.proofs.Traced.{traced_is}
 use Rattle.urna_outside.proofs.Doing.{told_after}
 use Rattle.urna_outside.proofs.Stops.{stop-append, stop_whole, stops_none}
 use Rattle.std.specs.Option.{option_map}
-use Rattle.urna_commands.proofs.Idle.{idle_left, idle_stop, idle_trail, told_idles}
+use Rattle.command_parts.proofs.Idle.{idle_left, idle_stop, idle_trail, told_idles}
 use Rattle.urna_commands.specs.FaultLines.{fault_text}
 use Rattle.urna_outside.specs.Started.{clean_flashes}
 use Rattle.flash_store.proofs.Resting.{at_end, clean_image}
@@ -14,7 +14,8 @@ use Rattle.urna_commands.proofs.NeverBusy.{DoesLoad, carga_does, load_leaves_fre
 use Rattle.urna_outside.specs.declared.device.Dev.{Dev}
 use Rattle.urna_outside.specs.Stop.{AtEachStop, IsLeft, IsStop, Left, left_on}
 use Rattle.state_store.specs.Laws.{AreWhole}
-use Rattle.urna_commands.specs.Idle.{AreIdle}
+use Rattle.command_parts.specs.Idle.{AreIdle}
+use Rattle.command_parts.specs.Steps.{IsNext, cut, cut_behind, ended}
 use Rattle.flash_store.specs.Syncs.{both_synced}
 use Rattle.state_store.specs.Rest.{AreFree}
 use Rattle.state_store.specs.Calls.{Loads}
@@ -41,11 +42,11 @@ use Rattle.urna_commands.specs.Documents.{IsFirstFault}
 use Rattle.urna_commands.specs.Command.{Carga, ToLoad, command_of}
 use Rattle.urna_commands.specs.Ending.{CommandEnds, Ends}
 use Rattle.urna_commands.specs.Errors.{load_status}
-use Rattle.urna_commands.specs.Again.{AreReady, LoadMakesReady, Call, IsCall, IsNext, LoadMayFollow, cut_behind, cut, ended, StayFree}
+use Rattle.urna_commands.specs.Again.{AreReady, LoadMakesReady, Call, IsCall, LoadMayFollow, StayFree}
 use Rattle.command_parts.specs.declared.error.Doc.TheVariants as doc
 use Rattle.urna_commands.specs.declared.status.Status.{Status}
 use Rattle.urna_commands.specs.declared.status.Status.TheVariants as status
-use Rattle.urna_commands.proofs.Again.{clean_is_clean}
+use Rattle.command_parts.proofs.Steps.{clean_is_clean}
 use Rattle.urna_commands.proofs.Once.{refused_or_documents}
 use Rattle.urna_commands.proofs.Others.{documents_once}
 use Rattle.urna_commands.proofs.Endings.{ends_as}

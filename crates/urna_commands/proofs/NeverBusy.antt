@@ -13,6 +13,7 @@ use Rattle.urna_outside.proofs.Doing.{after-append, does-append}
 use Rattle.urna_outside.proofs.Stops.{stop-append, stop_whole}
 use Rattle.urna_outside.proofs.Traced.{traced_is}
 use Rattle.flash_store.specs.Syncs.{IsWithinSyncs, both_synced}
+use Rattle.flash_store.proofs.Syncing.{both_clean}
 use Rattle.state_store.specs.Rest.{AreFree, IsBusy}
 use Rattle.state_store.specs.Calls.{FailsToLoad, Loads}
 use Rattle.state_store.specs.Rest.{IsInUse}
@@ -30,8 +31,8 @@ use Rattle.urna_commands.specs.NeverBusy.{LoadIsNotBusy, LoadLeavesFree}
 use Rattle.command_parts.specs.declared.error.Doc.{Doc}
 use Rattle.urna_commands.specs.declared.status.Status.{Status}
 use Rattle.urna_commands.specs.declared.status.Status.TheVariants as status
-use Rattle.urna_commands.specs.Idle.{AreIdle}
-use Rattle.urna_commands.proofs.Idle.{Idles, cut_idles, idle-append, idle_left, idle_stop, idles-append, shown_idles, synced_both, synced_idles, told_idles, untouched_idles}
+use Rattle.command_parts.specs.Idle.{AreIdle}
+use Rattle.command_parts.proofs.Idle.{Idles, cut_idles, idle-append, idle_left, idle_stop, idles-append, shown_idles, synced_idles, told_idles, untouched_idles}
 use Rattle.urna_commands.proofs.Endings.{ends_as}
 
 -- ---- what carga does
@@ -118,7 +119,7 @@ module _ (start : Flashes) (free : AreFree start) where
 
   idle_free : (ops : List Op) → AreIdle ops → AtEachStop (after both_synced start) ops free_flashes
   idle_free ops idle done stop left is =
-      free_image (after both_synced start) (shown_by done) left (synced_both start) free_synced
+      free_image (after both_synced start) (shown_by done) left (both_clean start) free_synced
       (idle_left done (after both_synced start) (shown_by done) left (idle_stop ops done idle stop) is)
 
   loads_free : (m : Told) → m.flashes ≡ Some start → (rest tail : List Op) → Loads m rest → AreIdle tail → AtEachStop (after both_synced start) (rest ++ tail) free_flashes

@@ -49,7 +49,7 @@ use Rattle.command_parts.specs.Documents.{HasDocuments}
 use Rattle.urna_commands.specs.Documents.{IsFirstFault}
 use Rattle.urna_commands.specs.Emite.{EmiteEnds, HasPeeked, emit_no_cabinet, emit_no_memory, emit_refused, emitted, files_stopped, no_files, not_emitted, not_found, not_sealed}
 use Rattle.urna_commands.specs.Errors.{port_status, replace_status, store_status}
-use Rattle.urna_commands.specs.Idle.{AreIdle}
+use Rattle.command_parts.specs.Idle.{AreIdle}
 use Rattle.urna_commands.specs.Replaced.{EndsForeign, ReplacedIsForeign, ReplacedIsLoaded}
 use Rattle.urna_commands.specs.Repoe.{HasReplaced, RepoeEnds, not_replaced, replace_no_cabinet, replace_no_memory, replace_refused, replaced, replaced_line, replaced_untold}
 use Rattle.urna_commands.specs.Vota.{IsGiven, IsRefused, VotaEnds}
@@ -57,7 +57,7 @@ use Rattle.command_parts.specs.declared.error.Doc.TheVariants as doc
 use Rattle.urna_commands.specs.declared.status.Status.{Status}
 use Rattle.urna_commands.specs.declared.status.Status.TheVariants as status
 use Rattle.urna_commands.proofs.Headline.{given_once}
-use Rattle.urna_commands.proofs.Idle.{Idles, cut_idles, front_idles, idle-append, idles-append, shown_idles, synced_idles, untouched_idles}
+use Rattle.command_parts.proofs.Idle.{Idles, cut_idles, front_idles, idle-append, idles-append, shown_idles, synced_idles, untouched_idles}
 use Rattle.urna_commands.proofs.Leaving.{standing_is_in_use}
 use Rattle.urna_commands.proofs.Once.{refused_or_documents, refused_or_given}
 use Rattle.urna_commands.proofs.Others.{documents_once, same_hashes, unloaded_answer, unloaded_front}

@@ -2,7 +2,7 @@
 use Rattle.std.specs.Prelude.{ℕ, ◌≡◌, ◌≢◌, ◌⊎◌, List, [], ◌∷◌, Option, Some, None}
 use Rattle.std.specs.List.{AllByRecursion}
 use Rattle.urna_outside.specs.Cabinet.{CabinetTold, Files}
-use Rattle.urna_outside.specs.Flash.{Flashes, Op, Put, Show, Sync, after, flash_of, shown_by}
+use Rattle.urna_outside.specs.Flash.{Flashes, Op, after, flash_of, shown_by}
 use Rattle.urna_outside.specs.Stop.{IsLeft, IsStop, Left}
 use Rattle.urna_outside.specs.Told.{Runs, Told, port_of}
 use Rattle.urna_outside.specs.declared.device.Dev.{Dev}
@@ -13,6 +13,7 @@ use Rattle.key_script.specs.declared.keys.Event.{Event}
 use Rattle.turnout.specs.declared.phase.Phase.TheVariants as phase
 use Rattle.image_codec.specs.State.{State}
 use Rattle.flash_store.specs.Syncs.{IsUntouched, IsFrontOfSyncs}
+use Rattle.command_parts.specs.Idle.{AreIdle}
 use Rattle.state_store.specs.Calls.{AreFound}
 use Rattle.state_store.specs.Rest.{IsInUse}
 use Rattle.urna_commands.specs.Carga.{CargaEnds}
@@ -24,16 +25,6 @@ use Rattle.urna_commands.specs.declared.status.Status.{Status}
 use Rattle.urna_commands.specs.declared.status.Status.TheVariants as status
 
 -- ---- what is done
-
--- an operation that puts nothing on a flash
-abbrev pub PutsNothing : Op → Type 0
-PutsNothing (Put d at bytes) = ⊥
-PutsNothing (Sync d) = Unit {0}
-PutsNothing (Show bytes) = Unit {0}
-
--- syncs and shows alone
-abbrev pub AreIdle : List Op → Type 0
-AreIdle ops = AllByRecursion PutsNothing ops
 
 -- Where the power stops a call that does nothing but sync and show, what it leaves it might have left before the call.
 abbrev pub IdleLeavesNoMore : Type 0
