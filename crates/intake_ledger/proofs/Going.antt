@@ -27,7 +27,7 @@ module _ (t : TablesData) (m : LedgerData) (of : List LedgerData) (start : Flash
   framed_left Internal = frame_kept body_size (header t Internal) start.internal.content left.internal (omega (arith, whole Internal)) (keeps Internal) (framed Internal)
   framed_left External = frame_kept body_size (header t External) start.external.content left.external (omega (arith, whole External)) (keeps External) (framed External)
 
-  again : IsLedgerAgain t of left
+  pub again : IsLedgerAgain t of left
   again = record { whole = whole_left; ledger = m; one = one; found = record { framed = framed_left; held = held } }
 
 pub opening_goes_on : OpeningGoesOn

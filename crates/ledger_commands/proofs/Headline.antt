@@ -1,5 +1,5 @@
 -- However a call of recebe or totais ends, what a power cut leaves keeps the ledger and its offers
-use Rattle.std.proofs.Common.{◌≡◌, ◌≢◌, ◌⊎◌, inl, inr, ℕ, zero, suc, ◌+◌, ◌-◌, ◌≤◌, List, [], ◌∷◌, ◌++◌, Option, Some, None, option_map, option_to_list, length, take, drop, refl, sym, ap, subst, ◌∙◌, arith, append_assoc, append-nil}
+use Rattle.std.proofs.Common.{◌≡◌, ◌≢◌, ◌⊎◌, inl, inr, ℕ, zero, suc, ◌+◌, ◌≤◌, List, [], ◌∷◌, ◌++◌, Option, Some, None, option_map, option_to_list, length, take, drop, refl, sym, ap, subst, ◌∙◌, arith, append_assoc, append-nil}
 use Rattle.std.proofs.lemmas.Bool.{cases_lt}
 use Rattle.std.proofs.lemmas.List.{length-append, length-map, length-take-le, take-append-drop, take-append-le, take_all}
 use Rattle.std.specs.List.{concat}
@@ -28,11 +28,11 @@ use Rattle.flash_store.specs.Held.{HeldAlone, HeldByBoth, HoldEither, IsEither, 
 use Rattle.flash_store.specs.Pieces.{AreFull, Piece, lines_in, lines_reached, quiet, state_after, text_in}
 use Rattle.flash_store.specs.Played.{Follows, HasPut, HasStopped, Plays, shows_in}
 use Rattle.flash_store.specs.Syncs.{FromSyncs, IsUntouched, both_synced}
-use Rattle.flash_store.proofs.Counting.{few_reached, state_of-quiet, text_in-append, text_in-quiet}
+use Rattle.flash_store.proofs.Counting.{few_reached, lines_behind, state_of-quiet, text_in-append, text_in-quiet}
 use Rattle.flash_store.proofs.Holding.{hold_or_none}
 use Rattle.flash_store.proofs.Playing.{follows_quiet, put-append, put_nothing, put_plays, put_shown, stopped_after, stopped_plays, stopped_shown}
 use Rattle.flash_store.proofs.Resting.{clean_image, frames_at_end, frames_same, frames_trans}
-use Rattle.flash_store.proofs.ShowStops.{shows_in_silent}
+use Rattle.flash_store.proofs.ShowStops.{shows_in_silent, text_of_lines}
 use Rattle.flash_store.proofs.Syncing.{behind_is, both_clean, frames_before, not_done, not_within}
 use Rattle.intake_ledger.specs.Calls.{FailsToOpen, Opens}
 use Rattle.intake_ledger.specs.Kept.{AreFound, kept_ledger, ledgers}
@@ -49,7 +49,7 @@ use Rattle.command_parts.proofs.Once.{same_names, same_tables}
 use Rattle.ledger_commands.specs.Command.{Command, Recebe}
 use Rattle.ledger_commands.specs.Ending.{CommandEnds}
 use Rattle.ledger_commands.specs.Errors.{fault_text, ledger_status, port_status}
-use Rattle.ledger_commands.specs.Headline.{HoldsOffers, IsAfterOffers, KeepOffers, KeepsOffers, LedgerIsKept, OffersAreKept, fault_told, verdicts_begun}
+use Rattle.ledger_commands.specs.Headline.{HoldsOffers, IsAfterOffers, KeepOffers, KeepsOffers, LedgerIsKept, OffersAreKept, TakesIn, fault_told, verdicts_begun}
 use Rattle.ledger_commands.specs.Lines.{ledger_lines}
 use Rattle.ledger_commands.specs.Opening.{IsOpened, opening}
 use Rattle.ledger_commands.specs.Recebe.{AreTakenIn, HasReceived, HasReceivedTo, RecebeEnds, cut, list_no_cabinet, list_no_memory, list_refused, not_opened, received, refused_status, report_no_cabinet, report_no_memory, report_refused}
@@ -129,24 +129,25 @@ module _ (files : Option Files) (t : TablesData) (l last : LedgerData) (listed l
         number_is = length-take-le j verdicts few;
       }
 
-  held_at : (number j : ℕ) (held : LedgerData → Type 0) → j ≤ length verdicts → (j ≡ number) ⊎ (j ≡ number + 1) → held (state_after l (take j pieces)) → HoldsOffers files t l listed number held
-  held_at number j held few told is =
-      record { ledger = state_after l (take j pieces); is = is; reached = j; after = after_first j few; told = told }
+  held_at : (n j : ℕ) (held : LedgerData → Type 0) → j ≤ length verdicts → (j ≡ verdicts_begun l pieces n) ⊎ (j ≡ verdicts_begun l pieces n + 1) → held (state_after l (take j pieces))
+      → HoldsOffers files t l listed pieces n held
+  held_at n j held few told is =
+      record { ledger = state_after l (take j pieces); is = is; reached = j; after = after_first j few; few = omega (arith, few, lines_many); told = told }
 
-  -- behind the opening line and so many lines in all
-  holds_offers : (k : ℕ) (held : LedgerData → Type 0) → k ≤ 1 + length verdicts
-      → IsEither (state_after l (take k (opening l ++ pieces))) (state_after l (take (k + 1) (opening l ++ pieces))) held → HoldsOffers files t l listed (k - 1) held
-  holds_offers zero held few (inl is) = held_at (0 - 1) 0 held (omega arith) (inl (omega arith)) is
-  holds_offers zero held few (inr is) = held_at (0 - 1) 0 held (omega arith) (inl (omega arith)) is
-  holds_offers (suc j) held few (inl is) = held_at (suc j - 1) j held (omega (arith, few)) (inl (omega arith)) is
-  holds_offers (suc j) held few (inr is) =
+  -- behind the opening line and the lines that are begun by so many bytes
+  holds_offers : (n k : ℕ) (held : LedgerData → Type 0) → k ≡ lines_reached (lines_in (opening l ++ pieces)) n → k ≤ 1 + length verdicts
+      → IsEither (state_after l (take k (opening l ++ pieces))) (state_after l (take (k + 1) (opening l ++ pieces))) held → HoldsOffers files t l listed pieces n held
+  holds_offers n zero held begun few (inl is) = held_at n 0 held (omega arith) (inl (omega (arith, begun))) is
+  holds_offers n zero held begun few (inr is) = held_at n 0 held (omega arith) (inl (omega (arith, begun))) is
+  holds_offers n (suc j) held begun few (inl is) = held_at n j held (omega (arith, few)) (inl (omega (arith, begun))) is
+  holds_offers n (suc j) held begun few (inr is) =
       let number : suc j + 1 ≡ suc (suc j) = omega arith in
       let next : held (state_after l (take (suc j) pieces)) = subst (λ (i : ℕ). held (state_after l (take i (opening l ++ pieces)))) number is in
       elim (cases_lt j (length verdicts)) [
-        | inl more ↦ held_at (suc j - 1) (suc j) held (omega (arith, more)) (inr (omega arith)) next
+        | inl more ↦ held_at n (suc j) held (omega (arith, more)) (inr (omega (arith, begun))) next
         | inr all ↦
             let whole : take (suc j) pieces ≡ take j pieces = take_all (suc j) pieces (omega (arith, all, lines_many)) ∙ sym (take_all j pieces (omega (arith, all, lines_many))) in
-            held_at (suc j - 1) j held (omega (arith, few)) (inl (omega arith)) (subst (λ (x : List (Piece LedgerData)). held (state_after l x)) whole next)
+            held_at n j held (omega (arith, few)) (inl (omega (arith, begun))) (subst (λ (x : List (Piece LedgerData)). held (state_after l x)) whole next)
       ]
 
   full_all : AreFull (opening l ++ pieces)
@@ -186,6 +187,12 @@ module _ (t : TablesData) (tables : IsTables t) (l : LedgerData) (all : List (Pi
   stopped_behind port.Internal stopped same = stopped_silent port.Internal stopped same
   stopped_behind port.External stopped same = stopped_silent port.External stopped same
   stopped_behind port.Display stopped same = stopped_silent port.Display stopped same
+
+-- telling a fault does something
+pub tells_does : (text : Option (List ℕ)) (b n : Told) → Tells text b n → (ops : List Op) × Does ops b n
+tells_does None b n same = ([], subst (Does [] b) (sym same) (does_nothing b))
+tells_does (Some text) b n (inl shown) = (_, shown.does)
+tells_does (Some text) b n (inr off) = (off.ops, off.does)
 
 -- ---- a call behind its two syncs
 
@@ -267,8 +274,9 @@ module _ (files : Option Files) (t : TablesData) (l : LedgerData) (listed : List
       record {
         rest = text_in (opening l ++ pieces) ++ fault_told answer;
         front = ap (λ (s : List ℕ). s ++ (text_in (opening l ++ pieces) ++ fault_told answer)) (sym none);
-        both = subst (λ (s : List ℕ). HoldsOffers files t l listed (verdicts_begun l pieces (length s)) (HeldByBoth (ledgers t) x.internal x.external)) (sym none)
-            (holds_offers files t l last listed left verdicts pieces are 0 (HeldByBoth (ledgers t) x.internal x.external) (omega arith) (inl holds.0));
+        before = λ nothing. holds.0;
+        both = subst (λ (s : List ℕ). HoldsOffers files t l listed pieces (length s) (HeldByBoth (ledgers t) x.internal x.external)) (sym none)
+            (holds_offers files t l last listed left verdicts pieces are 0 0 (HeldByBoth (ledgers t) x.internal x.external) refl (omega arith) (inl holds.0));
         frames = holds.1;
       }
 
@@ -296,10 +304,19 @@ module _ (files : Option Files) (t : TablesData) (l : LedgerData) (listed : List
     holds_now : (x : Left) → Follows (ledgers t) l (all ++ quiet lines) x → HoldEither (ledgers t) (state_after l (take (begun_of x) all)) (state_after l (take (begun_of x + 1) all)) x
     holds_now x follows = follows_quiet (kept_ledger t) l all lines x follows
 
+    -- the state after the lines that so many bytes begin, or after one more
+    abbrev Either_at : ℕ → (LedgerData → Type 0) → Type 0
+    Either_at n held = IsEither (state_after l (take (lines_reached (lines_in all) n) all)) (state_after l (take (lines_reached (lines_in all) n + 1) all)) held
+
+    -- the opening line tells no ledger
+    first_held : (held : LedgerData → Type 0) → Either_at 0 held → held l
+    first_held held (inl is) = is
+    first_held held (inr is) = is
+
     so : (x : Left) (held : LedgerData → Type 0) → IsEither (state_after l (take (begun_of x) all)) (state_after l (take (begun_of x + 1) all)) held
-        → HoldsOffers files t l listed (verdicts_begun l pieces (length x.shown)) held
+        → HoldsOffers files t l listed pieces (length x.shown) held
     so x held either =
-        holds_offers files t l last listed left verdicts pieces are (begun_of x) held (lines_few files t l last listed left verdicts pieces are (length x.shown)) either
+        holds_offers files t l last listed left verdicts pieces are (length x.shown) (begun_of x) held refl (lines_few files t l last listed left verdicts pieces are (length x.shown)) either
 
     once_shown : (x : Left) → Follows (ledgers t) l (all ++ quiet lines) x × KeepFrames body_size start x → KeepsOffers files t l listed pieces answer start x
     once_shown x holds =
@@ -307,6 +324,7 @@ module _ (files : Option Files) (t : TablesData) (l : LedgerData) (listed : List
           rest = holds.0.rest;
           front = ap (λ (y : List ℕ). text_in all ++ y) (sym fault) ∙ ap (λ (y : List ℕ). text_in all ++ y) (sym (text_in-quiet LedgerData lines))
               ∙ sym (text_in-append all (quiet lines)) ∙ holds.0.front;
+          before = λ nothing. first_held (HeldByBoth (ledgers t) x.internal x.external) (subst (λ (y : List ℕ). Either_at (length y) (HeldByBoth (ledgers t) x.internal x.external)) nothing (holds_now x holds.0).both);
           both = so x (HeldByBoth (ledgers t) x.internal x.external) (holds_now x holds.0).both;
           frames = holds.1;
         }
@@ -371,9 +389,27 @@ module _ (t : TablesData) (tables : IsTables t) (l : LedgerData) (start : Flashe
 
   module _ (files : Option Files) (listed : List (List ℕ)) where
     abbrev AreKept : LedgerStatus → LedgerData → Type 0
-    AreKept answer k =
-        (left : List (List ℕ)) × (verdicts : List Verdict) × (pieces : List (Piece LedgerData)) × (last : LedgerData)
-        × AreTakenIn files t k listed left verdicts pieces last × KeepOffers files t k listed pieces answer start ops
+    AreKept answer k = TakesIn files t k listed answer start ops
+
+    -- where all was put out, each verdict was told
+    all_told : (a : Told) (k : LedgerData) (pieces : List (Piece LedgerData)) → IsOpened t k m a → HasPut (kept_ledger t) k (opening k ++ pieces) a b → AreFull (opening k ++ pieces)
+        → (text : Option (List ℕ)) → Tells text b n → verdicts_begun k pieces (length (shown_by ops)) ≡ length pieces
+    all_told a k pieces opened put full text tells =
+        let all = opening k ++ pieces in
+        let heal = opened.ran.2.0 in
+        let fault = tells_does text b n tells in
+        let later = put.ops ++ fault.0 in
+        let row : heal ++ later ≡ ops =
+        behind_is m n start ops traced (opened.ran.0 ++ later) (heal ++ later)
+        (does-append opened.ran.0 later m a n opened.ran.1 (does-append put.ops fault.0 a b n put.does fault.1))
+        (ap (λ (x : List Op). x ++ later) opened.ran.2.1 ∙ append_assoc both_synced heal later) in
+        let silent : shown_by heal ≡ [] = (silent_in _ heal opened.ran.2.2.slots.within heal (stop_whole heal)).1 in
+        let shown : shown_by ops ≡ text_in all ++ shown_by fault.0 =
+        ap shown_by (sym row) ∙ shown_by-append heal later ∙ ap (λ (x : List ℕ). x ++ shown_by later) silent ∙ shown_by-append put.ops fault.0
+        ∙ ap (λ (x : List ℕ). x ++ shown_by fault.0) (text_of_lines put.ops (lines_in all) put.shown) in
+        let begun = ap (λ (x : List ℕ). lines_reached (lines_in all) (length x)) shown in
+        let nothing_more = ap (λ (x : List (Piece LedgerData)). lines_reached (lines_in x) (length (text_in all ++ shown_by fault.0))) (sym (append-nil all)) in
+        omega (arith, begun, nothing_more, lines_behind all [] (shown_by fault.0) full)
 
     found_first : (k : LedgerData) (a : Told) → IsOpened t k m a → k ≡ l
     found_first k a opened = one_ledger k (opened.ran.2.2.stops start traced.flashes).0
@@ -384,14 +420,16 @@ module _ (t : TablesData) (tables : IsTables t) (l : LedgerData) (start : Flashe
         let lines = option_to_list (option_map fault_line (fault_text answer)) in
         let full = full_all files t h.first h.last listed left verdicts h.pieces h.are in
         let played = told_behind t tables h.first all full h.between b n (fault_text answer) h.put tells in
-        subst (AreKept answer) (found_first h.first h.between h.opened) (
-          left,
-          verdicts,
-          h.pieces,
-          h.last,
-          h.are,
-          keeps files t h.first listed answer start left verdicts h.pieces h.last h.are lines refl ops (split t h.first m n start ops traced h.between (all ++ quiet lines) h.opened played),
-        )
+        subst (AreKept answer) (found_first h.first h.between h.opened)
+        (record {
+          unread = left;
+          verdicts = verdicts;
+          pieces = h.pieces;
+          last = h.last;
+          are = h.are;
+          told = λ none. all_told h.between h.first h.pieces h.opened h.put full (fault_text answer) tells;
+          kept = keeps files t h.first listed answer start left verdicts h.pieces h.last h.are lines refl ops (split t h.first m n start ops traced h.between (all ++ quiet lines) h.opened played);
+        })
 
     stopped_kept : (p : Port) (left : List (List ℕ)) (verdicts : List Verdict) → HasReceivedTo files t listed left verdicts p m b → Tells (fault_text (port_status p)) b n → AreKept (port_status p) l
     stopped_kept p left verdicts h tells =
@@ -399,24 +437,28 @@ module _ (t : TablesData) (tables : IsTables t) (l : LedgerData) (start : Flashe
         let lines = option_to_list (option_map fault_line (fault_text (port_status p))) in
         let full = full_all files t h.first h.last listed left verdicts h.pieces h.are in
         let played = stopped_behind t tables h.first all full h.between b n p h.stopped tells in
-        subst (AreKept (port_status p)) (found_first h.first h.between h.opened) (
-          left,
-          verdicts,
-          h.pieces,
-          h.last,
-          h.are,
-          keeps files t h.first listed (port_status p) start left verdicts h.pieces h.last h.are lines refl ops (split t h.first m n start ops traced h.between (all ++ quiet lines) h.opened played),
-        )
+        subst (AreKept (port_status p)) (found_first h.first h.between h.opened)
+        (record {
+          unread = left;
+          verdicts = verdicts;
+          pieces = h.pieces;
+          last = h.last;
+          are = h.are;
+          told = λ none. absurd (none p refl);
+          kept = keeps files t h.first listed (port_status p) start left verdicts h.pieces h.last h.are lines refl ops (split t h.first m n start ops traced h.between (all ++ quiet lines) h.opened played);
+        })
 
     unopened_kept : (e : LedgerError) → FailsToOpen t m b e → Tells (fault_text (ledger_status e)) b n → AreKept (ledger_status e) l
-    unopened_kept e fails tells = (
-      listed,
-      [],
-      [],
-      l,
-      none_taken files t l listed (ledger_status e) start,
-      not_opened_kept (λ xs. KeepOffers files t l listed [] (ledger_status e) start xs) (only_opened files t l listed (ledger_status e) start) e fails tells,
-    )
+    unopened_kept e fails tells =
+        record {
+          unread = listed;
+          verdicts = [];
+          pieces = [];
+          last = l;
+          are = none_taken files t l listed (ledger_status e) start;
+          told = λ none. let few = few_reached (lines_in (opening l ++ [])) (length (shown_by ops)) in omega (arith, few);
+          kept = not_opened_kept (λ xs. KeepOffers files t l listed [] (ledger_status e) start xs) (only_opened files t l listed (ledger_status e) start) e fails tells;
+        }
 
   -- ---- totais
 

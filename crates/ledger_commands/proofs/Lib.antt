@@ -1,7 +1,11 @@
-mod Statuses
+mod Again
+mod Agreeing
+mod Completion
+mod Headline
+mod Idle
 mod Opened
 mod Received
 mod Receiving
+mod Refused
+mod Statuses
 mod Sums
-mod Headline
-mod Completion

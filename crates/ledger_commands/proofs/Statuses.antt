@@ -1,6 +1,5 @@
 -- The statuses of the ledger's program, and the errors of both programs
-use Rattle.std.proofs.Common.{◌≡◌, ◌≢◌, ℕ, zero, suc, List, Option, None, Result, Ok, Err, refl, sym, ap, subst, ◌∙◌}
-use Rattle.std.proofs.lemmas.Option.{same_Some}
+use Rattle.std.proofs.Common.{◌≡◌, ◌≢◌, ℕ, zero, suc, List, Option, None, Result, Ok, Err, refl, sym, subst}
 use Rattle.std.specs.Prelude.{IfErr}
 use Rattle.std.specs.Result.{IsErrAnd}
 use Rattle.urna_outside.specs.Cabinet.{CabinetTold, Files, Tally}
@@ -9,7 +8,6 @@ use Rattle.urna_outside.specs.Told.{Told}
 use Rattle.urna_outside.specs.declared.device.Dev.TheVariants as dev
 use Rattle.urna_outside.specs.declared.device.Port.{Port}
 use Rattle.urna_outside.specs.declared.device.Port.TheVariants as port
-use Rattle.flash_store.specs.Syncs.{IsUntouched}
 use Rattle.command_parts.specs.Documents.{IsBad, IsFault, IsFirstFault, bad, count, first_other, first_tables, lacks, line, longer, name_line, no_document, record_line, roll_line, rule}
 use Rattle.command_parts.specs.Taking.{CountsFor, HasTaken as HasTakenOf}
 use Rattle.command_parts.specs.declared.error.CommandError.{CommandError}
@@ -19,10 +17,8 @@ use Rattle.command_parts.specs.declared.error.Doc.TheVariants as both
 use Rattle.intake_ledger.specs.declared.ledger.LedgerError.{LedgerError}
 use Rattle.intake_ledger.specs.declared.ledger.LedgerError.TheVariants as ledger
 use Rattle.ledger_commands.specs.Documents.{HasTaken, status_in}
-use Rattle.ledger_commands.specs.Errors.{IsOfLedger, IsOfLedgerDoc, doc_of, error_of, ledger_status, port_status}
+use Rattle.ledger_commands.specs.Errors.{IsOfLedger, IsOfLedgerDoc, error_of, ledger_status, port_status}
 use Rattle.ledger_commands.specs.Recebe.{refused_status}
-use Rattle.ledger_commands.specs.declared.status.LedgerDoc.{LedgerDoc}
-use Rattle.ledger_commands.specs.declared.status.LedgerDoc.TheVariants as doc
 use Rattle.ledger_commands.specs.declared.status.LedgerStatus.{LedgerStatus}
 use Rattle.ledger_commands.specs.declared.status.LedgerStatus.TheVariants as status
 

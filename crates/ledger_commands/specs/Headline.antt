@@ -1,5 +1,5 @@
 -- The headline: whatever moment the power goes in a call, each report whose line began to be shown is in the ledger, and at most one more
-use Rattle.std.specs.Prelude.{◌≡◌, ◌≢◌, ◌⊎◌, ℕ, ◌+◌, ◌-◌, List, [], ◌++◌, Option, Some, length, option_map}
+use Rattle.std.specs.Prelude.{◌≡◌, ◌≢◌, ◌⊎◌, ℕ, ◌+◌, ◌-◌, ◌≤◌, List, [], ◌++◌, Option, Some, length, option_map}
 use Rattle.std.specs.List.{concat}
 use Rattle.std.specs.Option.{option_to_list}
 use Rattle.urna_outside.specs.Cabinet.{CabinetTold, Files}
@@ -7,6 +7,7 @@ use Rattle.urna_outside.specs.Flash.{Flashes, Op, after, shown_by}
 use Rattle.urna_outside.specs.Stop.{AtEachStop, IsLeft, IsStop, Left}
 use Rattle.urna_outside.specs.Told.{Told}
 use Rattle.urna_outside.specs.Traced.{IsTraced}
+use Rattle.urna_outside.specs.declared.device.Port.{Port}
 use Rattle.election_tables.specs.TablesData.{TablesData}
 use Rattle.section_intake.specs.declared.verdict.Verdict.{Verdict}
 use Rattle.flash_store.specs.Held.{HeldAlone, HeldByBoth, KeepFrames}
@@ -20,7 +21,7 @@ use Rattle.command_parts.specs.Documents.{HasTables, IsListed}
 use Rattle.command_parts.specs.FaultLines.{fault_line}
 use Rattle.ledger_commands.specs.Command.{Recebe, ToReceive, ToTotal, command_of}
 use Rattle.ledger_commands.specs.Ending.{Ends}
-use Rattle.ledger_commands.specs.Errors.{fault_text}
+use Rattle.ledger_commands.specs.Errors.{fault_text, port_status}
 use Rattle.ledger_commands.specs.Opening.{opening}
 use Rattle.ledger_commands.specs.Recebe.{AreTakenIn}
 use Rattle.ledger_commands.specs.declared.status.LedgerStatus.{LedgerStatus}
@@ -35,29 +36,34 @@ pub record IsAfterOffers (files : Option Files) (t : TablesData) (l : LedgerData
   pub are : AreTakenIn files t l listed left verdicts pieces last
   pub number_is : length verdicts ≡ number
 
--- What is held is the ledger behind so many of the listed reports, from l on, or behind one more.
-pub record HoldsOffers (files : Option Files) (t : TablesData) (l : LedgerData) (listed : List (List ℕ)) (number : ℕ) (held : LedgerData → Type 0) : Type 0 where
+-- how many verdicts the first n bytes of a call's text begin to tell, behind its opening line
+abbrev pub verdicts_begun : LedgerData → List (Piece LedgerData) → ℕ → ℕ
+verdicts_begun l pieces n = lines_reached (lines_in (opening l ++ pieces)) n - 1
+
+-- What is held is the ledger behind the first of the listed reports, from l on: as many as verdicts are begun by the first n bytes of a call
+-- that puts out these pieces, or one more of its reports.
+pub record HoldsOffers (files : Option Files) (t : TablesData) (l : LedgerData) (listed : List (List ℕ)) (pieces : List (Piece LedgerData)) (n : ℕ) (held : LedgerData → Type 0)
+    : Type 0 where
   pub ledger : LedgerData
   pub is : held ledger
   pub reached : ℕ
   pub after : IsAfterOffers files t l listed reached ledger
-  pub told : (reached ≡ number) ⊎ (reached ≡ number + 1)
-
--- how many verdicts the first n bytes of a call's text begin to tell, behind its opening line
-abbrev pub verdicts_begun : LedgerData → List (Piece LedgerData) → ℕ → ℕ
-verdicts_begun l pieces n = lines_reached (lines_in (opening l ++ pieces)) n - 1
+  pub few : reached ≤ length pieces
+  pub told : (reached ≡ verdicts_begun l pieces n) ⊎ (reached ≡ verdicts_begun l pieces n + 1)
 
 -- the line that tells a fault, where the status has one
 abbrev pub fault_told : LedgerStatus → List ℕ
 fault_told s = concat (option_to_list (option_map fault_line (fault_text s)))
 
 -- What a power cut left of a call that found the ledger l, put out these pieces and ended so. The display shows a front of its text. Both
--- flashes together hold the ledger behind the reports whose lines the display began to show, or behind one more. The frames stay.
+-- flashes together hold l where it shows nothing, and else the ledger behind the reports whose lines the display began to show, or behind one
+-- more. The frames stay.
 pub record KeepsOffers (files : Option Files) (t : TablesData) (l : LedgerData) (listed : List (List ℕ)) (pieces : List (Piece LedgerData)) (answer : LedgerStatus)
     (start : Flashes) (left : Left) : Type 0 where
   pub rest : List ℕ
   pub front : text_in (opening l ++ pieces) ++ fault_told answer ≡ left.shown ++ rest
-  pub both : HoldsOffers files t l listed (verdicts_begun l pieces (length left.shown)) (HeldByBoth (ledgers t) left.internal left.external)
+  pub before : left.shown ≡ [] → HeldByBoth (ledgers t) left.internal left.external l
+  pub both : HoldsOffers files t l listed pieces (length left.shown) (HeldByBoth (ledgers t) left.internal left.external)
   pub frames : KeepFrames body_size start left
 
 -- So it is at each stop of these operations; and from the first show on, also where nothing of its text went out, each flash alone holds so.
@@ -65,8 +71,8 @@ pub record KeepOffers (files : Option Files) (t : TablesData) (l : LedgerData) (
     (start : Flashes) (ops : List Op) : Type 0 where
   pub both : AtEachStop (after both_synced start) ops (KeepsOffers files t l listed pieces answer start)
   pub alone : (done : List Op) → IsStop ops done → shows_in done ≢ [] → (left : Left) → IsLeft (after done (after both_synced start)) (shown_by done) left
-      → HoldsOffers files t l listed (verdicts_begun l pieces (length left.shown)) (HeldAlone (ledgers t) left.internal)
-      × HoldsOffers files t l listed (verdicts_begun l pieces (length left.shown)) (HeldAlone (ledgers t) left.external)
+      → HoldsOffers files t l listed pieces (length left.shown) (HeldAlone (ledgers t) left.internal)
+      × HoldsOffers files t l listed pieces (length left.shown) (HeldAlone (ledgers t) left.external)
 
 -- ---- calls, where machine and cabinet tell
 
@@ -80,14 +86,23 @@ pub record RecebeTraced (words : List (List ℕ)) (names : Recebe) (c d : Cabine
   pub given : IsListed (Some files) names.tables names.list t listed
   pub traced : IsTraced m n start (both_synced ++ ops)
 
--- However a call of recebe ends over flashes that hold the ledger l, some of the listed reports were taken in and put out, and whatever a
--- power cut leaves at any stop behind the two opening syncs keeps the offers.
+-- The first of the listed reports were taken in over the ledger l and put out; where no port failed, each of them was told. At each stop
+-- behind the two opening syncs the offers are kept.
+pub record TakesIn (files : Option Files) (t : TablesData) (l : LedgerData) (listed : List (List ℕ)) (answer : LedgerStatus) (start : Flashes) (ops : List Op) : Type 0 where
+  pub unread : List (List ℕ)
+  pub verdicts : List Verdict
+  pub pieces : List (Piece LedgerData)
+  pub last : LedgerData
+  pub are : AreTakenIn files t l listed unread verdicts pieces last
+  pub told : ((p : Port) → answer ≢ port_status p) → verdicts_begun l pieces (length (shown_by ops)) ≡ length pieces
+  pub kept : KeepOffers files t l listed pieces answer start ops
+
+-- However a call of recebe ends over flashes that hold the ledger l, it takes reports in, and keeps them wherever the power goes.
 abbrev pub OffersAreKept : Type 0
 OffersAreKept =
     (words : List (List ℕ)) (names : Recebe) (c d : CabinetTold) (m n : Told) (answer : LedgerStatus) (files : Files) (t : TablesData) (listed : List (List ℕ)) (l : LedgerData)
     (start : Flashes) (ops : List Op) → AreFound t l start → RecebeTraced words names c d m n answer files t listed start ops
-    → (left : List (List ℕ)) × (verdicts : List Verdict) × (pieces : List (Piece LedgerData)) × (last : LedgerData)
-    × AreTakenIn (Some files) t l listed left verdicts pieces last × KeepOffers (Some files) t l listed pieces answer start ops
+    → TakesIn (Some files) t l listed answer start ops
 
 -- The same of totais, with the tables alone.
 pub record TotaisTraced (words : List (List ℕ)) (tables : List ℕ) (c d : CabinetTold) (m n : Told) (answer : LedgerStatus) (files : Files) (t : TablesData) (start : Flashes) (ops : List Op)

@@ -1,4 +1,5 @@
 pub mod Abre
+pub mod Again
 pub mod Codes
 pub mod Command
 pub mod Completion
@@ -6,6 +7,7 @@ pub mod Documents
 pub mod Ending
 pub mod Errors
 pub mod Headline
+pub mod Laws
 pub mod Lines
 pub mod Opening
 pub mod Recebe
