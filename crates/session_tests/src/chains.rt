@@ -1,11 +1,12 @@
 //! Commands one after another, each of which is stopped behind an operation that a seed draws.
-use crate::calls::{Call, call_of, run, say};
+use crate::calls::{Call, call_of, run, say, shown};
 use crate::cuts::{Fill, WAYS, cut};
-use crate::flashes::{Flashes, copied, left};
+use crate::flashes::{Flashes, Program, copied, is_left};
 use crate::halt::Halt;
 use crate::stage::{Stage, kept_as, last_of, no_faults};
-use crate::stops::told;
+use crate::stops::{told, told_by};
 use crate::words::{head, number};
+use ledger_commands::LedgerStatus;
 use std::alloc::Global;
 use urna_commands::Status;
 use urna_outside::Recorder;
@@ -23,41 +24,50 @@ const HELD: [&str; 6] = [
     "URNA LACRADA 3",
 ];
 
+/// The ledgers of two reports that are accepted one after the other, as a `recebe` of an empty list tells each.
+const LEDGERS: [&str; 3] = ["LIVRO 0", "LIVRO 1", "LIVRO 2"];
+
 /// How many operations the commit of an opening or of a closing has, which changes one page of each slot.
 const OPENING: u32 = 24;
 
 /// And that of a voter, which changes two.
 const BALLOT: u32 = 28;
 
-/// How many operations the commit of the state has that a line, which may be cut off, tells, if it tells one.
-fn commit_before(line: &[u8]) -> Option<u32> {
-    if line.starts_with(b"F") {
+/// And that of an accepted report, which changes three: the number with the marks, the hash and the sums.
+const REPORT: u32 = 32;
+
+/// How many operations the commit of the state has that a line tells, if it tells one.
+fn commit_before(line: &str) -> Option<u32> {
+    if line.starts_with("F") {
         return Some(BALLOT);
     }
-    if line.starts_with(b"ABERTA ") || line.starts_with(b"ENCERRADA ") {
+    if line.starts_with("ABERTA ") || line.starts_with("ENCERRADA ") {
         return Some(OPENING);
+    }
+    let (_, verdict) = head(line);
+    if verdict.starts_with("ACEITO ") {
+        return Some(REPORT);
     }
     None
 }
 
 /// How many operations these lines are, each with the commit before it.
-fn operations(shown: &[u8]) -> u32 {
+fn operations(text: &str) -> u32 {
     let mut count = 0u32;
-    for line in shown.split(|byte| *byte == b'\n') {
-        if !line.is_empty() {
-            let commit = commit_before(line).unwrap_or(0);
-            count = count.saturating_add(commit).saturating_add(1);
-        }
+    for line in text.lines() {
+        let commit = commit_before(line).unwrap_or(0);
+        count = count.saturating_add(commit).saturating_add(1);
     }
     count
 }
 
 /// How many lines that tell a state the first operations of a call begin. Before all that the lines tell come the syncs, and what a
 /// recovery writes that heals.
-fn states_begun(whole: &Recorder, ops: u32) -> usize {
-    let mut at = whole.trail_len().saturating_sub(operations(whole.shown()));
+fn states_begun(whole: &Recorder, ops: u32) -> Result<usize, Halt> {
+    let text = shown(whole)?;
+    let mut at = whole.trail_len().saturating_sub(operations(text));
     let mut begun = 0usize;
-    for line in whole.shown().split(|byte| *byte == b'\n') {
+    for line in text.lines() {
         let commit = commit_before(line);
         at = at.saturating_add(commit.unwrap_or(0));
         if at < ops && commit.is_some() {
@@ -65,7 +75,7 @@ fn states_begun(whole: &Recorder, ops: u32) -> usize {
         }
         at = at.saturating_add(1);
     }
-    begun
+    Ok(begun)
 }
 
 /// Numbers that a seed draws, by a linear congruential generator.
@@ -103,10 +113,37 @@ fn fill_at(later: &Flashes, way: u32) -> Fill<'_> {
     }
 }
 
-/// Which state of the session both flashes hold.
-fn place_held(alloc: Global, stage: &Stage, flashes: &Flashes) -> Result<Option<usize>, Halt> {
-    let line = told(alloc, &stage.papers, flashes)?;
-    Ok(HELD.iter().position(|held| *held == line.as_str()))
+/// Which state of a session, or which ledger, both flashes hold.
+fn place_held(
+    alloc: Global,
+    stage: &Stage,
+    program: Program,
+    flashes: &Flashes,
+) -> Result<Option<usize>, Halt> {
+    match program {
+        Program::Urna => {
+            let line = told(alloc, &stage.papers, flashes)?;
+            Ok(HELD.iter().position(|held| *held == line.as_str()))
+        }
+        Program::Ledger => {
+            let call = call_of(alloc, "livro recebe t none")?;
+            let line = told_by(alloc, &stage.papers, &call, copied(alloc, flashes)?)?;
+            Ok(LEDGERS.iter().position(|held| *held == line.as_str()))
+        }
+    }
+}
+
+/// The command of a chain beside the last one, which leads to no other state.
+fn idle_of(alloc: Global, program: Program) -> Result<Call, Halt> {
+    match program {
+        Program::Urna => call_of(alloc, "emite t r o"),
+        Program::Ledger => call_of(alloc, "livro totais t"),
+    }
+}
+
+/// Whether a command that did all its steps ends with this number. That of a ledger may refuse some reports.
+fn is_whole(code: u8) -> bool {
+    code == 0 || code == LedgerStatus::SomeRefused(1).code()
 }
 
 /// A command over some flashes is stopped behind one of its operations, or before the first: how many lines that tell a state it began,
@@ -120,39 +157,39 @@ fn stopped(
     later: &Flashes,
 ) -> Result<Option<(usize, Flashes)>, Halt> {
     let ran = run(alloc, &stage.papers, &no_faults(alloc), call, flashes)?;
-    if ran.code != 0 && ran.code != Status::NotSealed.code() {
+    if !is_whole(ran.code) && ran.code != Status::NotSealed.code() {
         return Ok(None);
     }
     let ops = drawn.below(ran.machine.trail_len().saturating_add(1));
     let fill = fill_at(later, drawn.below(5));
     let next = cut(alloc, &ran.machine, ops, fill)?;
-    Ok(Some((states_begun(&ran.machine, ops), next)))
+    Ok(Some((states_begun(&ran.machine, ops)?, next)))
 }
 
-/// What a chain leaves, if behind each call both flashes hold the state whose line it began last, or, of a session, the next; where it
-/// began none, the state that it found.
+/// What a chain leaves, if behind each call both flashes hold the state whose line it began last, or, of the last command, the next; where
+/// it began none, the state that it found.
 fn chain(
     alloc: Global,
     stage: &Stage,
-    emit: &Call,
+    idle: &Call,
     seed: u64,
     later: &Flashes,
 ) -> Result<Option<Flashes>, Halt> {
-    let session = &last_of(&stage.last)?.call;
+    let last = &last_of(&stage.last)?.call;
     let mut drawn = Draws::of(seed);
     let mut flashes = copied(alloc, &last_of(&stage.last)?.given)?;
     let mut held = 0usize;
     for _ in 0..CALLS {
-        let is_session = drawn.below(4) > 0;
-        let call = if is_session { session } else { emit };
+        let is_last = drawn.below(4) > 0;
+        let call = if is_last { last } else { idle };
         let Some((begun, next)) = stopped(alloc, stage, call, &mut drawn, flashes, later)? else {
             return Ok(None);
         };
-        let Some(place) = place_held(alloc, stage, &next)? else {
+        let Some(place) = place_held(alloc, stage, last.program, &next)? else {
             return Ok(None);
         };
         let least = held.saturating_add(begun);
-        let most = least.saturating_add(usize::from(is_session));
+        let most = least.saturating_add(usize::from(is_last));
         if place < least || most < place {
             return Ok(None);
         }
@@ -162,16 +199,16 @@ fn chain(
     Ok(Some(flashes))
 }
 
-/// Whether a session behind a chain takes the voters who are left, and seals the poll.
-fn ends_sealed(alloc: Global, stage: &Stage, flashes: Flashes) -> Result<bool, Halt> {
+/// Whether the last command behind a chain takes the voters, or the reports, that are left: it ends with what the kept flashes hold.
+fn ends_as(alloc: Global, stage: &Stage, flashes: Flashes, kept: &Flashes) -> Result<bool, Halt> {
     let call = &last_of(&stage.last)?.call;
     let ran = run(alloc, &stage.papers, &no_faults(alloc), call, flashes)?;
-    let place = place_held(alloc, stage, &left(alloc, &ran.machine)?)?;
-    Ok(ran.code == 0 && place == Some(HELD.len() - 1))
+    Ok(is_whole(ran.code) && is_left(&ran.machine, kept))
 }
 
-/// Prints the seeds of chains of the last command, which is a session of three voters, and of `emite` that don't keep each voter; of as
-/// many seeds as the number says, with torn bytes at last as in kept flashes.
+/// Prints the seeds of chains that don't keep each voter, or each report; of as many seeds as the number says. The last command, of which
+/// the chains are and of the one that leads to no other state, is a session of three voters, or takes two reports in. Kept flashes hold
+/// what it leaves, and at last torn bytes are as in them.
 pub(crate) fn each_chain(
     alloc: Global,
     stage: &Stage,
@@ -180,18 +217,23 @@ pub(crate) fn each_chain(
 ) -> Result<(), Halt> {
     let (count, later) = head(rest);
     let later = kept_as(&stage.kept, later)?;
-    let emit = call_of(alloc, "emite t r o")?;
+    let program = last_of(&stage.last)?.call.program;
+    let idle = idle_of(alloc, program)?;
+    let one = match program {
+        Program::Urna => "voter",
+        Program::Ledger => "report",
+    };
     let mut kept = 0u32;
     for seed in 0..number(count)? {
-        let keeps = match chain(alloc, stage, &emit, u64::from(seed), later)? {
-            Some(flashes) => ends_sealed(alloc, stage, flashes)?,
+        let keeps = match chain(alloc, stage, &idle, u64::from(seed), later)? {
+            Some(flashes) => ends_as(alloc, stage, flashes, later)?,
             None => false,
         };
         if keeps {
             kept = kept.saturating_add(1);
         } else {
-            say(out, &format!(in alloc; "seed {seed} loses a voter")?)?;
+            say(out, &format!(in alloc; "seed {seed} loses a {one}")?)?;
         }
     }
-    say(out, &format!(in alloc; "{kept} keep each voter")?)
+    say(out, &format!(in alloc; "{kept} keep each {one}")?)
 }

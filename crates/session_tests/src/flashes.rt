@@ -29,10 +29,10 @@ impl Program {
     }
 }
 
-/// How many bytes a slot has: its gate with what fills up the page, and its body.
+/// How many bytes a slot of a poll's device has: its gate with what fills up the page, and its body.
 const SLOT: usize = FRONT_SIZE + BODY_SIZE;
 
-/// Where the gates of both slots stand.
+/// Where the gates of both slots of a poll's device stand.
 pub(crate) const GATES: [usize; 2] = [HEADER_SIZE, HEADER_SIZE + SLOT];
 
 /// What both devices hold.
@@ -115,10 +115,11 @@ pub(crate) fn set(image: &mut [u8], at: usize, bytes: &[u8]) {
     }
 }
 
+/// Shuts the gates of an image: behind the header, and in the middle of what follows it.
 fn shut(image: &mut [u8]) {
-    for gate in GATES {
-        set(image, gate, &[0]);
-    }
+    let half = image.len().saturating_sub(HEADER_SIZE) / 2;
+    set(image, HEADER_SIZE, &[0]);
+    set(image, HEADER_SIZE.saturating_add(half), &[0]);
 }
 
 /// Shuts the gates of a device, so that none of its slots stands.

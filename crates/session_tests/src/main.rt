@@ -1,4 +1,4 @@
-//! Plays scripts: commands of `urna` over machines and cabinets in memory, each over what the last one left.
+//! Plays scripts: commands of `urna` and of `urna_ledger` over machines and cabinets in memory, each over what the last one left.
 //!
 //! The program's words name the scripts, which lie in the working folder with the documents that they give to commands. Each line of
 //! a script is printed as it stands, and under it, four places in, what came of it: so what is printed is what must come, line by line

@@ -1,7 +1,7 @@
 //! What is left where a command is stopped: behind each of its operations, inside of one, or at each of its calls.
 use crate::calls::{Call, Ran, call_of, push_files, run, say, session_of, shown};
 use crate::cuts::{Fill, WAYS, cut, cut_at};
-use crate::flashes::{Flashes, are_same, copied, is_left, left, no_flashes, shut_device};
+use crate::flashes::{Flashes, Program, are_same, copied, is_left, left, no_flashes, shut_device};
 use crate::halt::Halt;
 use crate::papers::Paper;
 use crate::ranks::told_ranks;
@@ -32,31 +32,43 @@ pub(crate) fn told(alloc: Global, papers: &[Paper], flashes: &Flashes) -> Result
     told_by(alloc, papers, &call, copied(alloc, flashes)?)
 }
 
-/// What it tells over the one device alone: the other has no open slot.
+/// What a command tells over the one device alone: the other has no open slot.
 fn told_alone(
     alloc: Global,
     papers: &[Paper],
+    call: &Call,
     flashes: &Flashes,
     other: Dev,
 ) -> Result<String, Halt> {
     let mut alone = copied(alloc, flashes)?;
     shut_device(&mut alone, other);
-    told(alloc, papers, &alone)
+    told_by(alloc, papers, call, alone)
 }
 
-/// What both devices tell together, and each alone.
+/// What it tells over both devices together, and over each alone.
+fn told_over_all(
+    alloc: Global,
+    papers: &[Paper],
+    call: &Call,
+    flashes: &Flashes,
+) -> Result<String, Halt> {
+    let both = told_by(alloc, papers, call, copied(alloc, flashes)?)?;
+    let internal = told_alone(alloc, papers, call, flashes, Dev::External)?;
+    let external = told_alone(alloc, papers, call, flashes, Dev::Internal)?;
+    if internal == both && external == both {
+        return Ok(both);
+    }
+    Ok(format!(in alloc; "{both}; internal {internal}; external {external}")?)
+}
+
+/// What a session without presses tells so.
 pub(crate) fn told_by_all(
     alloc: Global,
     papers: &[Paper],
     flashes: &Flashes,
 ) -> Result<String, Halt> {
-    let both = told(alloc, papers, flashes)?;
-    let internal = told_alone(alloc, papers, flashes, Dev::External)?;
-    let external = told_alone(alloc, papers, flashes, Dev::Internal)?;
-    if internal == both && external == both {
-        return Ok(both);
-    }
-    Ok(format!(in alloc; "{both}; internal {internal}; external {external}")?)
+    let call = session_of(alloc, String::new(alloc))?;
+    told_over_all(alloc, papers, &call, flashes)
 }
 
 /// What of flashes that are left is told.
@@ -68,7 +80,7 @@ enum How<'a> {
     Ranks,
     /// Both of these.
     SessionAndRanks,
-    /// What a command of these words shows.
+    /// What a command of these words shows over both devices; one of a ledger over each alone too.
     Command(&'a str),
 }
 
@@ -89,7 +101,10 @@ fn told_of(
         }
         How::Command(words) => {
             let call = call_of(alloc, words)?;
-            told_by(alloc, papers, &call, copied(alloc, flashes)?)
+            match call.program {
+                Program::Urna => told_by(alloc, papers, &call, copied(alloc, flashes)?),
+                Program::Ledger => told_over_all(alloc, papers, &call, flashes),
+            }
         }
     }
 }
