@@ -60,24 +60,30 @@ def edited(text, changes):
     return text
 
 
+def give(files, line):
+    """Places, changes or takes away a file, where a line of a script does so."""
+    word, name, rest = (line.split(" ", 2) + ["", ""])[:3]
+    if word == "file":
+        files[name] = house.read(f"{CRATE}/data/{rest}")
+    elif word == "text":
+        files[name] = "".join(it + "\n" for it in rest.split(" / ") if rest)
+    elif word == "long":
+        files[name] = "0" * int(rest)
+    elif word == "none":
+        files.pop(name, None)
+    elif word == "edit":
+        files[name] = edited(files[name], rest)
+
+
 def asked(script):
     """Each line of a script that runs a command, or runs the last one again: its number, the line, what comes of it, the words of the command,
     the texts of the files that it is given, of which `anew` makes no hashes, and which of its calls fail."""
     files, last, faults = {}, [], {}
     for number, line, came in steps_of(script):
         word, name, rest = (line.split(" ", 2) + ["", ""])[:3]
-        if word == "file":
-            files[name] = house.read(f"{CRATE}/data/{rest}")
-        elif word == "text":
-            files[name] = "".join(it + "\n" for it in rest.split(" / "))
-        elif word == "long":
-            files[name] = "0" * int(rest)
-        elif word == "none":
-            files.pop(name, None)
-        elif word == "print":
+        give(files, line)
+        if word == "print":
             files[name] = "".join(it + "\n" for it in came)
-        elif word == "edit":
-            files[name] = edited(files[name], rest)
         elif word in ("fails", "takes"):
             faults[word] = line.split()[1:]
         elif word in ("urna", "answers"):
