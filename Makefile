@@ -1,8 +1,9 @@
-.PHONY: list try demo test check-house bench crash-trial hostile urna urna_ledger
+.PHONY: list try demo test check-house bench crash-trial hostile urna urna_ledger programs
 
 TRIALS = 25
 MINUTES = 10
 URNA = $(CURDIR)/crates/urna_app/out/urna_app
+LEDGER = $(CURDIR)/crates/ledger_app/out/ledger_app
 
 # The minutes are those of four idle processors. A proof that was made before and where nothing has changed takes seconds.
 list:
@@ -14,7 +15,7 @@ list:
 	@echo "make check-house  names, sessions and lines of the documents and the sources: seconds"
 	@echo "make bench        how long sessions, commits, the reading of tables, the text of a report, its file, a check of it, a recount, the totals of many reports, the seats and a rehearsal take, as ratios to plainer programs, and what changed since the last time: a few minutes after a demo"
 	@echo "make crash-trial  the program on real files, with a lost flash too, and as many killed sessions as TRIALS says, drawn by SEED: a few minutes after a demo"
-	@echo "make hostile      the program with refused memory, failing calls, odd surroundings, power cuts, exchanged flashes and changed inputs, drawn by SEED, for as long as MINUTES says: ten minutes after a demo"
+	@echo "make hostile      both programs with refused memory, failing calls, odd surroundings, power cuts, exchanged flashes and changed inputs, drawn by SEED, for as long as MINUTES says: ten minutes after a demo"
 
 try:
 	@examples/try
@@ -34,12 +35,15 @@ bench: urna
 crash-trial: urna
 	tests/crash-trial "$(URNA)" $(TRIALS) $(SEED)
 
-hostile: urna
-	tests/hostile "$(URNA)" $(MINUTES) $(SEED)
+hostile: programs
+	tests/hostile "$(URNA)" "$(LEDGER)" $(MINUTES) $(SEED)
 
-# A program, proved and built where something has changed, and the record of that build.
+# A program, or both, proved and built where something has changed, and the record of that build.
 urna:
 	@tests/build urna_app
 
 urna_ledger:
 	@tests/build ledger_app
+
+programs:
+	@tests/build urna_app ledger_app

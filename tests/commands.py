@@ -10,6 +10,8 @@ EMITE = ["emite", "tables", "roll", "p"]
 # The word of each flash, and the command that loads it from the other one.
 WORD = ("INTERNA", "EXTERNA")
 REPOE = [["repoe", "tables", "roll", word.lower()] for word in WORD]
+# The commands of urna_ledger.
+ABRE, RECEBE, TOTAIS = ["abre", "tables"], ["recebe", "tables", "list"], ["totais", "tables"]
 
 
 class Violation(Exception):

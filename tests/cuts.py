@@ -96,19 +96,29 @@ def cut(draw, flashes, calls, others):
     return f"cut behind {stop} of {len(done)} operations", images, shown
 
 
-def mixed(day, draw, state):
-    """Flashes of which a slot holds a state, and each other slot that or one before it, in either version, or is shut over anything."""
-    flashes = [bytearray(day.frame(device)) for device in (0, 1)]
-    slots = list(itertools.product((0, 1), GATES))
+def mixed_slots(draw, frames, gates, body):
+    """Flashes with these frames. One slot is open with the body that is told for it, and each other one with the body for others, or is
+    shut over anything."""
+    flashes = [bytearray(frame) for frame in frames]
+    slots = list(itertools.product((0, 1), gates))
     sure = draw.choice(slots)
     for slot in slots:
         device, gate = slot
-        body = day.body(draw.choice((1, 1, 2)), state if slot == sure else draw.choice([state, draw.randint(0, state)]))
+        told = body(slot == sure)
         is_open = slot == sure or draw.random() < 0.7
         flashes[device][gate] = 0xA5 if is_open else draw.choice([0, 0x5A, 0x25, 0xFF])
-        place = slice(gate + 512, gate + 512 + len(body))
-        flashes[device][place] = body if is_open else sectors(draw, [body, draw.randbytes(len(body))])
+        place = slice(gate + 512, gate + 512 + len(told))
+        flashes[device][place] = told if is_open else sectors(draw, [told, draw.randbytes(len(told))])
     return [bytes(flash) for flash in flashes]
+
+
+def mixed(day, draw, state):
+    """Flashes of which a slot holds a state, and each other slot that or one before it, in either version, or is shut over anything."""
+
+    def body(is_sure):
+        return day.body(draw.choice((1, 1, 2)), state if is_sure else draw.choice([state, draw.randint(0, state)]))
+
+    return mixed_slots(draw, [day.frame(0), day.frame(1)], GATES, body)
 
 
 def beginnings(day, draw, state):

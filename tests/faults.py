@@ -1,12 +1,14 @@
 """Calls of the system that fail, or do less than they were asked for: the status is that of the port, what was shown is a front of what
-is shown else, and what the flashes hold is what the display tells, or one more."""
+is shown else, and what the flashes hold is what the display tells, or one more. It is tried of both programs."""
 
 import itertools
 from errno import EACCES, EAGAIN, EINTR, EIO, EMFILE, ENOENT, ENOMEM, ENOSPC
 from typing import NamedTuple
 
+import ledgers
 import memory
-from commands import CARGA, EMITE, VOTA, want
+import takings
+from commands import ABRE, CARGA, EMITE, RECEBE, TOTAIS, VOTA, want
 from held import allowed, flashes_in, want_held, with_flashes
 from polls import FLASHES, LENGTH, Day
 from runs import Ended
@@ -26,13 +28,17 @@ FAULTS = {
     "lock": [EIO, EAGAIN],
     "dup": [EMFILE],
 }
-# The documents of all commands, and the results, which a put replaces.
-DOCUMENTS = ("tables", "roll", "keys", "list", "a.bu", "b.bu", "c.bu")
+# The documents of all commands, and the results, which a put replaces. The reports of a counting centre are r1, r2, ..
+DOCUMENTS = ("tables", "roll", "keys", "list", "a.bu", "b.bu", "c.bu", *(f"r{number}" for number in range(1, 10)))
 RESULTS = ("o.bu", "o.rdv", "p.bu", "p.rdv", *memory.REHEARSED)
+# The commands that may write on a flash and put no file, and those of them that make flashes anew.
+NO_RESULTS = ("carga", "abre", "recebe", "totais")
+MAKING = ("carga", "abre")
 
 
 class Case(NamedTuple):
-    """A command over files, and how it ends with no fault. Of a session also its day, and the states from which and to which it goes."""
+    """A command over files, and how it ends with no fault. Of a session also its day, and the states from which and to which it goes; of a
+    `recebe` the counting centre in the place of a day, and what it takes in."""
 
     words: list
     files: dict
@@ -40,6 +46,7 @@ class Case(NamedTuple):
     day: Day = None
     state: int = 0
     last: int = 0
+    taking: ledgers.Taking = None
 
 
 def case(runs, words, files, day=None, state=0, last=0):
@@ -52,12 +59,25 @@ def session(runs, day, state, last, version=2, old=()):
     return case(runs, VOTA, {**files, **dict.fromkeys(old, b"old")}, day, state, last)
 
 
-def life(runs):
-    """The commands of the day of one voter."""
+def taking(runs, centre, flashes, ledger, listed):
+    """A `recebe` of this list over flashes that hold a ledger."""
+    files, taken = takings.with_flashes(centre, listed, flashes), ledgers.Taking(centre, ledger, listed)
+    found = Case(RECEBE, files, runs.run(files, RECEBE, tells=True), centre, taking=taken)
+    want((found.usual.status, found.usual.shown) == (taken.status, taken.shown), f"recebe {found.usual.told()}")
+    return found
+
+
+def life(runs, drawn):
+    """The commands of the day of one voter, and those of a counting centre that takes in a report, and it once more."""
     day = Day(1)
     yield case(runs, CARGA, day.documents(""))
     yield session(runs, day, 0, day.last)
     yield case(runs, EMITE, with_flashes(day, "", day.flashes(2, day.last)))
+    centre, draw = ledgers.Centre([3, 2]), drawn("reports")
+    listed = dict.fromkeys(("r1", "r2"), centre.report(draw, 1))
+    yield case(runs, ABRE, centre.documents({}))
+    yield taking(runs, centre, centre.flashes({}), {}, listed)
+    yield case(runs, TOTAIS, takings.with_flashes(centre, {}, centre.flashes({1: listed["r1"]})))
 
 
 def drawn_session(runs, draw):
@@ -78,8 +98,31 @@ def drawn_load(runs, draw):
     return case(runs, CARGA, files)
 
 
+def drawn_opening(runs, draw):
+    """An `abre` over flashes that are missing, blank, with no slot open or opened before, and over what a cut run left."""
+    centre = takings.drawn_centre(draw)
+    files = centre.documents({})
+    for device, name in enumerate(FLASHES):
+        flash = draw.choice([None, bytes(ledgers.LENGTH), centre.frame(device), centre.flashes({})[device]])
+        files.update({name: flash} if flash else {})
+        files.update({f"{name}.new": b"left"} if draw.random() < 0.3 else {})
+    return case(runs, ABRE, files)
+
+
+def drawn_counting(runs, draw):
+    """A `recebe` or a `totais` over flashes that hold a ledger."""
+    centre = takings.drawn_centre(draw)
+    history = takings.drawn_history(centre, draw)
+    flashes = takings.beginnings(centre, draw, history)
+    if draw.random() < 0.2:
+        return case(runs, TOTAIS, takings.with_flashes(centre, {}, flashes))
+    return taking(runs, centre, flashes, history[-1], takings.drawn_list(centre, draw, history[-1]))
+
+
 def drawn_case(runs, draw):
-    kind = draw.choice(["session"] * 5 + ["load", "load", "emite", "ensaio", "listed"])
+    kind = draw.choice(["session"] * 5 + ["load", "load", "emite", "ensaio", "listed"] + ["counting"] * 4 + ["opening"])
+    if kind in ("counting", "opening"):
+        return (drawn_counting if kind == "counting" else drawn_opening)(runs, draw)
     if kind == "session":
         return drawn_session(runs, draw)
     if kind == "load":
@@ -110,7 +153,7 @@ def statuses(case, other, how):
         if other.name in (name, f"{name}.new"):
             return {status}
     if other.name in (".", "folder"):
-        return {"carga": {21, 22}, "ensaio": {20}}.get(case.words[0], {20, 21, 22})
+        return {"ensaio": {20}}.get(case.words[0], {21, 22} if case.words[0] in NO_RESULTS else {20, 21, 22})
     if other.kind == "open" and other.name in DOCUMENTS and how in (ENOENT, ENOMEM):
         return {12} if how == ENOENT else {1}
     # A result that is gone, or that this user may not open, is no flash, and is replaced.
@@ -140,7 +183,7 @@ def want_files(case, ended, what):
             continue
         left = ended.files.get(name)
         want(left in (case.files.get(name), case.usual.files.get(name)), f"{what}: {name} is neither the old nor the new one")
-    if case.words[0] not in ("vota", "carga"):
+    if case.words[0] not in ("vota", *NO_RESULTS):
         for name in FLASHES:
             want(ended.files.get(name) == case.files.get(name), f"{what}: {name} was written")
 
@@ -165,8 +208,8 @@ def want_same(runs, case, ended, what):
     others = [f"{name}.new" for name in FLASHES]
     want(without(ended.files, others) == without(case.usual.files, others), f"{what}: again it left other files")
     left = [name for name in FLASHES if f"{name}.new" in ended.files]
-    if case.words[0] == "carga" and left:
-        made = runs.run(without(ended.files, left), CARGA)
+    if case.words[0] in MAKING and left:
+        made = runs.run(without(ended.files, left), case.words)
         want(made.files == without(case.usual.files, others), f"{what}: a making left other files")
 
 
@@ -175,6 +218,8 @@ def want_over(runs, case, ended, what):
     want_files(case, ended, what)
     if case.words[0] == "vota":
         return want_rest_of(runs, case, ended, what)
+    if case.words[0] == "recebe":
+        return takings.want_taken(runs, case, ended, what)
     again = runs.run(ended.files, case.words)
     want((again.status, again.shown) == (case.usual.status, case.usual.shown), f"{what}: again it {again.told()}")
     want_same(runs, case, again, what)
@@ -205,8 +250,8 @@ def drawn_way(draw, kind):
 
 
 def in_turn(runs, drawn):
-    """Each call of the day of one voter, each going in a drawn way."""
-    for case in life(runs):
+    """Each call of those commands, each going in a drawn way."""
+    for case in life(runs, drawn):
         for kind in FAULTS:
             for number in range(1, 1 + sum(call.kind == kind for call in case.usual.calls)):
                 how, endings = drawn_way(drawn(f"{case.words[0]} {kind} {number}"), kind)
@@ -224,7 +269,7 @@ def drawn_fault(runs, draw):
 
 
 def trials(runs, drawn):
-    """Each call of the day of one voter in turn, and then drawn ones of other commands."""
+    """Each call of some commands in turn, and then drawn ones of others."""
     yield from in_turn(runs, drawn)
     for number in itertools.count():
         if drawn_fault(runs, drawn(number)):

@@ -45,13 +45,18 @@ def held(runs, day, flashes, what):
     return state
 
 
-def want_held(runs, day, flashes, states, alone, what):
-    """Both flashes hold one of these states, and so does each alone where that is asked: the other one has no slot open then. Answers what
-    both hold."""
+def looks(flashes, frames, alone):
+    """Both flashes, and where that is asked each alone, beside one that has its frame and no slot open."""
     tried = {"both flashes": list(flashes)}
     if alone:
-        tried["the internal flash alone"] = [flashes[0], day.frame(1)]
-        tried["the external flash alone"] = [day.frame(0), flashes[1]]
+        tried["the internal flash alone"] = [flashes[0], frames[1]]
+        tried["the external flash alone"] = [frames[0], flashes[1]]
+    return tried
+
+
+def want_held(runs, day, flashes, states, alone, what):
+    """Both flashes hold one of these states, and so does each alone where that is asked. Answers what both hold."""
+    tried = looks(flashes, [day.frame(0), day.frame(1)], alone)
     told = " or ".join(day.states[it] for it in sorted(states))
     found = []
     for name, images in tried.items():

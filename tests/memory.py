@@ -2,10 +2,13 @@
 the same command ends as usual."""
 
 import itertools
+import random
 from errno import ENOMEM
 
+import ledgers
 import polls
-from commands import CARGA, EMITE, REPOE, VOTA, want
+import takings
+from commands import ABRE, CARGA, EMITE, RECEBE, REPOE, TOTAIS, VOTA, want
 from parts import parts_file
 from polls import FLASHES, LENGTH
 
@@ -69,6 +72,18 @@ def life(runs):
         files = runs.run(files, words).files
 
 
+def counting():
+    """The commands of a counting centre, each with its files, and of `recebe` what it takes in: new reports, one that is kept, one in
+    conflict with it, and one that is none."""
+    draw, centre = random.Random("counting"), ledgers.Centre([3, 2, 4])
+    kept, new = centre.report(draw, 0), centre.report(draw, 2)
+    files = [new, kept, centre.other(draw, kept), centre.faulty(draw), new, centre.report(draw, 1)]
+    listed = {f"r{number}": file for number, file in enumerate(files, 1)}
+    yield ABRE, centre.documents({}), None
+    yield RECEBE, takings.with_flashes(centre, listed, centre.flashes({0: kept})), ledgers.Taking(centre, {0: kept}, listed)
+    yield TOTAIS, takings.with_flashes(centre, {}, centre.flashes({0: kept, 2: new})), None
+
+
 def cases(runs):
     """The commands of which a drawn allocation is refused."""
     listed = listed_reports()
@@ -79,9 +94,18 @@ def cases(runs):
     return found + [(words, {**opened, name: bytes(LENGTH)}) for words, name in zip(REPOE, FLASHES)]
 
 
+def has_taken_some(taking, files, ended):
+    """Whether some first files of a list were taken in, whose lines were shown, or nothing was done."""
+    for number in range(len(taking.lines)):
+        if ended.shown == b"".join(taking.lines[: number + 1]):
+            at_rest = dict(zip(FLASHES, taking.centre.flashes(taking.states[number])))
+            return ended.files == {**files, **at_rest}
+    return not ended.shown and ended.files == files
+
+
 def has_ended_short(words, files, usual, ended):
     """Whether the files and what was shown are those of a command that wanted memory."""
-    blank = {name: bytes(LENGTH) for name in FLASHES if name not in files}
+    blank = {name: bytes(ledgers.LENGTH if words == ABRE else LENGTH) for name in FLASHES if name not in files}
     left = {name: what for name, what in ended.files.items() if what != blank.get(name)}
     if words[0] == "vota" and ended.shown:
         # The whole session is done, and no result is put.
@@ -93,27 +117,33 @@ def has_ended_short(words, files, usual, ended):
     return left == files and not ended.shown
 
 
-def want_refused(words, files, usual, ended, what):
+def want_refused(words, files, usual, ended, taking, what):
     if ended.status == usual.status:
         want((ended.shown, ended.files) == (usual.shown, usual.files), f"{what}: {ended.told()}, or left other files than usual")
     elif ended.status == 40:
         want(not ended.shown and ended.files == files, f"{what}: {ended.told()}, or left other files")
     else:
-        is_short = ended.status == 1 and has_ended_short(words, files, usual, ended)
-        want(is_short, f"{what}: {ended.told()}, or left other files")
+        is_short = has_taken_some(taking, files, ended) if taking else has_ended_short(words, files, usual, ended)
+        want(ended.status == 1 and is_short, f"{what}: {ended.told()}, or left other files")
 
 
-def want_again(runs, words, usual, ended, what):
-    """The same command ends as usual over what was left, which may be a sealed poll by now."""
+def want_again(runs, words, usual, ended, taking, what):
+    """The same command ends as usual over what was left, which may be a sealed poll by now, or a ledger with some of its reports."""
     again = runs.run(ended.files, words)
+    if taking:
+        ledger = taking.states[max(ended.shown.count(b"\n") - 1, 0)]
+        rest = ledgers.Taking(taking.centre, ledger, taking.listed)
+        same = (again.status, again.shown, again.files) == (rest.status, rest.shown, usual.files)
+        return want(same, f"{what}: the same list again {again.told()}, or left other files")
     is_sealed = words[0] == "vota" and ended.shown
     is_usual = again.status == usual.status and (is_sealed or again.shown == usual.shown)
     want(is_usual, f"{what}: the same command again {again.told()}")
     want(again.files == usual.files, f"{what}: the same command again left other files")
 
 
-def refuse(runs, words, files, usual, number, how):
-    """Does a command with an allocation refused, and then again. Answers whether there was such an allocation."""
+def refuse(runs, words, files, usual, number, how, taking=None):
+    """Does a command with an allocation refused, and then again. Answers whether there was such an allocation. A `recebe` comes with what
+    it takes in."""
     fail = f"memory * {number} {how}"
     what = f"{' '.join(words)} with URNA_FAIL='{fail}'"
     ended = runs.run(files, words, fail=fail)
@@ -121,16 +151,16 @@ def refuse(runs, words, files, usual, number, how):
         is_usual = (ended.status, ended.shown, ended.files) == (usual.status, usual.shown, usual.files)
         want(is_usual, f"{what}, which refuses nothing: {ended.told()}, or left other files than usual")
         return False
-    want_refused(words, files, usual, ended, what)
-    want_again(runs, words, usual, ended, what)
+    want_refused(words, files, usual, ended, taking, what)
+    want_again(runs, words, usual, ended, taking, what)
     return True
 
 
-def each(runs, words, files, usual):
+def each(runs, words, files, usual, taking=None):
     """Each allocation of a command, and each with all behind it, until a run has no refusal."""
     for how in (f"{ENOMEM}", f"+{ENOMEM}"):
         number = 1
-        while refuse(runs, words, files, usual, number, how):
+        while refuse(runs, words, files, usual, number, how, taking):
             yield "refused allocations"
             number += 1
 
@@ -153,13 +183,19 @@ def each_in_copies(runs, words, files, usual, how):
 
 
 def in_turn(runs):
-    """Each allocation of the poll of one vote, of the totals of the worked list, and of a rehearsal over old files."""
+    """Each allocation of the poll of one vote, of the commands of a counting centre, of the totals of the worked list, and of a rehearsal
+    over old files."""
     for words, files in life(runs):
         usual = runs.run(files, words)
         want(usual.status == 0, f"{words[0]} {usual.told()}")
         yield from each(runs, words, files, usual)
     report, record = usual.files["p.bu"].decode(), usual.files["p.rdv"].decode()
     want(report == parts_file(polls.ONE_VOTE_FIELDS) and record == polls.ONE_VOTE_RECORD, "the results of one vote are others")
+    for words, files, taking in counting():
+        usual = runs.run(files, words)
+        is_usual = (usual.status, usual.shown) == (taking.status, taking.shown) if taking else usual.status == 0
+        want(is_usual, f"{words[0]} {usual.told()}")
+        yield from each(runs, words, files, usual, taking)
     files = worked_list()
     usual = runs.run(files, TOTALIZA)
     want(usual.status == 6 and usual.shown.startswith(WORKED_LINES), f"totaliza of the worked list {usual.told()}")
@@ -174,11 +210,11 @@ def trials(runs, drawn):
     """Each allocation of some commands in turn, and then drawn ones of these and others."""
     yield from in_turn(runs)
     known = []
-    for words, files in cases(runs):
+    for words, files, taking in [*((*it, None) for it in cases(runs)), *counting()]:
         usual = runs.run(files, words, tells=True)
-        known.append((words, files, usual, sum(call.kind == "memory" for call in usual.calls)))
+        known.append((words, files, usual, taking, sum(call.kind == "memory" for call in usual.calls)))
     for number in itertools.count():
         draw = drawn(number)
-        words, files, usual, count = draw.choice(known)
-        refuse(runs, words, files, usual, draw.randint(1, count), draw.choice(("", "+")) + str(ENOMEM))
+        words, files, usual, taking, count = draw.choice(known)
+        refuse(runs, words, files, usual, draw.randint(1, count), draw.choice(("", "+")) + str(ENOMEM), taking)
         yield "refused allocations"

@@ -1,4 +1,4 @@
-"""Runs of the program over files that are given, each from its beginning to its end, with what it left and which calls it made."""
+"""Runs of both programs over files that are given, each from its beginning to its end, with what it left and which calls it made."""
 
 import fcntl
 import os
@@ -8,7 +8,7 @@ import stat
 import subprocess
 from typing import NamedTuple
 
-from commands import Violation
+from commands import ABRE, RECEBE, TOTAIS, Violation
 
 # How long a command may take, in seconds.
 LONGEST = 60
@@ -131,12 +131,16 @@ def wait_for(run):
 
 
 class Runs:
-    """Runs of one program. Those of the trial that goes on are remembered, so that they can be looked at."""
+    """Runs of both programs. Those of the trial that goes on are remembered, so that they can be looked at."""
 
-    def __init__(self, program, work, library):
-        self.program, self.work, self.library = program, work, library
+    def __init__(self, program, ledger, work, library):
+        self.program, self.ledger, self.work, self.library = program, ledger, work, library
         self.folder, self.told = os.path.join(work, "folder"), os.path.join(work, "told")
         self.trial = []
+
+    def program_of(self, words):
+        """The program that has this command."""
+        return self.ledger if words[0] in (ABRE[0], RECEBE[0], TOTAIS[0]) else self.program
 
     def environment(self, fail, tells):
         added = {"URNA_FAIL": fail} if fail else {}
@@ -160,7 +164,7 @@ class Runs:
         environment = self.environment(fail, tells)
 
         def start(stdout):
-            return subprocess.Popen([*prefix, self.program, *words], cwd=folder, stdin=subprocess.DEVNULL, stdout=stdout, env=environment)
+            return subprocess.Popen([*prefix, self.program_of(words), *words], cwd=folder, stdin=subprocess.DEVNULL, stdout=stdout, env=environment)
 
         try:
             run, shown = read_to_end(start, display) if closes is None else (wait_for(read_front(start, closes)), b"")
@@ -193,6 +197,7 @@ class Runs:
                 fill(os.path.join(folder, name), held)
             before = f"LD_PRELOAD={self.library} URNA_FAIL='{fail}' " if fail else ""
             with open(os.path.join(folder, "command"), "w") as file:
-                file.write(f"{before}urna {' '.join(words)}\n")
+                name = "urna" if self.program_of(words) == self.program else "urna_ledger"
+                file.write(f"{before}{name} {' '.join(words)}\n")
                 file.write(f"ended with {ended.status}, showed {ended.shown!r}\n" if ended else "did not end\n")
         return kept
