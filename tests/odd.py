@@ -1,5 +1,5 @@
-"""Odd surroundings: something else in the place of a flash, a display that closes in the middle of a line or has no room, a folder that
-can't be written, and a disk that is full."""
+"""Odd surroundings: something else in the place of a flash, the flashes of the other program, exchanged flashes of a ledger, a display that
+closes in the middle of a line or has no room, a folder that can't be written, and a disk that is full."""
 
 import contextlib
 import itertools
@@ -9,9 +9,11 @@ import subprocess
 from errno import EIO
 
 import faults
+import ledgers
 import memory
-from commands import CARGA, EMITE, VOTA, want
-from held import held, with_flashes
+import takings
+from commands import ABRE, CARGA, EMITE, RECEBE, REPOE, TOTAIS, VOTA, WORD, want
+from held import flashes_in, held, with_flashes
 from polls import FLASHES, LENGTH, Day
 from runs import FIFO, FOLDER, Link, fill, found_in
 
@@ -32,6 +34,81 @@ def odd_flash(runs, draw):
     want((ended.status, ended.shown) == (21 + device, b""), f"{what}: {ended.told()}")
     want(ended.files == files, f"{what}: left other files")
     want(held(runs, day, flashes, what) == state, f"{what}: then another state is held")
+
+
+def odd_ledger(runs, draw):
+    """The same of a ledger; and one file isn't both of its flashes."""
+    centre, device = takings.drawn_centre(draw), draw.randrange(2)
+    ledger = takings.drawn_history(centre, draw)[-1]
+    flashes = centre.flashes(ledger)
+    odd = [FOLDER, FIFO, Link("nowhere"), Link("/dev/null"), b"", flashes[device][:-1], flashes[device] + b"\0", bytes(LENGTH), Link(FLASHES[1 - device])]
+    thing = draw.choice(odd)
+    files = {**takings.with_flashes(centre, takings.drawn_list(centre, draw, ledger), flashes), FLASHES[device]: thing}
+    words = draw.choice((ABRE, RECEBE, TOTAIS))
+    ended = runs.run(files, words)
+    what = f"{words[0]} with an odd {FLASHES[device]} ({thing!r:.60})"
+    status = 22 if thing is odd[-1] else 21 + device
+    want((ended.status, ended.shown, ended.files) == (status, b"", files), f"{what}: {ended.told()}, or left other files")
+    takings.held(runs, centre, flashes, [ledger], what)
+
+
+def other_program(runs, draw):
+    """Each program in the folder of the other one: its flash has another length, and nothing is changed."""
+    centre, day = takings.drawn_centre(draw), Day(draw.randint(1, 3))
+    ledger = takings.drawn_history(centre, draw)[-1]
+    of_poll = draw.random() < 0.5
+    words = draw.choice([ABRE, RECEBE, TOTAIS] if of_poll else [CARGA, VOTA, EMITE, *REPOE])
+    flashes = day.flashes(2, draw.randrange(day.last + 1)) if of_poll else centre.flashes(ledger)
+    files = {**takings.with_flashes(centre, takings.drawn_list(centre, draw, ledger), flashes), **({} if of_poll else day.documents(day.keys()))}
+    ended = runs.run(files, words)
+    what = f"{words[0]} in a folder of the other program"
+    want((ended.status, ended.shown, ended.files) == (21, b"", files), f"{what}: {ended.told()}, or left other files")
+
+
+def end_of_exchanged(centre, words, pair, listed):
+    """How a command of a ledger ends over these two flashes, each with the ledger that it holds, if it does, and the ledger that is left
+    then, if one is."""
+    flashes, kept = zip(*pair)
+    if words == ABRE:
+        used = [WORD[device] for device in (0, 1) if ledgers.is_in_use(flashes[device])]
+        return (32, f"ERRO EM USO {used[0]}\n".encode(), None) if used else (0, b"LIVRO 0\n", {})
+    others = [WORD[device] for device in (0, 1) if not centre.is_framed(flashes[device], device)]
+    if others:
+        return 30, f"ERRO OUTRA CARGA {others[0]}\n".encode(), None
+    if kept == (None, None):
+        return 31, b"ERRO SEM IMAGEM\n", None
+    ledger = max((it for it in kept if it is not None), key=len)
+    if words == TOTAIS:
+        return 0, centre.totals(ledger), ledger
+    taking = ledgers.Taking(centre, ledger, listed)
+    return taking.status, taking.shown, taking.ledger
+
+
+def exchanged_ledger(runs, draw):
+    """Flashes that are blank, strange, exchanged for each other or for those of another ledger or of a poll, or have an earlier ledger: a
+    command is refused and changes nothing, or goes on from the later ledger."""
+    centre, other = takings.drawn_centre(draw), takings.drawn_centre(draw)
+    history, strange = takings.drawn_history(centre, draw), takings.drawn_history(other, draw)[-1]
+    pair = []
+    for device in (0, 1):
+        ledger = draw.choice(history)
+        kinds = [
+            (centre.flashes(ledger)[1 - device], None),
+            (centre.frame(device), None),
+            (other.flashes(strange)[device], strange if other.tables == centre.tables else None),
+            (Day(1).flash(device, 2, 1).ljust(ledgers.LENGTH, b"\0"), None),
+            (draw.choice([bytes(ledgers.LENGTH), draw.randbytes(ledgers.LENGTH)]), None),
+        ]
+        pair.append((centre.flashes(ledger)[device], ledger) if draw.random() < 0.5 else draw.choice(kinds))
+    listed = takings.drawn_list(centre, draw, history[-1])
+    files = takings.with_flashes(centre, listed, [flash for flash, _ in pair])
+    words = draw.choice((ABRE, RECEBE, TOTAIS))
+    status, shown, ledger = end_of_exchanged(centre, words, pair, listed)
+    ended = runs.run(files, words)
+    what = f"{words[0]} over exchanged flashes"
+    want((ended.status, ended.shown) == (status, shown), f"{what}: {ended.told()}, and not {status} and {shown!r}")
+    left = [files[name] for name in FLASHES] if ledger is None else centre.flashes(ledger)
+    want(ended.files == {**files, **dict(zip(FLASHES, left))}, f"{what}: left other files")
 
 
 def odd_result(runs, draw):
@@ -73,7 +150,7 @@ def want_shown_part(runs, case, ended, what):
         return
     want(ended.status == 23 and case.usual.shown.startswith(ended.shown), f"{what}: {ended.told()}")
     faults.want_over(runs, case, ended, what)
-    if case.words[0] in ("carga", "emite", "ensaio"):
+    if case.words[0] in ("carga", "emite", "ensaio", "abre"):
         want(ended.files == case.usual.files, f"{what}: left other files")
 
 
@@ -128,10 +205,10 @@ def display_on_a_full_disk(runs, draw):
     want_shown_part(runs, case, ended, f"{' '.join(case.words)} with a display that has room for {PAGE - before} bytes")
 
 
-def want_whole_flashes(files, what):
+def want_whole_flashes(files, length, what):
     """A flash that could not be made is not there, and what is there has its length."""
     for name in FLASHES:
-        want(name not in files or len(files[name]) == LENGTH, f"{what}: {name} has another length")
+        want(name not in files or len(files[name]) == length, f"{what}: {name} has another length")
 
 
 def full_disk(runs, draw):
@@ -147,7 +224,7 @@ def full_disk(runs, draw):
             before = found_in(disk)
             ended = runs.run_in(disk, before, words)
             want(ended.status in (0, *faulty), f"{what}: {ended.told()}")
-            want_whole_flashes(ended.files, what)
+            want_whole_flashes(ended.files, LENGTH, what)
             if ended.status:
                 subprocess.run(["mount", "-o", f"remount,size={4096 * PAGE}", disk], check=True)
                 again = runs.run_in(disk, ended.files, words)
@@ -156,6 +233,25 @@ def full_disk(runs, draw):
     for name, what in sealed.items():
         want(left[name] == what, f"a day on a disk of {pages} pages left another {name}")
     want(set(left) == {*sealed, "p.bu", "p.rdv"}, f"a day on a disk of {pages} pages left {sorted(left)}")
+
+
+def full_disk_of_ledger(runs, draw):
+    """An `abre` where the disk is full at some point; with more room it opens the ledger, and the reports are taken in."""
+    centre = takings.drawn_centre(draw)
+    listed = takings.drawn_list(centre, draw, {})
+    files, taking = centre.documents(listed), ledgers.Taking(centre, {}, listed)
+    pages = draw.choice([draw.randint(40, 300), draw.randint(262, 282)])
+    what = f"abre on a disk of {pages} pages"
+    with small_disk(runs, pages) as disk:
+        fill(disk, files)
+        ended = runs.run_in(disk, files, ABRE)
+        want(ended.status in (0, 21, 22), f"{what}: {ended.told()}")
+        want_whole_flashes(ended.files, ledgers.LENGTH, what)
+        subprocess.run(["mount", "-o", f"remount,size={4096 * PAGE}", disk], check=True)
+        for words, status, shown in ((ABRE, 0, b"LIVRO 0\n"), (RECEBE, taking.status, taking.shown)):
+            ended = runs.run_in(disk, ended.files, words)
+            want((ended.status, ended.shown) == (status, shown), f"{what}, and then with more room {words[0]} {ended.told()}")
+    want(flashes_in(ended.files, what) == centre.flashes(taking.ledger), f"{what}, and then with more room: another ledger is left")
 
 
 def read_only_cases(runs, draw):
@@ -169,6 +265,10 @@ def read_only_cases(runs, draw):
     yield memory.listed_reports(), memory.ENSAIO, 20
     yield memory.listed_reports(), memory.CONFERE, 0
     yield memory.listed_reports(), memory.RECONTA, 0
+    centre = takings.drawn_centre(draw)
+    ledger = takings.drawn_history(centre, draw)[-1]
+    listed = takings.drawn_list(centre, draw, ledger)
+    yield takings.with_flashes(centre, listed, centre.flashes(ledger)), draw.choice((ABRE, RECEBE, TOTAIS)), 21
 
 
 def want_read_only(ended, files, words, status, what):
@@ -240,9 +340,9 @@ def has_mounts(runs):
 
 def surroundings(runs):
     """What can be tried on this machine. What can't is told."""
-    found = [odd_flash, odd_result, flash_as_result, no_display, closed_display, full_display]
+    found = [odd_flash, odd_ledger, other_program, exchanged_ledger, odd_result, flash_as_result, no_display, closed_display, full_display]
     if has_mounts(runs):
-        found += [display_on_a_full_disk, full_disk, read_only_disk]
+        found += [display_on_a_full_disk, full_disk, full_disk_of_ledger, read_only_disk]
     else:
         print("note: no file system can be mounted here, so a disk that is full or can only be read is left out", flush=True)
     prefix = other_user(runs.program)
