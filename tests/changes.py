@@ -1,18 +1,25 @@
-"""Inputs that are cut at each length, or of which each byte is another: a command ends with a status that docs/FORMATS.md has, no
-changed report is accepted, and of a changed record what a reader of its own tells."""
+"""Inputs that are cut at each length, or of which each byte is another: a command of either program ends with a status that docs/FORMATS.md
+has, no changed report is accepted, and of a changed record what a reader of its own tells."""
 
 import itertools
+import random
 import re
 
+import ledgers
 import memory
 import recounts
-from commands import CARGA, VOTA, want
+import takings
+from commands import ABRE, CARGA, RECEBE, TOTAIS, VOTA, want
 from held import with_flashes
 from polls import FLASHES, Day
 
 VERDICT = rb"PARTE (FORMA|VERSAO|NUMERO|HASH|CORTE) \d+\n"
 KEYS_LINE = re.compile(rb"M (?:ABRE|ENCERRA) (\d{14})|M TITULO \d{12}|M (?:LIBERA|CANCELA|SUSPENDE)|E [0-9BRC]+")
 DAY = Day(3)
+# A counting centre with a report, and a list of a new one, that one once more, and one that is none.
+CENTRE = ledgers.Centre([3, 2])
+KEPT, NEW = (CENTRE.report(random.Random(place), place) for place in (0, 1))
+LEDGER, LISTED = {0: KEPT}, {"r1": NEW, "r2": KEPT, "r3": CENTRE.faulty(random.Random("none"))}
 # Keys of every form, of a session that goes from the beginning to the seal.
 KEYS = f"{DAY.keys(0, 2)}M TITULO {2:012}\nM CANCELA\nM TITULO {2:012}\nM LIBERA\nE 45C\nM SUSPENDE\n{DAY.keys(3)}".encode()
 
@@ -133,18 +140,64 @@ def try_keys(runs, files, what):
     want((again.status, again.shown) == (0, told), f"{what}, vota with no keys: {again.told()}, not {told!r}")
 
 
-def try_flash(runs, files, what):
-    """A flash of which bytes are others, which no cut leaves: the command ends by itself."""
-    for words in (VOTA, CARGA):
+def want_ledger(files, ended, ledger, what):
+    """Both flashes are at rest with this ledger, and no other file changed."""
+    left = {**files, **dict(zip(FLASHES, CENTRE.flashes(ledger)))}
+    want(ended.files == left, f"{what}: {ended.told()}, and left another ledger, or other files")
+
+
+def try_offer(runs, files, what):
+    """A changed report is taken in by no ledger."""
+    ended = runs.run(files, RECEBE)
+    is_left_out = re.fullmatch(rb"LIVRO 1\n1 " + VERDICT, ended.shown)
+    want(ended.status == 6 and is_left_out, f"{what}, recebe: {ended.told()}")
+    want_ledger(files, ended, LEDGER, what)
+
+
+def try_intake(runs, files, what):
+    """The list of a counting centre: what stands before a name that isn't there is taken in."""
+    ended = runs.run(files, RECEBE)
+    line = faulty_name(files["list"])
+    if line:
+        want((ended.status, ended.shown) == (4, f"ERRO LINHA {line}\n".encode()), f"{what}: {ended.told()}")
+        return want_ledger(files, ended, LEDGER, what)
+    names = [name.decode() for name in lines_of(files["list"])]
+    front = list(itertools.takewhile(lambda name: name in LISTED, names))
+    # A name may stand there twice.
+    taking = ledgers.Taking(CENTRE, LEDGER, {number: LISTED[name] for number, name in enumerate(front)})
+    status, shown = taking.status, taking.shown
+    if len(front) < len(names):
+        other = names[len(front)]
+        is_under_file = "/" in other and other.split("/")[0] in files
+        status, shown = (20, shown) if is_under_file else (12, shown + b"ERRO FALTA BOLETIM\n")
+    want((ended.status, ended.shown) == (status, shown), f"{what}: {ended.told()}, and not {status} and {shown!r}")
+    want_ledger(files, ended, taking.ledger, what)
+
+
+def try_ledger(runs, files, what):
+    """Tables that are others than those of the ledger."""
+    for words in (RECEBE, TOTAIS, ABRE):
         ended = runs.run(files, words)
-        want(ended.status in (0, 30, 31, 32), f"{what}, {words[0]}: {ended.told()}")
+        want(ended.status in (3, 32 if words == ABRE else 30) and ended.shown.startswith(b"ERRO "), f"{what}, {words[0]}: {ended.told()}")
+        want(ended.files == files, f"{what}, {words[0]}: left other files")
+
+
+def try_flash(runs, files, commands, statuses, what):
+    """A flash of which bytes are others, which no cut leaves: the command ends by itself."""
+    for words in commands:
+        ended = runs.run(files, words)
+        want(ended.status in statuses, f"{what}, {words[0]}: {ended.told()}")
 
 
 def inputs():
     """Each input with the files around it and what is tried."""
     listed = memory.listed_reports()
     loaded = with_flashes(DAY, "", DAY.flashes(2, 0))
+    counted = takings.with_flashes(CENTRE, LISTED, CENTRE.flashes(LEDGER))
     return [
+        ("r1", {**counted, "list": b"r1\n"}, try_offer),
+        ("list", counted, try_intake),
+        ("tables", counted, try_ledger),
         ("a.bu", {**listed, "list": b"a.bu\n"}, try_report),
         ("list", listed, try_list),
         ("a.rdv", listed, try_record),
@@ -178,15 +231,18 @@ def try_change(runs, draw, name, files, tries, at, way):
 
 
 def try_flashes(runs, draw):
-    """Some bytes of a flash are others."""
+    """Some bytes of a flash of a poll, or of a ledger, are others."""
     state = draw.randrange(DAY.last + 1)
-    files = with_flashes(DAY, DAY.keys(state), DAY.flashes(draw.choice((1, 2)), state))
+    of_poll = with_flashes(DAY, DAY.keys(state), DAY.flashes(draw.choice((1, 2)), state)), 67072, (VOTA, CARGA), (0, 30, 31, 32)
+    flashes = CENTRE.flashes(draw.choice([{}, LEDGER]))
+    of_ledger = takings.with_flashes(CENTRE, LISTED, flashes), ledgers.GATES[1] + 512, (RECEBE, TOTAIS, ABRE), (0, 6, 30, 31, 32)
+    files, second, commands, statuses = draw.choice([of_poll, of_poll, of_ledger])
     name = draw.choice(FLASHES)
     flash = bytearray(files[name])
     for _ in range(draw.randint(1, 8)):
-        at = draw.choice([draw.randrange(len(flash)), draw.randrange(1200), 67072 + draw.randrange(700)])
+        at = draw.choice([draw.randrange(len(flash)), draw.randrange(1200), second + draw.randrange(700)])
         flash[at] = draw.randrange(256)
-    try_flash(runs, {**files, name: bytes(flash)}, f"{name} with changed bytes")
+    try_flash(runs, {**files, name: bytes(flash)}, commands, statuses, f"{name} with changed bytes")
 
 
 def trials(runs, drawn):

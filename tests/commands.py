@@ -1,8 +1,10 @@
 """What the trials of this folder share: commands that end by themselves, files, and what is wanted."""
 
+import fcntl
 import os
 import shutil
 import subprocess
+import time
 
 CARGA = ["carga", "tables", "roll", "1", "42"]
 VOTA = ["vota", "tables", "roll", "keys", "o"]
@@ -41,6 +43,26 @@ def answer(run):
     except subprocess.TimeoutExpired:
         run.kill()
         raise Violation(f"{run.args} did not end")
+
+
+def killed(run, lines, seconds):
+    """Kills a command so long after so many lines, if it still runs then. Answers what it showed."""
+    pipe = run.stdout.fileno()
+    # A small pipe, so that the program can't run far ahead of the lines that were read.
+    fcntl.fcntl(pipe, fcntl.F_SETPIPE_SZ, 4096)
+    shown = b""
+    while shown.count(b"\n") < lines:
+        piece = os.read(pipe, 256)
+        if not piece:
+            break
+        shown += piece
+    time.sleep(seconds)
+    run.kill()
+    while piece := os.read(pipe, 4096):
+        shown += piece
+    run.wait()
+    run.stdout.close()
+    return shown
 
 
 def ended(program, words, **how):
