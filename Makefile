@@ -8,20 +8,21 @@ LEDGER = $(CURDIR)/crates/ledger_app/out/ledger_app
 # The minutes are those of four idle processors. A proof that was made before and where nothing has changed takes seconds.
 list:
 	@echo "make try          the example day, compiled without a proof: a minute"
-	@echo "make demo         urna proved and built, a rehearsal of 400 voters, the example day, that day with a flash lost in the middle of it, the totals of an election with a federation, and an election with two senators on real files in out/demo: 20 minutes from nothing, then seconds"
-	@echo "make urna         the program, proved and built, and beside it, in urna_app.txt, of which commit and with which kit: part of a demo"
-	@echo "make urna_ledger  the counting centre's program, proved and built, and beside it ledger_app.txt: a few minutes after a demo"
+	@echo "make demo         both programs proved and built, a rehearsal of 400 voters, the example day, that day with a flash lost in the middle of it, the totals of an election with a federation, an election with two senators, and the ledger of a counting centre, killed in the middle, on real files in out/demo: 20 minutes from nothing, then seconds"
+	@echo "make urna         urna, proved and built, and beside it, in urna_app.txt, of which commit and with which kit: part of a demo"
+	@echo "make urna_ledger  the same of the counting centre's program, with ledger_app.txt: part of a demo"
+	@echo "make programs     the same of both: part of a demo"
 	@echo "make test         the gate, each proof from nothing, each edit that must be refused, each test and program, and check-house: an hour"
 	@echo "make check-house  names, sessions and lines of the documents and the sources: seconds"
 	@echo "make bench        how long sessions, commits, the reading of tables, the text of a report, its file, a check of it, a recount, the totals of many reports, the seats and a rehearsal take, as ratios to plainer programs, and what changed since the last time: a few minutes after a demo"
-	@echo "make crash-trial  the program on real files, with a lost flash too, and as many killed sessions as TRIALS says, drawn by SEED: a few minutes after a demo"
+	@echo "make crash-trial  both programs on real files, with a lost flash too, and as many killed sessions and ledgers as TRIALS says, drawn by SEED: a few minutes after a demo"
 	@echo "make hostile      both programs with refused memory, failing calls, odd surroundings, power cuts, exchanged flashes and changed inputs, drawn by SEED, for as long as MINUTES says: ten minutes after a demo"
 
 try:
 	@examples/try
 
-demo: urna
-	@examples/run "$(URNA)" "$(CURDIR)/out/demo"
+demo: programs
+	@examples/run "$(URNA)" "$(LEDGER)" "$(CURDIR)/out/demo"
 
 test:
 	.ci/run
@@ -32,8 +33,8 @@ check-house:
 bench: urna
 	bench/run
 
-crash-trial: urna
-	tests/crash-trial "$(URNA)" $(TRIALS) $(SEED)
+crash-trial: programs
+	tests/crash-trial "$(URNA)" "$(LEDGER)" $(TRIALS) $(SEED)
 
 hostile: programs
 	tests/hostile "$(URNA)" "$(LEDGER)" $(MINUTES) $(SEED)
