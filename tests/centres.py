@@ -49,8 +49,8 @@ def in_new_folder(work, files):
     place(files.keys(), files.values())
 
 
-def write_list(listed):
-    files = CENTRE.documents(listed)
+def write_list(listed, centre=CENTRE):
+    files = centre.documents(listed)
     place(files.keys(), files.values())
 
 
@@ -97,11 +97,11 @@ def statuses(work, urna, program):
     want(content("external.flash") == CENTRE.flashes({0: report})[1], "a refused command wrote on a flash")
 
 
-def want_totals(urna, program, ledger, what):
+def want_totals(urna, program, centre, ledger, what):
     """The sums are those of the writer, and those that `totaliza` tells of the accepted reports."""
     sums = ended(program, TOTAIS)
-    want_run(sums, 0, CENTRE.totals(ledger).decode(), f"{what}, totais")
-    write_list(ledger_list(ledger))
+    want_run(sums, 0, centre.totals(ledger).decode(), f"{what}, totais")
+    write_list(ledger_list(ledger), centre)
     status, totals = ended(urna, TOTALIZA)
     same = lines_of_sums(totals.encode()) == sums[1].encode().splitlines()
     want(status == 0 and same, f"{what}: totaliza ended with {status}, or tells other sums than totais")
@@ -121,9 +121,37 @@ def days(work, urna, program):
         want_run(ended(program, RECEBE), taking.status, taking.shown.decode(), f"a list over {len(ledger)} reports")
         ledger = taking.ledger
         want_rest(ledger, "a list that was taken in")
-        want_totals(urna, program, ledger, f"{len(ledger)} reports")
+        want_totals(urna, program, CENTRE, ledger, f"{len(ledger)} reports")
     want(len(ledger) == len(CENTRE.voters), "some section has no report")
     want_rest(ledger, "totais")
+
+
+def largest(work, urna, program):
+    """A ledger of as many sections as there may be, with reports of the first and of the last, and of many parts."""
+    voters = [2] * 1999 + [600]
+    centre, draw = Centre(voters, 999), random.Random("largest")
+    ledger = {place: centre.report(draw, place) for place in (1999, 0, 7, 8, 1000)}
+    files = centre.documents(ledger_list(ledger))
+    in_new_folder(work, files)
+    want_run(ended(program, ABRE), 0, "LIVRO 0\n", "abre for 2000 sections")
+    taking = Taking(centre, {}, ledger_list(ledger))
+    want_run(ended(program, RECEBE), 0, taking.shown.decode(), "reports of some of 2000 sections")
+    want(flashes() == centre.flashes(ledger), "a ledger of 2000 sections is not that of the writer")
+    want_totals(urna, program, centre, ledger, "a ledger of 2000 sections")
+
+
+def closed_descriptors(work, urna, program):
+    """No flash and no report stands under a standard descriptor that was closed."""
+    listed = ledger_list({0: CENTRE.report(random.Random("closed"), 0)})
+    taking = Taking(CENTRE, {}, listed)
+    for closed in ((0,), (1,), (2,), (0, 1, 2)):
+        in_new_folder(work, CENTRE.documents(listed))
+        hidden = 1 in closed
+        want_run(ended(program, ABRE, closed=closed), 23 if hidden else 0, "" if hidden else "LIVRO 0\n", f"abre without {closed}")
+        want_rest({}, f"abre without {closed}")
+        shown = "" if hidden else taking.shown.decode()
+        want_run(ended(program, RECEBE, closed=closed), 23 if hidden else 0, shown, f"recebe without {closed}")
+        want_rest({} if hidden else taking.ledger, f"recebe without {closed}")
 
 
 def other_folders(work, urna, program):
@@ -159,7 +187,7 @@ def two_at_once(work, urna, program):
         want_rest(taking.ledger, "two at once")
 
 
-CHECKS = (statuses, days, other_folders, two_at_once)
+CHECKS = (statuses, days, largest, closed_descriptors, other_folders, two_at_once)
 
 
 class Counting:
@@ -210,7 +238,7 @@ class Counting:
         write_list(taking.listed)
         want_run(ended(self.runs.ledger, RECEBE), taking.status, taking.shown.decode(), "the rest of the reports")
         want_rest(reports, "the rest of the reports")
-        want_totals(urna, self.runs.ledger, reports, "all sections")
+        want_totals(urna, self.runs.ledger, CENTRE, reports, "all sections")
 
 
 def trials(work, urna, program, library, count, counts):

@@ -41,7 +41,8 @@ def odd_ledger(runs, draw):
     centre, device = takings.drawn_centre(draw), draw.randrange(2)
     ledger = takings.drawn_history(centre, draw)[-1]
     flashes = centre.flashes(ledger)
-    odd = [FOLDER, FIFO, Link("nowhere"), Link("/dev/null"), b"", flashes[device][:-1], flashes[device] + b"\0", bytes(LENGTH), Link(FLASHES[1 - device])]
+    sizes = [b"", flashes[device][:-1], flashes[device] + b"\0", bytes(LENGTH)]
+    odd = [FOLDER, FIFO, Link("nowhere"), Link("/dev/null"), *sizes, Link(FLASHES[1 - device])]
     thing = draw.choice(odd)
     files = {**takings.with_flashes(centre, takings.drawn_list(centre, draw, ledger), flashes), FLASHES[device]: thing}
     words = draw.choice((ABRE, RECEBE, TOTAIS))
