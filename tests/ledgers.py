@@ -202,6 +202,32 @@ class Centre:
         return [bytes(flash) for flash in flashes]
 
 
+    def strange_body(self, draw, ledger):
+        """A body that stands for no ledger: that of one with a thing changed, and what that is."""
+        body, number = bytearray(self.body(ledger)), len(ledger)
+        free = draw.choice([place for place in range(2000) if place not in ledger])
+        past = draw.randrange(len(self.voters), 2000)
+        sums = sum(map(len, self.choices))
+        kind = draw.choice(["version", "front", "fewer", "more", "a section that isn't there", "behind the marks", "hash", "sum", "end"])
+        if kind in ("fewer", "more", "a section that isn't there"):
+            body[4:8] = (number + (-1 if kind == "fewer" else 1)).to_bytes(4, "big")
+        if kind == "a section that isn't there":
+            body[8 + past // 8] |= 128 >> past % 8
+        if kind == "sum":
+            at = SUMS + 8 * draw.randrange(sums)
+            body[at : at + 8] = (9999 * number + 1).to_bytes(8, "big")
+        ranges = {
+            "version": range(1),
+            "front": range(1, 4),
+            "behind the marks": range(258, 512),
+            "hash": range(HASHES + 64 * free, HASHES + 64 * free + 64),
+            "end": range(SUMS + 8 * sums, BODY),
+        }
+        if kind in ranges:
+            body[draw.choice(ranges[kind])] = draw.randint(2, 255)
+        return bytes(body), kind
+
+
 def votes_of(bag, kind):
     """All votes of a kind."""
     return sum(votes for (its, _), votes in bag.items() if its == kind)

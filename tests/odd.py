@@ -1,5 +1,5 @@
-"""Odd surroundings: something else in the place of a flash, the flashes of the other program, exchanged flashes of a ledger, a display that
-closes in the middle of a line or has no room, a folder that can't be written, and a disk that is full."""
+"""Odd surroundings: something else in the place of a flash, the flashes of the other program, exchanged flashes of a ledger or such ones with
+strange bodies, a display that closes in the middle of a line or has no room, a folder that can't be written, and a disk that is full."""
 
 import contextlib
 import itertools
@@ -13,6 +13,7 @@ import ledgers
 import memory
 import takings
 from commands import ABRE, CARGA, EMITE, RECEBE, REPOE, TOTAIS, VOTA, WORD, want
+from cuts import mixed_slots
 from held import flashes_in, held, with_flashes
 from polls import FLASHES, LENGTH, Day
 from runs import FIFO, FOLDER, Link, fill, found_in
@@ -110,6 +111,28 @@ def exchanged_ledger(runs, draw):
     want((ended.status, ended.shown) == (status, shown), f"{what}: {ended.told()}, and not {status} and {shown!r}")
     left = [files[name] for name in FLASHES] if ledger is None else centre.flashes(ledger)
     want(ended.files == {**files, **dict(zip(FLASHES, left))}, f"{what}: left other files")
+
+
+def strange_bodies(runs, draw):
+    """Slots that are open with a body of greater number that stands for no ledger don't count; one whose sums are the greatest does."""
+    centre = takings.drawn_centre(draw)
+    place = draw.randrange(len(centre.voters))
+    ledger = {it: centre.report(draw, it) for it in range(len(centre.voters)) if it != place and draw.random() < 0.5}
+    votes = tuple(dict.fromkeys(choices, 9999) for choices in centre.choices)
+    later = {**ledger, place: centre.report(draw, place)._replace(votes=votes)}
+    kinds = []
+
+    def body(is_sure):
+        if is_sure:
+            return centre.body(ledger)
+        strange, kind = centre.strange_body(draw, later)
+        kinds.append(kind)
+        return strange
+
+    flashes = mixed_slots(draw, centre.frames(), ledgers.GATES, body)
+    what = f"slots with another body ({', '.join(kinds)})"
+    takings.held(runs, centre, flashes, [ledger], what)
+    takings.held(runs, centre, centre.flashes(later), [later], "the greatest sums")
 
 
 def odd_result(runs, draw):
@@ -341,7 +364,8 @@ def has_mounts(runs):
 
 def surroundings(runs):
     """What can be tried on this machine. What can't is told."""
-    found = [odd_flash, odd_ledger, other_program, exchanged_ledger, odd_result, flash_as_result, no_display, closed_display, full_display]
+    found = [odd_flash, odd_ledger, other_program, exchanged_ledger, strange_bodies]
+    found += [odd_result, flash_as_result, no_display, closed_display, full_display]
     if has_mounts(runs):
         found += [display_on_a_full_disk, full_disk, full_disk_of_ledger, read_only_disk]
     else:
