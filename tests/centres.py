@@ -1,5 +1,5 @@
 """The counting centre's program on real files, for tests/crash-trial: how it ends, a ledger from its opening to the last section, both
-programs in one folder, and sessions of `recebe` that are killed, or in which a call fails, and go on.
+programs in one folder, and runs of `abre` and `recebe` that are killed, or in which a call fails, and go on.
 
 Behind each of these both flashes, and each alone, hold the ledger with the first of the listed reports: as many as verdicts had begun to be
 shown, or one more (tests/takings.py). At last a report of each section is there once, and the sums are those that `totaliza`, a command of
@@ -193,10 +193,17 @@ CHECKS = (statuses, days, largest, closed_descriptors, other_folders, two_at_onc
 class Counting:
     """The flashes of one ledger in the working folder, and what they hold."""
 
-    def __init__(self, runs, library):
+    def __init__(self, runs, library, seconds=0.0):
+        """The ledger is opened, in some cases behind openings that are killed within so many seconds."""
         self.runs, self.library, self.ledger = runs, library, {}
         in_new_folder(runs.work, CENTRE.documents({}))
+        for _ in range(random.randint(0, 2)):
+            killed(started(runs.ledger, ABRE), 0, random.random() * seconds)
         want_run(ended(runs.ledger, ABRE), 0, "LIVRO 0\n", "abre")
+        want_rest({}, "abre")
+        # The other name of a flash may have been left by a killed one.
+        left = set(os.listdir()) - {f"{name}.new" for name in FLASHES}
+        want(left == {"tables", "list", *FLASHES}, f"an opening left {left}")
 
     def started(self, **how):
         """A `recebe` of a drawn list, which is begun, and what it takes in."""
@@ -249,7 +256,7 @@ def trials(work, urna, program, library, count, counts):
     answer(run)
     commit = (time.perf_counter() - start) / (1 + len(taking.ledger))
     while counts["ledgers"] < count and time.perf_counter() - begun < LONGEST:
-        counting = Counting(runs, library)
+        counting = Counting(runs, library, 2 * commit)
         for _ in range(random.randint(1, 4)):
             was_killed, ahead = counting.kill(random.random() * 3 * commit)
             counts["kills of recebe"] += was_killed
