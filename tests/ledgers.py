@@ -206,13 +206,13 @@ class Centre:
         """A body that stands for no ledger: that of one with a thing changed, and what that is."""
         body, number = bytearray(self.body(ledger)), len(ledger)
         free = draw.choice([place for place in range(2000) if place not in ledger])
-        past = draw.randrange(len(self.voters), 2000)
+        past = one_of(draw, range(len(self.voters), 2000))
         sums = sum(map(len, self.choices))
         kind = draw.choice(["version", "front", "fewer", "more", "a section that isn't there", "behind the marks", "hash", "sum", "end"])
-        if kind in ("fewer", "more", "a section that isn't there"):
-            body[4:8] = (number + (-1 if kind == "fewer" else 1)).to_bytes(4, "big")
         if kind == "a section that isn't there":
             body[8 + past // 8] |= 128 >> past % 8
+        if kind in ("fewer", "more") or (kind == "a section that isn't there" and draw.random() < 0.5):
+            body[4:8] = (number + (-1 if kind == "fewer" else 1)).to_bytes(4, "big")
         if kind == "sum":
             at = SUMS + 8 * draw.randrange(sums)
             body[at : at + 8] = (9999 * number + 1).to_bytes(8, "big")
@@ -224,8 +224,13 @@ class Centre:
             "end": range(SUMS + 8 * sums, BODY),
         }
         if kind in ranges:
-            body[draw.choice(ranges[kind])] = draw.randint(2, 255)
+            body[one_of(draw, ranges[kind])] = draw.randint(2, 255)
         return bytes(body), kind
+
+
+def one_of(draw, places):
+    """The first of these, the last, or any."""
+    return draw.choice([places[0], places[-1], draw.choice(places)])
 
 
 def votes_of(bag, kind):
