@@ -18,6 +18,7 @@ from commands import (
     RECEBE,
     REPOE,
     TOTAIS,
+    TOTALIZA,
     VOTA,
     answer,
     content,
@@ -32,7 +33,7 @@ from commands import (
 from ledgers import Centre, Taking
 from polls import FLASHES, Day
 from runs import Runs
-from takings import TOTALIZA, drawn_list, lines_of_sums, want_held
+from takings import drawn_list, lines_of_sums, want_held
 
 # An election of some sections, of which two have reports of several parts.
 CENTRE = Centre([*range(1, 59), 400, 500], 60)

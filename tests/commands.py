@@ -9,6 +9,7 @@ import time
 CARGA = ["carga", "tables", "roll", "1", "42"]
 VOTA = ["vota", "tables", "roll", "keys", "o"]
 EMITE = ["emite", "tables", "roll", "p"]
+TOTALIZA = ["totaliza", "tables", "list"]
 # The word of each flash, and the command that loads it from the other one.
 WORD = ("INTERNA", "EXTERNA")
 REPOE = [["repoe", "tables", "roll", word.lower()] for word in WORD]

@@ -8,11 +8,11 @@ from errno import ENOMEM
 import ledgers
 import polls
 import takings
-from commands import ABRE, CARGA, EMITE, RECEBE, REPOE, TOTAIS, VOTA, want
+from commands import ABRE, CARGA, EMITE, RECEBE, REPOE, TOTAIS, TOTALIZA, VOTA, want
 from parts import parts_file
 from polls import FLASHES, LENGTH
 
-CONFERE, TOTALIZA, ENSAIO = ["confere", "tables", "a.bu"], ["totaliza", "tables", "list"], ["ensaio", "1"]
+CONFERE, ENSAIO = ["confere", "tables", "a.bu"], ["ensaio", "1"]
 RECONTA = ["reconta", "a.bu", "a.rdv"]
 # The files of a rehearsal.
 REHEARSED = tuple(f"ensaio.{end}" for end in ("toml", "rol", "teclas", "flash", "bu", "rdv"))

@@ -8,13 +8,11 @@ tells of the accepted reports."""
 
 import itertools
 
-from commands import ABRE, RECEBE, TOTAIS, Violation, want
+from commands import ABRE, RECEBE, TOTAIS, TOTALIZA, Violation, want
 from cuts import cut, drawn_fault, mixed_slots
 from held import flashes_in, looks
 from ledgers import GATES, LENGTH, Centre, Taking, is_in_use
 from polls import FLASHES
-
-TOTALIZA = ["totaliza", "tables", "list"]
 
 
 def with_flashes(centre, listed, flashes):
