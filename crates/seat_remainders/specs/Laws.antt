@@ -1,5 +1,5 @@
 -- What is so of all contests, and of all candidates
-use Rattle.std.specs.Prelude.{◌≡◌, ◌↔◌, ℕ, Bool, true, false, ◌+◌, ◌-◌, ◌/◌, ◌≤◌, ◌<◌, List, [], ◌∷◌, ◌++◌, length, take, sum_by}
+use Rattle.std.specs.Prelude.{◌≡◌, ◌↔◌, ℕ, Bool, true, false, ◌+◌, ◌-◌, ◌/◌, ◌≤◌, ◌<◌, List, [], ◌∷◌, ◌++◌, length, take, sum_by, nat_lt}
 use Rattle.std.specs.List.{AllByRecursion}
 use Rattle.std.specs.List.Sorted.{IsPermutation}
 use Rattle.seat_remainders.specs.declared.contest.Entry.{Entry}
@@ -13,8 +13,8 @@ use Rattle.seat_remainders.specs.Candidates.{in_order, AreInOrder}
 use Rattle.seat_remainders.specs.Contest.{PartiesRise}
 use Rattle.seat_remainders.specs.Parties.{nominal_votes, quotient_of, first_phase}
 use Rattle.quotients.specs.Average.{AverageData}
-use Rattle.seat_remainders.specs.Table.{AreAverages, IsTable, awards_for, awards_of, limit_of, seats_left}
-use Rattle.seat_remainders.specs.Rounds.{meets_minimums, next_phase, average_of, TakesSeat, EachFollows, AreRounds}
+use Rattle.seat_remainders.specs.Table.{AreAverages, IsTable, awards_for, awards_of, limit_of, most_seats, seats_left}
+use Rattle.seat_remainders.specs.Rounds.{is_eligible, seats_after, meets_minimums, next_phase, average_of, TakesSeat, EachFollows, AreRounds}
 use Rattle.seat_remainders.specs.Outcome.{AreSeats, IsOver, IsOutcome, is_without_quotient, is_over}
 use Rattle.seat_remainders.specs.Computed.{outcome_of}
 use Rattle.seat_remainders.specs.Majority.{majority_outcome, NobodyHasMajority}
@@ -85,6 +85,10 @@ FrontsAreRounds = (contest : Contest) (two three : List AverageData) → 1 ≤ q
 abbrev pub AwardsAreAverages : Type 0
 AwardsAreAverages = (contest : Contest) (s : SeatsData) → PartiesRise contest.parties → AreSeats contest s
     → (later : List Award) × (s.awards ≡ awards_for 2 (take (seats_left contest) s.averages) ++ later) × AllByRecursion (λ award. award.phase ≡ 3) later
+
+-- a party is eligible while it has fewer seats than it can have at most
+abbrev pub EligibleBelowMost : Type 0
+EligibleBelowMost = (qe : ℕ) (before : List Award) (phase : ℕ) (p : Contestant) → is_eligible qe before phase p ≡ nat_lt (seats_after qe before p) (most_seats qe phase p)
 
 -- candidates in their order stand in order
 abbrev pub StandInOrder : Type 0

@@ -6,6 +6,13 @@ use crate::contest::Entry;
 use crate::outcome::Numbers;
 use urna_base::Memory;
 
+/// Puts candidates in their order (arts. 109, paragraph 1, and 110).
+pub fn sort_candidates(candidates: &mut [Entry])
+    ensures { candidates.new ≡ in_order candidates.old }
+{
+    candidates.sort_unstable();
+}
+
 /// The elected of a party, behind those of others: the first of its candidates, as many as it has seats, of whom each has at least so many
 /// votes. Its candidates are looked at in `room`, which serves one party after the other.
 pub(crate) fn push_elected(
@@ -50,7 +57,7 @@ fn first_of(candidates: &mut [Entry], count: usize) -> &[Entry]
         first.sort_unstable();
         first
     } else {
-        candidates.sort_unstable();
+        sort_candidates(candidates);
         candidates
     }
 }

@@ -1,5 +1,5 @@
 //! What is so of all contests, and of all candidates. Each function here does nothing: its contract is the law.
-ghost use Rattle.seat_remainders.specs.Laws.{AreTheSame, AwardsAreAverages, EachSeatIsFilled, FrontIsPhaseTwo, FrontsAreRounds, HasOneOutcome, HasOneTable, HasOutcome, NextTakesSeat, NoAveragesWithoutSeats, NoQuotientAtZero, NobodyWithoutVotes, OverBeyondAllSeats, OverOnlyBelowHalf, RunoffWithoutMajority, SeatsAddUp, StandInOrder};
+ghost use Rattle.seat_remainders.specs.Laws.{AreTheSame, AwardsAreAverages, EachSeatIsFilled, EligibleBelowMost, FrontIsPhaseTwo, FrontsAreRounds, HasOneOutcome, HasOneTable, HasOutcome, NextTakesSeat, NoAveragesWithoutSeats, NoQuotientAtZero, NobodyWithoutVotes, OverBeyondAllSeats, OverOnlyBelowHalf, RunoffWithoutMajority, SeatsAddUp, StandInOrder};
 
 /// A contest has exactly one outcome, which can be computed, and the numbers of the contest say of which kind it is.
 pub fn outcomes()
@@ -27,6 +27,12 @@ pub fn tables()
     ensures phase_two { FrontIsPhaseTwo }
     ensures fronts { FrontsAreRounds }
     ensures awards { AwardsAreAverages }
+{}
+
+/// A party is eligible in a round while it has fewer seats than it can have at most by the round's phase, so that eligibility is told by what
+/// is counted of the party once.
+pub fn eligible()
+    ensures { EligibleBelowMost }
 {}
 
 /// The candidates in their order are the same candidates, each before all that are behind it.

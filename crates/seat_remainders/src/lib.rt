@@ -22,8 +22,11 @@ mod votes;
 
 pub use contest::{Contest, Contestant, Contestants, Entries, Entry};
 pub use distribution::distribute;
+pub use elected::sort_candidates;
 pub use majority_rule::majority;
 pub use outcome::{
     Averages, Award, Awards, MajorityOutcome, Numbers, Outcome, PartySeatList, PartySeats, Seats,
 };
+pub use standing::{Standing, most_seats, standing_of};
 pub use table::averages;
+pub use votes::valid_votes;

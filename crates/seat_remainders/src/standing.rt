@@ -14,14 +14,14 @@ use urna_base::Memory;
 
 /// A party: its number, its valid votes, how many of its candidates have at least 10% of the quotient, its seats of the first phase (arts. 107 and
 /// 108), and how many seats it can have at most by phase 2 and by phase 3 (art. 109).
-#[derive(Clone, Copy, Debug, PartialEq, Eq)]
-pub(crate) struct Standing {
-    pub(crate) party: u8,
-    pub(crate) votes: u64,
-    pub(crate) able: u32,
-    pub(crate) first: u32,
-    pub(crate) most_in_two: u32,
-    pub(crate) most_in_three: u32,
+#[derive(Clone, Copy, Debug, Default, PartialEq, Eq)]
+pub struct Standing {
+    pub party: u8,
+    pub votes: u64,
+    pub able: u32,
+    pub first: u32,
+    pub most_in_two: u32,
+    pub most_in_three: u32,
 }
 
 /// What is counted of each party, in their order.
@@ -80,8 +80,8 @@ fn counts_of(candidates: &[Entry], qe: u64) -> Counts
     }
 }
 
-/// What is counted of one party.
-fn standing_of(party: &Contestant, qe: u64) -> Standing
+/// What is counted of one party. The caller owes that the quotient isn't 0, and that it and the party's votes are at most 10^12.
+pub fn standing_of(party: &Contestant, qe: u64) -> Standing
     requires votes { votes_of party.now ≤ 10 ^ 12 }
     requires some { 1 ≤ qe }
     requires quotient { qe ≤ 10 ^ 12 }
@@ -151,7 +151,7 @@ pub(crate) fn least_votes(standing: &Standing, seats: u32, qe: u64) -> u64
 }
 
 /// How many seats a party can have at most by this phase, which is 2 or 3.
-pub(crate) fn most_seats(standing: &Standing, phase: u8) -> u32
+pub fn most_seats(standing: &Standing, phase: u8) -> u32
     ensures { result ≡ most_by phase standing.now }
 {
     if phase == 2 {

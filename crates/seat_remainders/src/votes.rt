@@ -20,8 +20,8 @@ pub(crate) fn votes_of(party: &Contestant) -> u64
     party.party_votes + nominal_votes(party.candidates.as_slice())
 }
 
-/// The valid votes of all parties.
-pub(crate) fn valid_votes(contest: &Contest) -> u64
+/// The valid votes of all parties. The caller owes that they are at most 10^12.
+pub fn valid_votes(contest: &Contest) -> u64
     requires { valid_votes contest.now.parties ≤ 10 ^ 12 }
     ensures { result ≡ valid_votes contest.now.parties }
 {

@@ -2,7 +2,7 @@ use Rattle.std.proofs.Common.{ℕ, take, sym, ap, ◌∙◌, arith}
 use Rattle.std.proofs.lemmas.List.{take_all}
 use Rattle.seat_remainders.specs.Candidates.{in_order}
 use Rattle.seat_remainders.proofs.Ordered.{in_order-length}
-use Rattle.seat_remainders.proofs.Sorting.{front_is, sorted_is}
+use Rattle.seat_remainders.proofs.Sorting.{front_is}
 use Rattle.seat_remainders.proofs.elected.first_of.Goals as goal
 
 pub returns-then-count-candidates : goal.returns-then-count-candidates
@@ -13,6 +13,5 @@ returns-then-count-candidates c =
 
 pub returns-else-count-candidates : goal.returns-else-count-candidates
 returns-else-count-candidates c =
-    let sorted = c.sort_unstable-else-count-candidates.ensures in
     let len = in_order-length c.args.candidates.now in
-    sorted_is c.args.candidates.now _ sorted.permutation sorted.sorted ∙ sym (take_all c.args.count (in_order c.args.candidates.now) (omega (arith, c.if-count-candidates.false, c.requires)))
+    c.sort_candidates.ensures ∙ sym (take_all c.args.count (in_order c.args.candidates.now) (omega (arith, c.if-count-candidates.false, c.requires)))
