@@ -1,0 +1,23 @@
+pub mod Members
+pub mod Lawful
+pub mod Faults
+pub mod Outcomes
+pub mod BlocsOfLaw
+pub mod Checked
+pub mod Made
+pub mod Listed
+pub mod Codes
+pub mod Pieces
+pub mod WordReading
+pub mod LineReading
+pub mod RoundReading
+pub mod Machine
+pub mod Steps
+pub mod Reached
+pub mod Fronts
+pub mod Complete
+pub mod Plain
+pub mod TextLaws
+pub mod Passing
+pub mod Spellable
+mod Rows

@@ -1,0 +1,86 @@
+-- The list of substitutes, one bloc after the other
+use Rattle.std.proofs.Common.{◌≡◌, ℕ, ◌+◌, ◌≤◌, ◌<◌, true, nat_le, List, [], ◌∷◌, ◌++◌, length, map, take, drop, get_or, Option, Some, sym, ap, ◌∙◌, append-nil, append_assoc, arith}
+use Rattle.std.specs.Prelude.{option_map, slice_get}
+use Rattle.std.specs.List.{flat_map}
+use Rattle.std.proofs.lemmas.Bool.Decides.{nat_tests}
+use Rattle.std.proofs.lemmas.List.{length-map, length-take-le, take_more}
+use Rattle.std.proofs.lemmas.List.Concat.{flat_map-append}
+use Rattle.std.proofs.lemmas.Option.{slice_get-get_or, slice_get-map}
+use Rattle.seat_remainders.specs.declared.contest.Contestant.{Contestant}
+use Rattle.seat_remainders.specs.declared.contest.Entry.{Entry}
+use Rattle.seat_remainders.specs.declared.outcome.Award.{Award}
+use Rattle.seat_remainders.specs.declared.outcome.PartySeats.{PartySeats}
+use Rattle.seat_remainders.specs.Candidates.{in_order}
+use Rattle.seat_remainders.specs.Outcome.{AreSeats, party_seats}
+use Rattle.seat_remainders.specs.Contest.{PartiesRise}
+use Rattle.seat_remainders.specs.declared.contest.Contest.{Contest}
+use Rattle.seat_remainders.specs.declared.outcome.Seats.{Seats as SeatsData}
+use Rattle.seat_remainders.specs.Rounds.{seats_after}
+use Rattle.seat_certificate.specs.declared.substitute.Substitute.{Substitute}
+use Rattle.seat_certificate.specs.Substitutes.{ranked_from, substitutes_of, substitutes_with}
+use Rattle.seat_remainders.proofs.Results.{candidates_at}
+use Rattle.seat_certificate.proofs.Members.{some_same}
+
+-- one candidate more
+ranked-append : (bloc rank : ℕ) (xs : List Entry) (x : Entry) → ranked_from bloc rank (xs ++ x ∷ []) ≡ ranked_from bloc rank xs ++ record { bloc = bloc; rank = rank + length xs; number = x.number } ∷ []
+ranked-append bloc rank [] x = ap (λ (n : ℕ). (let s : Substitute = record { bloc = bloc; rank = n; number = x.number } in s) ∷ []) (omega arith)
+ranked-append bloc rank (y ∷ xs) x =
+    let rest = ranked-append bloc (rank + 1) xs x in
+    ap (λ (l : List Substitute). (let s : Substitute = record { bloc = bloc; rank = rank; number = y.number } in s) ∷ l)
+    (rest ∙ ap (λ (n : ℕ). ranked_from bloc (rank + 1) xs ++ (let s : Substitute = record { bloc = bloc; rank = n; number = x.number } in s) ∷ []) (omega arith))
+
+-- one bloc more
+pub listed_more : (qe : ℕ) (awards : List Award) (parties : List Contestant) (i : ℕ) (p : Contestant) → i < length parties → p ≡ get_or parties i p
+    → flat_map (substitutes_of qe awards) (take (i + 1) parties) ≡ flat_map (substitutes_of qe awards) (take i parties) ++ substitutes_of qe awards p
+listed_more qe awards parties i p lt at =
+    ap (λ (l : List Contestant). flat_map (substitutes_of qe awards) l) (take_more parties i p lt ∙ ap (λ (q : Contestant). take i parties ++ q ∷ []) (sym at))
+    ∙ flat_map-append (substitutes_of qe awards) (take i parties) (p ∷ [])
+    ∙ ap (λ (l : List Substitute). flat_map (substitutes_of qe awards) (take i parties) ++ l) (append-nil (substitutes_of qe awards p))
+
+-- what the seats tell of a bloc
+pub seats_of_bloc : (qe : ℕ) (awards : List Award) (parties : List Contestant) (told : List PartySeats) (i : ℕ) (p : Contestant) (q : PartySeats) → told ≡ map (party_seats qe awards) parties → i < length parties → p ≡ get_or parties i p
+    → slice_get told i ≡ Some q → q.seats ≡ seats_after qe awards p
+seats_of_bloc qe awards parties told i p q is lt at stands =
+    let here : slice_get told i ≡ Some (party_seats qe awards p) =
+    ap (λ (l : List PartySeats). slice_get l i) is ∙ slice_get-map (party_seats qe awards) parties i ∙ ap (λ (o : Option Contestant). option_map (party_seats qe awards) o) (slice_get-get_or parties i p lt ∙ ap (λ (c : Contestant). Some c) (sym at)) in
+    ap (λ (s : PartySeats). s.seats) (some_same q (party_seats qe awards p) (sym stands ∙ here))
+
+-- one more of a bloc, behind those of others
+pub ranked_push : (list old new : List Substitute) (bloc i : ℕ) (xs : List Entry) (d : Entry) → i < length xs → old ≡ list ++ ranked_from bloc 1 (take i xs)
+    → new ≡ old ++ record { bloc = bloc; rank = i + 1; number = (get_or xs i d).number } ∷ [] → new ≡ list ++ ranked_from bloc 1 (take (i + 1) xs)
+ranked_push list old new bloc i xs d lt so_far pushed =
+    let one : List Substitute = record { bloc = bloc; rank = i + 1; number = (get_or xs i d).number } ∷ [] in
+    let len = length-take-le i xs (omega arith) in
+    let more : ranked_from bloc 1 (take (i + 1) xs) ≡ ranked_from bloc 1 (take i xs) ++ one =
+    ap (λ (l : List Entry). ranked_from bloc 1 l) (take_more xs i d lt)
+    ∙ ranked-append bloc 1 (take i xs) (get_or xs i d)
+    ∙ ap (λ (n : ℕ). ranked_from bloc 1 (take i xs) ++ (let s : Substitute = record { bloc = bloc; rank = n; number = (get_or xs i d).number } in s) ∷ []) (omega arith) in
+    pushed ∙ ap (λ (l : List Substitute). l ++ one) so_far ∙ append_assoc list (ranked_from bloc 1 (take i xs)) one ∙ ap (λ (l : List Substitute). list ++ l) (sym more)
+
+-- the substitutes of a bloc, behind those of others
+pub with_seat : (p : Contestant) (seats : ℕ) (list new : List Substitute) (room slice others : List Entry) → 0 < seats → slice ≡ p.candidates → room ≡ in_order slice → others ≡ drop seats room → new ≡ list ++ ranked_from p.number 1 others
+    → new ≡ list ++ substitutes_with seats p
+with_seat p seats list new room slice others some items ordered behind pushed =
+    let test : nat_le 1 seats ≡ true = grind (arith, nat_tests) in
+    rw test (pushed ∙ ap (λ (l : List Entry). list ++ ranked_from p.number 1 l) (behind ∙ ap (λ (l : List Entry). drop seats l) (ordered ∙ ap (λ (l : List Entry). in_order l) items)))
+
+-- one bloc more of the seats
+pub listed_push : (contest : Contest) (s : SeatsData) (items : List Contestant) (old new : List Substitute) (i : ℕ) (p : Contestant) (q : PartySeats) → AreSeats contest s → items ≡ contest.parties → i < length items → p ≡ get_or items i p
+    → slice_get s.parties i ≡ Some q → old ≡ flat_map (substitutes_of s.quotient s.awards) (take i items) → new ≡ old ++ substitutes_with q.seats p → new ≡ flat_map (substitutes_of s.quotient s.awards) (take (i + 1) items)
+listed_push contest s items old new i p q given same lt at told so_far pushed =
+    let parties = given.parties ∙ ap (λ (l : List Contestant). map (party_seats s.quotient s.awards) l) (sym same) in
+    let seats = seats_of_bloc s.quotient s.awards items s.parties i p q parties lt at told in
+    pushed ∙ ap (λ (l : List Substitute). l ++ substitutes_with q.seats p) so_far ∙ ap (λ (n : ℕ). flat_map (substitutes_of s.quotient s.awards) (take i items) ++ substitutes_with n p) seats ∙ sym (listed_more s.quotient s.awards items i p lt at)
+
+-- a bloc has as many candidates as seats, or more
+pub few_seats : (contest : Contest) (s : SeatsData) (items : List Contestant) (i : ℕ) (p : Contestant) (q : PartySeats) → AreSeats contest s → PartiesRise contest.parties → items ≡ contest.parties → i < length items → p ≡ get_or items i p
+    → slice_get s.parties i ≡ Some q → q.seats ≤ length p.candidates
+few_seats contest s items i p q given rise same lt at told =
+    let parties = given.parties ∙ ap (λ (l : List Contestant). map (party_seats s.quotient s.awards) l) (sym same) in
+    let seats = seats_of_bloc s.quotient s.awards items s.parties i p q parties lt at told in
+    let most = candidates_at s.quotient _ s.vacant contest.parties items s.awards i p given.rounds rise same lt at in
+    omega (arith, seats, most)
+
+-- as many are counted as there are places
+pub same_count : (contest : Contest) (s : SeatsData) (items : List Contestant) → AreSeats contest s → items ≡ contest.parties → length s.parties ≡ length items
+same_count contest s items given same = ap (λ (l : List PartySeats). length l) given.parties ∙ length-map contest.parties (party_seats s.quotient s.awards) ∙ sym (ap (λ (l : List Contestant). length l) same)

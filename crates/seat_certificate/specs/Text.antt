@@ -1,0 +1,134 @@
+-- The text of a certificate of an office, and the first fault of any other text (docs/FORMATS.md, "Certificate")
+use Rattle.std.specs.Prelude.{◌≡◌, ◌⊎◌, ℕ, ◌+◌, ◌^◌, ◌≤◌, ◌<◌, true, List, [], ◌∷◌, ◌++◌, length, map, take, flat_map, codes}
+use Rattle.std.specs.Fmt.{decimal}
+use Rattle.std.specs.List.{AllByRecursion}
+use Rattle.election_tables.specs.Offices.{code_proportional}
+use Rattle.quotients.specs.Average.{AverageData}
+use Rattle.seat_remainders.specs.declared.contest.Contest.{Contest}
+use Rattle.seat_certificate.specs.declared.certificate.Certificate.{Certificate}
+use Rattle.seat_certificate.specs.declared.certificate.FirstLine.{FirstLine}
+use Rattle.seat_certificate.specs.declared.certificate.Round.{Round}
+
+-- ---- which certificates have a text
+
+-- the most lines of the first phase, and the most rounds
+abbrev pub most_first_lines : ℕ
+most_first_lines = 40
+
+abbrev pub most_rounds : ℕ
+most_rounds = 200
+
+-- a bloc has a number of two digits
+abbrev pub IsBloc : ℕ → Type 0
+IsBloc p = (10 ≤ p) × (p ≤ 99)
+
+-- a number that a decimal of at most 18 digits writes
+abbrev pub IsDecimalNumber : ℕ → Type 0
+IsDecimalNumber n = n < 10 ^ 18
+
+-- and one of 32 bits
+abbrev pub IsNarrow : ℕ → Type 0
+IsNarrow n = n < 2 ^ 32
+
+-- numbers rise from above this one, each greater than the one before it
+abbrev pub RiseAbove : ℕ → List ℕ → Type 0
+RiseAbove last [] = Unit {0}
+RiseAbove last (n ∷ numbers) = (last < n) × RiseAbove n numbers
+
+pub record LineFits (l : FirstLine) : Type 0 where
+  pub party : IsBloc l.party
+  pub quotient : IsDecimalNumber l.quotient
+  pub able : IsNarrow l.able
+  pub seats : IsNarrow l.seats
+
+pub record AverageFits (a : AverageData) : Type 0 where
+  pub party : IsBloc a.party
+  pub votes : IsDecimalNumber a.votes
+  pub some : 1 ≤ a.divisor
+  pub divisor : IsNarrow a.divisor
+
+pub record RoundFits (r : Round) : Type 0 where
+  pub phase : (r.phase ≡ 2) ⊎ (r.phase ≡ 3)
+  pub party : IsBloc r.party
+  pub averages : AllByRecursion AverageFits r.averages
+  pub rise : RiseAbove 0 (map (λ a. a.party) r.averages)
+
+-- a certificate of a proportional office that has a text: its numbers are decimals, and its blocs rise
+pub record HasText (code : ℕ) (c : Certificate) : Type 0 where
+  pub office : code_proportional code ≡ true
+  pub quotient : IsDecimalNumber c.quotient
+  pub first : AllByRecursion LineFits c.first
+  pub few_lines : length c.first ≤ most_first_lines
+  pub rise : RiseAbove 0 (map (λ l. l.party) c.first)
+  pub rounds : AllByRecursion RoundFits c.rounds
+  pub few_rounds : length c.rounds ≤ most_rounds
+  pub vacant : IsNarrow c.vacant
+
+-- a contest of at most 40 blocs, each with a number of two digits
+pub record HasFewBlocs (contest : Contest) : Type 0 where
+  pub few : length contest.parties ≤ most_first_lines
+  pub numbers : AllByRecursion (λ p. IsBloc p.number) contest.parties
+  pub candidates : AllByRecursion (λ p. IsNarrow (length p.candidates)) contest.parties
+
+-- ---- the text
+
+abbrev pub office_line : ℕ → List ℕ
+office_line code = codes "CARGO " ++ decimal code
+
+abbrev pub quotient_line : ℕ → List ℕ
+quotient_line q = codes "QUOCIENTE " ++ decimal q
+
+abbrev pub bloc_line : FirstLine → List ℕ
+bloc_line l = codes "PARTIDO " ++ (decimal l.party ++ (codes " QP " ++ (decimal l.quotient ++ (codes " APTOS " ++ (decimal l.able ++ (codes " VAGAS " ++ (decimal l.seats)))))))
+
+-- an average behind a space, as bloc, votes and divisor
+abbrev pub average_word : AverageData → List ℕ
+average_word a = codes " " ++ (decimal a.party ++ (codes ":" ++ (decimal a.votes ++ (codes "/" ++ (decimal a.divisor)))))
+
+-- round number k
+abbrev pub round_line : ℕ → Round → List ℕ
+round_line k r = codes "RODADA " ++ (decimal k ++ (codes " FASE " ++ (decimal r.phase ++ (codes " VENCE " ++ (decimal r.party ++ (flat_map average_word r.averages))))))
+
+-- rounds, the first of them with this number
+abbrev pub round_lines : ℕ → List Round → List (List ℕ)
+round_lines k [] = []
+round_lines k (r ∷ rounds) = round_line k r ∷ round_lines (k + 1) rounds
+
+abbrev pub vacant_line : ℕ → List ℕ
+vacant_line m = codes "VAZIAS " ++ decimal m
+
+-- the lines of a certificate of the office of a code
+abbrev pub certificate_lines : ℕ → Certificate → List (List ℕ)
+certificate_lines code c =
+    codes "CERT U1" ∷ office_line code ∷ quotient_line c.quotient ∷ map bloc_line c.first ++ (round_lines 1 c.rounds ++ (vacant_line c.vacant ∷ codes "FIM" ∷ []))
+
+-- lines as a text, each with a line feed (10) behind it
+abbrev pub text_of : List (List ℕ) → List ℕ
+text_of lines = flat_map (λ line. line ++ 10 ∷ []) lines
+
+-- its text
+unfoldable pub certificate_text : ℕ → Certificate → List ℕ
+certificate_text code c = text_of (certificate_lines code c)
+
+-- ---- what a text is
+
+-- a text spells a certificate of the office of a code
+pub record Spells (bytes : List ℕ) (code : ℕ) (c : Certificate) : Type 0 where
+  pub fits : HasText code c
+  pub text : bytes ≡ certificate_text code c
+
+-- the first k lines of a text, each with its line feed, are those of this certificate
+abbrev pub BeginsAs : ℕ → List ℕ → ℕ → Certificate → Type 0
+BeginsAs k bytes code c = (k ≤ length (certificate_lines code c)) × (rest : List ℕ) × (bytes ≡ text_of (take k (certificate_lines code c)) ++ rest)
+
+-- Line number k is the first that may not stand there: the lines before it are those of some certificate that has a text, no such certificate has these and this line,
+-- and the whole text is none's. A line that is missing or has no line feed may not stand there, nor may a line behind the last.
+pub record IsFirstBadLine (bytes : List ℕ) (k : ℕ) : Type 0 where
+  pub place : ℕ
+  pub number : k ≡ place + 1
+  pub code : ℕ
+  pub certificate : Certificate
+  pub fits : HasText code certificate
+  pub before : BeginsAs place bytes code certificate
+  pub here : (n : ℕ) (c : Certificate) → HasText n c → BeginsAs (place + 1) bytes n c → ⊥
+  pub whole : (n : ℕ) (c : Certificate) → Spells bytes n c → ⊥
