@@ -1,9 +1,11 @@
 -- The list of substitutes, one bloc after the other
-use Rattle.std.proofs.Common.{◌≡◌, ℕ, ◌+◌, ◌≤◌, ◌<◌, true, nat_le, List, [], ◌∷◌, ◌++◌, length, map, take, drop, get_or, Option, Some, sym, ap, ◌∙◌, append-nil, append_assoc, arith}
+use Rattle.std.proofs.Common.{◌≡◌, ℕ, ◌+◌, ◌≤◌, ◌<◌, true, nat_le, List, [], ◌∷◌, ◌++◌, length, map, take, drop, get_or, Option, Some, refl, sym, ap, ◌∙◌, subst, append-nil, append_assoc, arith}
 use Rattle.std.specs.Prelude.{option_map, slice_get}
 use Rattle.std.specs.List.{flat_map}
 use Rattle.std.proofs.lemmas.Bool.Decides.{nat_tests}
-use Rattle.std.proofs.lemmas.List.{length-map, length-take-le, take_more}
+use Rattle.std.proofs.lemmas.List.{length-map, length-take-le, map-append, take-append-drop, take_more}
+use Rattle.std.specs.List.Sorted.{IsPermutation}
+use Rattle.std.proofs.lemmas.List.Sorted.{IsPermutation-map}
 use Rattle.std.proofs.lemmas.List.Concat.{flat_map-append}
 use Rattle.std.proofs.lemmas.Option.{slice_get-get_or, slice_get-map}
 use Rattle.seat_remainders.specs.declared.contest.Contestant.{Contestant}
@@ -11,13 +13,14 @@ use Rattle.seat_remainders.specs.declared.contest.Entry.{Entry}
 use Rattle.seat_remainders.specs.declared.outcome.Award.{Award}
 use Rattle.seat_remainders.specs.declared.outcome.PartySeats.{PartySeats}
 use Rattle.seat_remainders.specs.Candidates.{in_order}
-use Rattle.seat_remainders.specs.Outcome.{AreSeats, party_seats}
+use Rattle.seat_remainders.specs.Outcome.{AreSeats, elected_of, party_seats}
 use Rattle.seat_remainders.specs.Contest.{PartiesRise}
 use Rattle.seat_remainders.specs.declared.contest.Contest.{Contest}
 use Rattle.seat_remainders.specs.declared.outcome.Seats.{Seats as SeatsData}
 use Rattle.seat_remainders.specs.Rounds.{seats_after}
 use Rattle.seat_certificate.specs.declared.substitute.Substitute.{Substitute}
 use Rattle.seat_certificate.specs.Substitutes.{ranked_from, substitutes_of, substitutes_with}
+use Rattle.seat_remainders.proofs.Ordered.{in_order-permutation}
 use Rattle.seat_remainders.proofs.Results.{candidates_at}
 use Rattle.seat_certificate.proofs.Members.{some_same}
 
@@ -84,3 +87,23 @@ few_seats contest s items i p q given rise same lt at told =
 -- as many are counted as there are places
 pub same_count : (contest : Contest) (s : SeatsData) (items : List Contestant) → AreSeats contest s → items ≡ contest.parties → length s.parties ≡ length items
 same_count contest s items given same = ap (λ (l : List PartySeats). length l) given.parties ∙ length-map contest.parties (party_seats s.quotient s.awards) ∙ sym (ap (λ (l : List Contestant). length l) same)
+
+-- ---- elected and substitutes
+
+ranked-numbers : (bloc rank : ℕ) (xs : List Entry) → map (λ (s : Substitute). s.number) (ranked_from bloc rank xs) ≡ map (λ (c : Entry). c.number) xs
+ranked-numbers bloc rank [] = refl
+ranked-numbers bloc rank (x ∷ xs) = ap (λ (l : List ℕ). x.number ∷ l) (ranked-numbers bloc (rank + 1) xs)
+
+pub all_candidates : (qe : ℕ) (awards : List Award) (p : Contestant) → 1 ≤ seats_after qe awards p
+    → IsPermutation (map (λ (c : Entry). c.number) p.candidates) (elected_of qe awards p ++ map (λ (s : Substitute). s.number) (substitutes_of qe awards p))
+all_candidates qe awards p some =
+    let n = seats_after qe awards p in
+    let sorted = in_order p.candidates in
+    let number : Entry → ℕ = λ c. c.number in
+    let seated : nat_le 1 n ≡ true = grind (arith, nat_tests) in
+    let others : substitutes_of qe awards p ≡ ranked_from p.number 1 (drop n sorted) = rw seated refl in
+    let together : map number sorted ≡ elected_of qe awards p ++ map (λ (s : Substitute). s.number) (substitutes_of qe awards p) =
+    ap (λ (l : List Entry). map number l) (sym (take-append-drop n sorted))
+    ∙ map-append number (take n sorted) (drop n sorted)
+    ∙ ap (λ (l : List ℕ). map number (take n sorted) ++ l) (sym (ap (λ (l : List Substitute). map (λ (s : Substitute). s.number) l) others ∙ ranked-numbers p.number 1 (drop n sorted))) in
+    subst (λ (l : List ℕ). IsPermutation (map number p.candidates) l) together (IsPermutation-map number p.candidates sorted (in_order-permutation p.candidates))

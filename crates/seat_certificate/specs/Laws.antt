@@ -1,15 +1,20 @@
 -- What a valid certificate says
-use Rattle.std.specs.Prelude.{◌≡◌, ◌⊎◌, ℕ, true, ◌+◌, ◌==◌, List, map, count_by}
+use Rattle.std.specs.Prelude.{◌≡◌, ◌⊎◌, ℕ, true, ◌+◌, ◌≤◌, ◌==◌, List, ◌++◌, map, count_by}
+use Rattle.std.specs.List.Sorted.{IsPermutation}
 use Rattle.seat_remainders.specs.declared.contest.Contest.{Contest}
+use Rattle.seat_remainders.specs.declared.contest.Contestant.{Contestant}
+use Rattle.seat_remainders.specs.declared.outcome.Award.{Award}
 use Rattle.seat_remainders.specs.declared.outcome.Outcome.{Outcome}
 use Rattle.seat_remainders.specs.declared.outcome.Outcome.TheVariants as outcome
 use Rattle.seat_remainders.specs.declared.outcome.Seats.{Seats as SeatsData}
 use Rattle.election_tables.specs.Offices.{code_proportional}
 use Rattle.seat_remainders.specs.Contest.{IsContest}
-use Rattle.seat_remainders.specs.Outcome.{IsOutcome}
+use Rattle.seat_remainders.specs.Outcome.{AreSeats, IsOutcome, elected_of}
+use Rattle.seat_remainders.specs.Rounds.{seats_after}
 use Rattle.seat_certificate.specs.declared.certificate.Certificate.{Certificate}
 use Rattle.seat_certificate.specs.declared.certificate.FirstLine.{FirstLine}
-use Rattle.seat_certificate.specs.Certificate.{awards_in}
+use Rattle.seat_certificate.specs.Certificate.{awards_in, certificate_of}
+use Rattle.seat_certificate.specs.Substitutes.{substitutes_of}
 use Rattle.seat_certificate.specs.Text.{HasFewBlocs, HasText, IsFirstBadLine, Spells}
 use Rattle.seat_certificate.specs.Valid.{IsValid}
 
@@ -29,9 +34,18 @@ pub record Tells (c : Certificate) (s : SeatsData) : Type 0 where
 abbrev pub ValidTellsOutcome : Type 0
 ValidTellsOutcome = (contest : Contest) (c : Certificate) (o : Outcome) → IsValid contest c → IsOutcome contest o → (s : SeatsData) × (o ≡ outcome.Seats s) × Tells c s
 
+-- where a contest comes to seats, their certificate is valid
+abbrev pub SeatsAreCertified : Type 0
+SeatsAreCertified = (contest : Contest) (s : SeatsData) → AreSeats contest s → IsValid contest (certificate_of contest s)
+
 -- a contest has one valid certificate at most
 abbrev pub OneIsValid : Type 0
 OneIsValid = (contest : Contest) (c d : Certificate) → IsValid contest c → IsValid contest d → c ≡ d
+
+-- the elected and the substitutes of a bloc with a seat are all its candidates, each once
+abbrev pub ElectedAndSubstitutesAreAll : Type 0
+ElectedAndSubstitutesAreAll = (qe : ℕ) (awards : List Award) (p : Contestant) → 1 ≤ seats_after qe awards p
+    → IsPermutation (map (λ c. c.number) p.candidates) (elected_of qe awards p ++ map (λ s. s.number) (substitutes_of qe awards p))
 
 -- ---- texts
 

@@ -4,8 +4,7 @@ ghost use Rattle.seat_remainders.specs.declared.outcome.Seats.{Seats as SeatsDat
 ghost use Rattle.seat_remainders.specs.Contest.{IsContest};
 ghost use Rattle.seat_remainders.specs.Outcome.{AreSeats};
 ghost use Rattle.seat_remainders.specs.Parties.{first_phase, valid_votes};
-ghost use Rattle.seat_remainders.specs.Rounds.{EachFollows};
-ghost use Rattle.seat_certificate.specs.Certificate.{EachIsLawful, awards_in, first_lines};
+ghost use Rattle.seat_certificate.specs.Certificate.{first_lines, rounds_of};
 ghost use Rattle.seat_certificate.specs.Valid.{IsValid};
 
 use crate::blocs::{blocs_of, competing, give_seat};
@@ -70,11 +69,8 @@ fn rounds_of(alloc: Global, contest: &Contest, qe: u64, awards: &[Award]) -> Res
     requires contest { IsContest contest.now }
     requires some { 1 ≤ qe }
     requires quotient { qe ≤ 10 ^ 12 }
-    requires few { length awards.now < 2 ^ 32 }
     requires within { first_phase qe contest.now.parties + length awards.now ≤ contest.now.seats }
-    requires each { EachFollows qe contest.now.parties [] awards.now }
-    ensures awards { IfOk result (λ rounds. awards_in rounds ≡ awards.now) }
-    ensures lawful { IfOk result (λ rounds. EachIsLawful contest.now qe rounds) }
+    ensures { IfOk result (λ rounds. rounds ≡ rounds_of qe contest.now.parties [] awards.now) }
 {
     let mut blocs = blocs_of(contest, qe);
     let mut rounds = Rounds::new(alloc);
