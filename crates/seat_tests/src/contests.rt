@@ -67,7 +67,7 @@ fn party_of(alloc: Global, piece: &str) -> Result<Option<Contestant>, Memory> {
 }
 
 /// The contest of a row.
-fn contest_of(alloc: Global, row: &str) -> Result<Option<Contest>, Memory> {
+pub(crate) fn contest_of(alloc: Global, row: &str) -> Result<Option<Contest>, Memory> {
     let Some((seats, pieces)) = row.split_once(" seats, ") else {
         return Ok(None);
     };
