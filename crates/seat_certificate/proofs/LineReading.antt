@@ -3,8 +3,9 @@ use Rattle.std.proofs.Common.{◌≡◌, ℕ, ◌^◌, ◌≤◌, ◌<◌, List,
 use Rattle.std.specs.Prelude.{codes}
 use Rattle.std.specs.Fmt.{decimal}
 use Rattle.urna_base.specs.Words.{pieces}
+use Rattle.seat_certificate.specs.declared.table.TheConstants.{TABLE}
 use Rattle.seat_certificate.specs.declared.certificate.FirstLine.{FirstLine}
-use Rattle.seat_certificate.specs.Reading.{at_end, bloc_at, keyed, most_decimal, most_narrow, one_number}
+use Rattle.seat_certificate.specs.Reading.{at_end, bloc_at, keyed, one_number}
 use Rattle.seat_certificate.specs.Text.{LineFits, bloc_line}
 use Rattle.seat_certificate.proofs.Pieces.{Lacks, number_first, number_last, word_first, words_join}
 use Rattle.seat_certificate.proofs.WordReading.{bind_some, end_some, keyed_read, keyed_written}
@@ -35,44 +36,44 @@ one_read word low high n line h =
 -- ---- a line of the first phase
 
 bloc_words : (l : FirstLine) → LineFits l
-    → pieces (bloc_line l) ≡ codes "PARTIDO" ∷ decimal l.party ∷ codes "QP" ∷ decimal l.quotient ∷ codes "APTOS" ∷ decimal l.able ∷ codes "VAGAS" ∷ decimal l.seats ∷ []
+    → pieces (bloc_line l) ≡ TABLE.party.word ∷ decimal l.party ∷ TABLE.party_quotient.word ∷ decimal l.quotient ∷ TABLE.able.word ∷ decimal l.able ∷ TABLE.seats.word ∷ decimal l.seats ∷ []
 bloc_words l fits =
     let s = number_last l.seats (omega (arith, fits.seats)) in
     let a = number_first l.able (codes "VAGAS " ++ decimal l.seats) (omega (arith, fits.able)) in
     let q = number_first l.quotient (codes "APTOS " ++ (decimal l.able ++ (codes " VAGAS " ++ (decimal l.seats)))) fits.quotient in
     let p = number_first l.party (codes "QP " ++ (decimal l.quotient ++ (codes " APTOS " ++ (decimal l.able ++ (codes " VAGAS " ++ (decimal l.seats)))))) (omega (arith, fits.party.1)) in
-    word_first (codes "PARTIDO") (decimal l.party ++ (codes " QP " ++ (decimal l.quotient ++ (codes " APTOS " ++ (decimal l.able ++ (codes " VAGAS " ++ decimal l.seats)))))) refl
-    ∙ ap (λ (ws : List (List ℕ)). codes "PARTIDO" ∷ ws) (p
-    ∙ ap (λ (ws : List (List ℕ)). decimal l.party ∷ codes "QP" ∷ ws) (q
-    ∙ ap (λ (ws : List (List ℕ)). decimal l.quotient ∷ codes "APTOS" ∷ ws) (a
-    ∙ ap (λ (ws : List (List ℕ)). decimal l.able ∷ codes "VAGAS" ∷ ws) s)))
+    word_first TABLE.party.word (decimal l.party ++ (codes " QP " ++ (decimal l.quotient ++ (codes " APTOS " ++ (decimal l.able ++ (codes " VAGAS " ++ decimal l.seats)))))) refl
+    ∙ ap (λ (ws : List (List ℕ)). TABLE.party.word ∷ ws) (p
+    ∙ ap (λ (ws : List (List ℕ)). decimal l.party ∷ TABLE.party_quotient.word ∷ ws) (q
+    ∙ ap (λ (ws : List (List ℕ)). decimal l.quotient ∷ TABLE.able.word ∷ ws) (a
+    ∙ ap (λ (ws : List (List ℕ)). decimal l.able ∷ TABLE.seats.word ∷ ws) s)))
 
 pub bloc_written : (l : FirstLine) → LineFits l → bloc_at (bloc_line l) ≡ Some l
 unfolding bloc_at
 bloc_written l fits =
-    let p = keyed_written (codes "PARTIDO") 10 99 l.party (codes "QP" ∷ decimal l.quotient ∷ codes "APTOS" ∷ decimal l.able ∷ codes "VAGAS" ∷ decimal l.seats ∷ []) fits.party.0 fits.party.1 (omega (arith, fits.party.1)) in
-    let q = keyed_written (codes "QP") 0 most_decimal l.quotient (codes "APTOS" ∷ decimal l.able ∷ codes "VAGAS" ∷ decimal l.seats ∷ []) (omega arith) (omega (arith, fits.quotient)) fits.quotient in
-    let a = keyed_written (codes "APTOS") 0 most_narrow l.able (codes "VAGAS" ∷ decimal l.seats ∷ []) (omega arith) (omega (arith, fits.able)) (omega (arith, fits.able)) in
-    let s = keyed_written (codes "VAGAS") 0 most_narrow l.seats [] (omega arith) (omega (arith, fits.seats)) (omega (arith, fits.seats)) in
+    let p = keyed_written TABLE.party.word TABLE.party.low TABLE.party.high l.party (TABLE.party_quotient.word ∷ decimal l.quotient ∷ TABLE.able.word ∷ decimal l.able ∷ TABLE.seats.word ∷ decimal l.seats ∷ []) fits.party.0 fits.party.1 (omega (arith, fits.party.1)) in
+    let q = keyed_written TABLE.party_quotient.word TABLE.party_quotient.low TABLE.party_quotient.high l.quotient (TABLE.able.word ∷ decimal l.able ∷ TABLE.seats.word ∷ decimal l.seats ∷ []) (omega arith) (omega (arith, fits.quotient)) fits.quotient in
+    let a = keyed_written TABLE.able.word TABLE.able.low TABLE.able.high l.able (TABLE.seats.word ∷ decimal l.seats ∷ []) (omega arith) (omega (arith, fits.able)) (omega (arith, fits.able)) in
+    let s = keyed_written TABLE.seats.word TABLE.seats.low TABLE.seats.high l.seats [] (omega arith) (omega (arith, fits.seats)) (omega (arith, fits.seats)) in
     rw (bloc_words l fits, p, q, a, s) refl
 
 pub bloc_read : (line : List ℕ) (l : FirstLine) → bloc_at line ≡ Some l → LineFits l × (line ≡ bloc_line l)
 unfolding bloc_at
 bloc_read line l h =
-    let p = bind_some (keyed (codes "PARTIDO") 10 99 (pieces line)) _ l h in
-    let q = bind_some (keyed (codes "QP") 0 most_decimal p.0.1) _ l p.2 in
-    let a = bind_some (keyed (codes "APTOS") 0 most_narrow q.0.1) _ l q.2 in
-    let s = bind_some (keyed (codes "VAGAS") 0 most_narrow a.0.1) _ l a.2 in
-    let kp = keyed_read (codes "PARTIDO") 10 99 (pieces line) p.0 p.1 in
-    let kq = keyed_read (codes "QP") 0 most_decimal p.0.1 q.0 q.1 in
-    let ka = keyed_read (codes "APTOS") 0 most_narrow q.0.1 a.0 a.1 in
-    let ks = keyed_read (codes "VAGAS") 0 most_narrow a.0.1 s.0 s.1 in
+    let p = bind_some (keyed TABLE.party.word TABLE.party.low TABLE.party.high (pieces line)) _ l h in
+    let q = bind_some (keyed TABLE.party_quotient.word TABLE.party_quotient.low TABLE.party_quotient.high p.0.1) _ l p.2 in
+    let a = bind_some (keyed TABLE.able.word TABLE.able.low TABLE.able.high q.0.1) _ l q.2 in
+    let s = bind_some (keyed TABLE.seats.word TABLE.seats.low TABLE.seats.high a.0.1) _ l a.2 in
+    let kp = keyed_read TABLE.party.word TABLE.party.low TABLE.party.high (pieces line) p.0 p.1 in
+    let kq = keyed_read TABLE.party_quotient.word TABLE.party_quotient.low TABLE.party_quotient.high p.0.1 q.0 q.1 in
+    let ka = keyed_read TABLE.able.word TABLE.able.low TABLE.able.high q.0.1 a.0 a.1 in
+    let ks = keyed_read TABLE.seats.word TABLE.seats.low TABLE.seats.high a.0.1 s.0 s.1 in
     let e = end_some (record { party = p.0.0; quotient = q.0.0; able = a.0.0; seats = s.0.0 }) l s.0.1 s.2 in
     let made : FirstLine = record { party = p.0.0; quotient = q.0.0; able = a.0.0; seats = s.0.0 } in
-    let words : pieces line ≡ codes "PARTIDO" ∷ decimal p.0.0 ∷ codes "QP" ∷ decimal q.0.0 ∷ codes "APTOS" ∷ decimal a.0.0 ∷ codes "VAGAS" ∷ decimal s.0.0 ∷ [] =
-    kp.words ∙ ap (λ (ws : List (List ℕ)). codes "PARTIDO" ∷ decimal p.0.0 ∷ ws) (kq.words
-    ∙ ap (λ (ws : List (List ℕ)). codes "QP" ∷ decimal q.0.0 ∷ ws) (ka.words
-    ∙ ap (λ (ws : List (List ℕ)). codes "APTOS" ∷ decimal a.0.0 ∷ ws) (ks.words
-    ∙ ap (λ (ws : List (List ℕ)). codes "VAGAS" ∷ decimal s.0.0 ∷ ws) e.0))) in
+    let words : pieces line ≡ TABLE.party.word ∷ decimal p.0.0 ∷ TABLE.party_quotient.word ∷ decimal q.0.0 ∷ TABLE.able.word ∷ decimal a.0.0 ∷ TABLE.seats.word ∷ decimal s.0.0 ∷ [] =
+    kp.words ∙ ap (λ (ws : List (List ℕ)). TABLE.party.word ∷ decimal p.0.0 ∷ ws) (kq.words
+    ∙ ap (λ (ws : List (List ℕ)). TABLE.party_quotient.word ∷ decimal q.0.0 ∷ ws) (ka.words
+    ∙ ap (λ (ws : List (List ℕ)). TABLE.able.word ∷ decimal a.0.0 ∷ ws) (ks.words
+    ∙ ap (λ (ws : List (List ℕ)). TABLE.seats.word ∷ decimal s.0.0 ∷ ws) e.0))) in
     let fits : LineFits made = record { party = (kp.least, kp.most); quotient = kq.few; able = omega (arith, ka.most); seats = omega (arith, ks.most) } in
     subst (λ (m : FirstLine). LineFits m × (line ≡ bloc_line m)) e.1 (fits, words_join line _ words)

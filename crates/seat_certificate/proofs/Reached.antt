@@ -1,7 +1,8 @@
 -- Every state between two lines is on the way to a certificate.
 use Rattle.std.proofs.Common.{◌≡◌, ℕ, suc, ◌+◌, ◌≤◌, List, [], ◌∷◌, ◌++◌, length, take, drop, map, true, Option, None, Some, refl, sym, ap, ◌∙◌, subst, append-nil, append_assoc, arith}
-use Rattle.std.specs.Prelude.{codes, Ok, Err}
+use Rattle.std.specs.Prelude.{Ok, Err}
 use Rattle.election_tables.specs.Offices.{code_proportional}
+use Rattle.seat_certificate.specs.declared.table.TheConstants.{TABLE}
 use Rattle.seat_certificate.specs.declared.certificate.Certificate.{Certificate}
 use Rattle.seat_certificate.specs.declared.certificate.FirstLine.{FirstLine}
 use Rattle.seat_certificate.specs.declared.certificate.Round.{Round}
@@ -120,8 +121,8 @@ rounds_way code q first rounds is = record {
   code = code;
   certificate = made q first rounds 0;
   fits = is;
-  rest = vacant_line 0 ∷ codes "FIM" ∷ [];
-  begins = ap (λ (l : List (List ℕ)). head_lines code q ++ l) (sym (append_assoc (map bloc_line first) (round_lines 1 rounds) (vacant_line 0 ∷ codes "FIM" ∷ [])));
+  rest = vacant_line 0 ∷ TABLE.end ∷ [];
+  begins = ap (λ (l : List (List ℕ)). head_lines code q ++ l) (sym (append_assoc (map bloc_line first) (round_lines 1 rounds) (vacant_line 0 ∷ TABLE.end ∷ [])));
 }
 
 pub on_the_way : (st : State) → IsState st → IsOnTheWay (lines_before st)
@@ -132,7 +133,7 @@ on_the_way (InFirst code q first) is = record {
   code = code;
   certificate = made q first [] 0;
   fits = is;
-  rest = vacant_line 0 ∷ codes "FIM" ∷ [];
+  rest = vacant_line 0 ∷ TABLE.end ∷ [];
   begins = refl;
 }
 on_the_way (InRounds code q first rounds) is = rounds_way code q first rounds is
@@ -141,7 +142,7 @@ on_the_way (AtEnd code c) is = record {
   code = code;
   certificate = c;
   fits = is;
-  rest = codes "FIM" ∷ [];
-  begins = end_lines code c (codes "FIM") refl;
+  rest = TABLE.end ∷ [];
+  begins = end_lines code c TABLE.end refl;
 }
 on_the_way (AtDone code c) is = record { code = code; certificate = c; fits = is; rest = []; begins = sym (append-nil (certificate_lines code c)) }

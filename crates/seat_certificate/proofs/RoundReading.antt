@@ -6,8 +6,9 @@ use Rattle.std.specs.List.{AllByRecursion, join_with_byte}
 use Rattle.std.proofs.lemmas.Bool.{cases_eq, ltb-true, lt-ltb}
 use Rattle.urna_base.specs.Words.{pieces}
 use Rattle.quotients.specs.Average.{AverageData}
+use Rattle.seat_certificate.specs.declared.table.TheConstants.{TABLE}
 use Rattle.seat_certificate.specs.declared.certificate.Round.{Round}
-use Rattle.seat_certificate.specs.Reading.{average_at, averages_at, cut_at, keyed, most_decimal, most_narrow, next_average, number_at, round_at, round_front}
+use Rattle.seat_certificate.specs.Reading.{average_at, averages_at, cut_at, keyed, next_average, number_at, round_at, round_front}
 use Rattle.seat_certificate.specs.Text.{AverageFits, IsBloc, RiseAbove, RoundFits, average_word, round_line}
 use Rattle.seat_certificate.proofs.Members.{some_same}
 use Rattle.seat_certificate.proofs.Pieces.{Lacks, cut_back, cut_here, decimal_lacks, lacks-append, number_first, word_first, word_last, words_join}
@@ -25,30 +26,30 @@ narrow n h = omega arith
 average_written : (a : AverageData) → AverageFits a → average_at (word_of a) ≡ Some a
 unfolding average_at
 average_written a fits =
-    let first = cut_here 58 (decimal a.party) (decimal a.votes ++ (codes "/" ++ (decimal a.divisor))) (decimal_lacks 58 a.party (inr (omega arith)) (narrow a.party fits.party.1)) in
-    let second = cut_here 47 (decimal a.votes) (decimal a.divisor) (decimal_lacks 47 a.votes (inl (omega arith)) fits.votes) in
-    let p = number_written 10 99 a.party fits.party.0 fits.party.1 (narrow a.party fits.party.1) in
-    let v = number_written 0 most_decimal a.votes (omega arith) (omega (arith, fits.votes)) fits.votes in
-    let d = number_written 1 most_narrow a.divisor fits.some (omega (arith, fits.divisor)) (omega (arith, fits.divisor)) in
+    let first = cut_here TABLE.average_votes.mark (decimal a.party) (decimal a.votes ++ (codes "/" ++ (decimal a.divisor))) (decimal_lacks 58 a.party (inr (omega arith)) (narrow a.party fits.party.1)) in
+    let second = cut_here TABLE.average_divisor.mark (decimal a.votes) (decimal a.divisor) (decimal_lacks 47 a.votes (inl (omega arith)) fits.votes) in
+    let p = number_written TABLE.average_party.low TABLE.average_party.high a.party fits.party.0 fits.party.1 (narrow a.party fits.party.1) in
+    let v = number_written TABLE.average_votes.low TABLE.average_votes.high a.votes (omega arith) (omega (arith, fits.votes)) fits.votes in
+    let d = number_written TABLE.average_divisor.low TABLE.average_divisor.high a.divisor fits.some (omega (arith, fits.divisor)) (omega (arith, fits.divisor)) in
     rw (first, p, second, v, d) refl
 
 average_read : (w : List ℕ) (a : AverageData) → average_at w ≡ Some a → AverageFits a × (w ≡ word_of a)
 unfolding average_at
 average_read w a h =
-    let first = bind_some (cut_at 58 w) _ a h in
-    let p = bind_some (number_at 10 99 first.0.0) _ a first.2 in
-    let second = bind_some (cut_at 47 first.0.1) _ a p.2 in
-    let v = bind_some (number_at 0 most_decimal second.0.0) _ a second.2 in
-    let d = bind_some (number_at 1 most_narrow second.0.1) _ a v.2 in
-    let np = number_read 10 99 p.0 first.0.0 p.1 in
-    let nv = number_read 0 most_decimal v.0 second.0.0 v.1 in
-    let nd = number_read 1 most_narrow d.0 second.0.1 d.1 in
+    let first = bind_some (cut_at TABLE.average_votes.mark w) _ a h in
+    let p = bind_some (number_at TABLE.average_party.low TABLE.average_party.high first.0.0) _ a first.2 in
+    let second = bind_some (cut_at TABLE.average_divisor.mark first.0.1) _ a p.2 in
+    let v = bind_some (number_at TABLE.average_votes.low TABLE.average_votes.high second.0.0) _ a second.2 in
+    let d = bind_some (number_at TABLE.average_divisor.low TABLE.average_divisor.high second.0.1) _ a v.2 in
+    let np = number_read TABLE.average_party.low TABLE.average_party.high p.0 first.0.0 p.1 in
+    let nv = number_read TABLE.average_votes.low TABLE.average_votes.high v.0 second.0.0 v.1 in
+    let nd = number_read TABLE.average_divisor.low TABLE.average_divisor.high d.0 second.0.1 d.1 in
     let made : AverageData = record { votes = v.0; divisor = d.0; party = p.0 } in
     let is : made ≡ a = ap (λ (o : Option AverageData). unwrap_or o made) d.2 in
     let text : w ≡ word_of made =
-    cut_back 58 w first.0.0 first.0.1 first.1
+    cut_back TABLE.average_votes.mark w first.0.0 first.0.1 first.1
     ∙ ap (λ (t : List ℕ). t ++ 58 ∷ first.0.1) np.word
-    ∙ ap (λ (t : List ℕ). decimal p.0 ++ 58 ∷ t) (cut_back 47 first.0.1 second.0.0 second.0.1 second.1
+    ∙ ap (λ (t : List ℕ). decimal p.0 ++ 58 ∷ t) (cut_back TABLE.average_divisor.mark first.0.1 second.0.0 second.0.1 second.1
     ∙ ap (λ (t : List ℕ). t ++ 47 ∷ second.0.1) nv.word
     ∙ ap (λ (t : List ℕ). decimal v.0 ++ 47 ∷ t) nd.word) in
     let fits : AverageFits made = record { party = (np.least, np.most); votes = nv.few; some = nd.least; divisor = omega (arith, nd.most) } in
@@ -132,17 +133,17 @@ averages_read before last (w ∷ ws) found h = averages_behind before last w ws 
 -- ---- a round
 
 round_words : (k : ℕ) (r : Round) → k < 10 ^ 18 → RoundFits r
-    → pieces (round_line k r) ≡ codes "RODADA" ∷ decimal k ∷ codes "FASE" ∷ decimal r.phase ∷ codes "VENCE" ∷ decimal r.party ∷ map word_of r.averages
+    → pieces (round_line k r) ≡ TABLE.round ∷ decimal k ∷ TABLE.phase.word ∷ decimal r.phase ∷ TABLE.winner.word ∷ decimal r.party ∷ map word_of r.averages
 round_words k r few fits =
     let tail = flat_map average_word r.averages in
     let phase : r.phase < 10 ^ 18 = elim fits.phase [ inl e ↦ omega arith | inr e ↦ omega arith ] in
     let p = words_behind (decimal r.party) r.averages (decimal_lacks 32 r.party (inl (omega arith)) (narrow r.party fits.party.1)) fits.averages in
     let f = number_first r.phase (codes "VENCE " ++ (decimal r.party ++ (tail))) phase in
     let n = number_first k (codes "FASE " ++ (decimal r.phase ++ (codes " VENCE " ++ (decimal r.party ++ (tail))))) few in
-    word_first (codes "RODADA") (decimal k ++ (codes " FASE " ++ (decimal r.phase ++ (codes " VENCE " ++ (decimal r.party ++ tail))))) refl
-    ∙ ap (λ (ws : List (List ℕ)). codes "RODADA" ∷ ws) (n
-    ∙ ap (λ (ws : List (List ℕ)). decimal k ∷ codes "FASE" ∷ ws) (f
-    ∙ ap (λ (ws : List (List ℕ)). decimal r.phase ∷ codes "VENCE" ∷ ws) p))
+    word_first TABLE.round (decimal k ++ (codes " FASE " ++ (decimal r.phase ++ (codes " VENCE " ++ (decimal r.party ++ tail))))) refl
+    ∙ ap (λ (ws : List (List ℕ)). TABLE.round ∷ ws) (n
+    ∙ ap (λ (ws : List (List ℕ)). decimal k ∷ TABLE.phase.word ∷ ws) (f
+    ∙ ap (λ (ws : List (List ℕ)). decimal r.phase ∷ TABLE.winner.word ∷ ws) p))
 
 join_behind : (w : List ℕ) (xs : List AverageData) → join_with_byte 32 (w ∷ map word_of xs) ≡ w ++ flat_map average_word xs
 join_behind w [] = sym (append-nil w)
@@ -160,9 +161,9 @@ unfolding round_front
 front_written k r few fits =
     let phase = phase_between r.phase fits.phase in
     let words = map word_of r.averages in
-    let n = keyed_written (codes "RODADA") k k k (codes "FASE" ∷ decimal r.phase ∷ codes "VENCE" ∷ decimal r.party ∷ words) (omega arith) (omega arith) few in
-    let f = keyed_written (codes "FASE") 2 3 r.phase (codes "VENCE" ∷ decimal r.party ∷ words) phase.0 phase.1 (omega (arith, phase.1)) in
-    let p = keyed_written (codes "VENCE") 10 99 r.party words fits.party.0 fits.party.1 (narrow r.party fits.party.1) in
+    let n = keyed_written TABLE.round k k k (TABLE.phase.word ∷ decimal r.phase ∷ TABLE.winner.word ∷ decimal r.party ∷ words) (omega arith) (omega arith) few in
+    let f = keyed_written TABLE.phase.word TABLE.phase.low TABLE.phase.high r.phase (TABLE.winner.word ∷ decimal r.party ∷ words) phase.0 phase.1 (omega (arith, phase.1)) in
+    let p = keyed_written TABLE.winner.word TABLE.winner.low TABLE.winner.high r.party words fits.party.0 fits.party.1 (narrow r.party fits.party.1) in
     rw (round_words k r few fits, n, f, p) refl
 
 pub round_written : (k : ℕ) (r : Round) → k < 10 ^ 18 → RoundFits r → round_at k (round_line k r) ≡ Some r
@@ -174,12 +175,12 @@ unfolding round_at round_front
 round_read k line r h =
     let x = then_some (round_front k line) (λ x. option_map (λ xs. record { phase = x.0.0; party = x.0.1; averages = xs }) (averages_at [] 0 x.1)) r h in
     let xs = map_some (averages_at [] 0 x.0.1) (λ xs. record { phase = x.0.0.0; party = x.0.0.1; averages = xs }) r x.2 in
-    let n = bind_some (keyed (codes "RODADA") k k (pieces line)) _ x.0 x.1 in
-    let f = bind_some (keyed (codes "FASE") 2 3 n.0.1) _ x.0 n.2 in
-    let p = bind_some (keyed (codes "VENCE") 10 99 f.0.1) _ x.0 f.2 in
-    let kn = keyed_read (codes "RODADA") k k (pieces line) n.0 n.1 in
-    let kf = keyed_read (codes "FASE") 2 3 n.0.1 f.0 f.1 in
-    let kp = keyed_read (codes "VENCE") 10 99 f.0.1 p.0 p.1 in
+    let n = bind_some (keyed TABLE.round k k (pieces line)) _ x.0 x.1 in
+    let f = bind_some (keyed TABLE.phase.word TABLE.phase.low TABLE.phase.high n.0.1) _ x.0 n.2 in
+    let p = bind_some (keyed TABLE.winner.word TABLE.winner.low TABLE.winner.high f.0.1) _ x.0 f.2 in
+    let kn = keyed_read TABLE.round k k (pieces line) n.0 n.1 in
+    let kf = keyed_read TABLE.phase.word TABLE.phase.low TABLE.phase.high n.0.1 f.0 f.1 in
+    let kp = keyed_read TABLE.winner.word TABLE.winner.low TABLE.winner.high f.0.1 p.0 p.1 in
     let same : ((f.0.0, p.0.0), p.0.1) ≡ x.0 = some_same _ _ p.2 in
     let all = averages_read [] 0 x.0.1 xs.0 xs.1 in
     let made : Round = record { phase = x.0.0.0; party = x.0.0.1; averages = xs.0 } in
@@ -187,14 +188,14 @@ round_read k line r h =
     let phase : f.0.0 ≡ made.phase = ap (λ (y : (ℕ × ℕ) × List (List ℕ)). y.0.0) same in
     let party : p.0.0 ≡ made.party = ap (λ (y : (ℕ × ℕ) × List (List ℕ)). y.0.1) same in
     let behind : p.0.1 ≡ map word_of xs.0 = ap (λ (y : (ℕ × ℕ) × List (List ℕ)). y.1) same ∙ all.words ∙ ap (λ (l : List AverageData). map word_of l) (sym all.all) in
-    let words : pieces line ≡ codes "RODADA" ∷ decimal k ∷ codes "FASE" ∷ decimal made.phase ∷ codes "VENCE" ∷ decimal made.party ∷ map word_of xs.0 =
+    let words : pieces line ≡ TABLE.round ∷ decimal k ∷ TABLE.phase.word ∷ decimal made.phase ∷ TABLE.winner.word ∷ decimal made.party ∷ map word_of xs.0 =
     kn.words
-    ∙ ap (λ (m : ℕ). codes "RODADA" ∷ decimal m ∷ n.0.1) number
-    ∙ ap (λ (ws : List (List ℕ)). codes "RODADA" ∷ decimal k ∷ ws) (kf.words
-    ∙ ap (λ (m : ℕ). codes "FASE" ∷ decimal m ∷ f.0.1) phase
-    ∙ ap (λ (ws : List (List ℕ)). codes "FASE" ∷ decimal made.phase ∷ ws) (kp.words
-    ∙ ap (λ (m : ℕ). codes "VENCE" ∷ decimal m ∷ p.0.1) party
-    ∙ ap (λ (ws : List (List ℕ)). codes "VENCE" ∷ decimal made.party ∷ ws) behind)) in
+    ∙ ap (λ (m : ℕ). TABLE.round ∷ decimal m ∷ n.0.1) number
+    ∙ ap (λ (ws : List (List ℕ)). TABLE.round ∷ decimal k ∷ ws) (kf.words
+    ∙ ap (λ (m : ℕ). TABLE.phase.word ∷ decimal m ∷ f.0.1) phase
+    ∙ ap (λ (ws : List (List ℕ)). TABLE.phase.word ∷ decimal made.phase ∷ ws) (kp.words
+    ∙ ap (λ (m : ℕ). TABLE.winner.word ∷ decimal m ∷ p.0.1) party
+    ∙ ap (λ (ws : List (List ℕ)). TABLE.winner.word ∷ decimal made.party ∷ ws) behind)) in
     let text : line ≡ round_line k made =
     words_join line _ words
     ∙ ap (λ (t : List ℕ). codes "RODADA " ++ (decimal k ++ (codes " FASE " ++ (decimal made.phase ++ (codes " VENCE " ++ (t)))))) (join_behind (decimal made.party) xs.0) in

@@ -1,15 +1,16 @@
 -- One line is read: the state behind it is that of the lines so far, and every line that may stand there is taken.
 use Rattle.std.proofs.Common.{◌≡◌, ℕ, ◌+◌, ◌^◌, ◌<◌, true, nat_lt, List, [], ◌∷◌, ◌++◌, length, map, Option, None, Some, refl, sym, ap, ◌∙◌, subst, append-nil, append_assoc, length-append, arith}
-use Rattle.std.specs.Prelude.{codes, if◌then◌else◌, option_map, unwrap_or}
+use Rattle.std.specs.Prelude.{if◌then◌else◌, option_map, unwrap_or}
 use Rattle.std.specs.Option.{option_and_then, option_or}
 use Rattle.std.specs.Str.{bytes_eq}
 use Rattle.std.proofs.lemmas.Bool.{ltb-true}
 use Rattle.election_tables.specs.Offices.{code_proportional}
+use Rattle.seat_certificate.specs.declared.table.TheConstants.{MOST_FIRST_LINES, MOST_ROUNDS, TABLE}
 use Rattle.seat_certificate.specs.declared.certificate.Certificate.{Certificate}
 use Rattle.seat_certificate.specs.declared.certificate.FirstLine.{FirstLine}
 use Rattle.seat_certificate.specs.declared.certificate.Round.{Round}
-use Rattle.seat_certificate.specs.Reading.{AtDone, AtEnd, AtOffice, AtQuotient, AtStart, AtVacant, InFirst, InRounds, State, bloc_at, last_bloc, made, most_decimal, most_narrow, next_bloc, next_round, office_at, one_number, proportional_code, rounds_step, step, vacant_at, vacant_step}
-use Rattle.seat_certificate.specs.Text.{HasText, LineFits, RiseAbove, RoundFits, bloc_line, certificate_lines, most_first_lines, most_rounds, office_line, quotient_line, round_line, round_lines, vacant_line}
+use Rattle.seat_certificate.specs.Reading.{AtDone, AtEnd, AtOffice, AtQuotient, AtStart, AtVacant, InFirst, InRounds, State, bloc_at, last_bloc, made, next_bloc, next_round, office_at, one_number, proportional_code, rounds_step, step, vacant_at, vacant_step}
+use Rattle.seat_certificate.specs.Text.{HasText, LineFits, RiseAbove, RoundFits, bloc_line, certificate_lines, office_line, quotient_line, round_line, round_lines, vacant_line}
 use Rattle.seat_certificate.proofs.LineReading.{bloc_read, one_read}
 use Rattle.seat_certificate.proofs.Members.{all_push}
 use Rattle.seat_certificate.proofs.RoundReading.{round_read}
@@ -18,12 +19,12 @@ use Rattle.seat_certificate.proofs.WordReading.{if_some, map_some, same_line, th
 -- ---- what was read before a state
 
 abbrev pub head_lines : ℕ → ℕ → List (List ℕ)
-head_lines code q = codes "CERT U1" ∷ office_line code ∷ quotient_line q ∷ []
+head_lines code q = TABLE.version ∷ office_line code ∷ quotient_line q ∷ []
 
 abbrev pub lines_before : State → List (List ℕ)
 lines_before AtStart = []
-lines_before AtOffice = codes "CERT U1" ∷ []
-lines_before (AtQuotient code) = codes "CERT U1" ∷ office_line code ∷ []
+lines_before AtOffice = TABLE.version ∷ []
+lines_before (AtQuotient code) = TABLE.version ∷ office_line code ∷ []
 lines_before (InFirst code q first) = head_lines code q ++ map bloc_line first
 lines_before (InRounds code q first rounds) = head_lines code q ++ (map bloc_line first ++ (round_lines 1 rounds))
 lines_before (AtVacant code q first rounds) = head_lines code q ++ (map bloc_line first ++ (round_lines 1 rounds))
@@ -72,7 +73,7 @@ Goes st line more = IsState more × (lines_before more ≡ lines_before st ++ li
 bloc_goes : (code q : ℕ) (first : List FirstLine) (line : List ℕ) (l : FirstLine) → HasText code (made q first [] 0) → next_bloc first line ≡ Some l → Goes (InFirst code q first) line (InFirst code q (first ++ l ∷ []))
 unfolding next_bloc
 bloc_goes code q first line l is h =
-    let room = if_some (nat_lt (length first) most_first_lines) _ l h in
+    let room = if_some (nat_lt (length first) MOST_FIRST_LINES) _ l h in
     let found = then_some (bloc_at line) (λ l. if nat_lt (last_bloc 0 first) l.party then Some l else None) l room.1 in
     let test = if_some (nat_lt (last_bloc 0 first) found.0.party) (Some found.0) l found.2 in
     let same : found.0 ≡ l = ap (λ (o : Option FirstLine). unwrap_or o found.0) test.1 in
@@ -98,8 +99,8 @@ round_goes : (code q : ℕ) (first : List FirstLine) (rounds : List Round) (line
     → Goes (InRounds code q first rounds) line (InRounds code q first (rounds ++ r ∷ []))
 unfolding next_round
 round_goes code q first rounds line r is h =
-    let room = if_some (nat_lt (length rounds) most_rounds) _ r h in
-    let few : length rounds < most_rounds = ltb-true _ _ room.0 in
+    let room = if_some (nat_lt (length rounds) MOST_ROUNDS) _ r h in
+    let few : length rounds < MOST_ROUNDS = ltb-true _ _ room.0 in
     let read = round_read (length rounds + 1) line r room.1 in
     let count = length-append rounds (r ∷ []) in (
       record {
@@ -121,7 +122,7 @@ vacant_goes : (code q : ℕ) (first : List FirstLine) (rounds : List Round) (lin
 unfolding vacant_at
 vacant_goes code q first rounds line more is h =
     let found = map_some (vacant_at line) (λ m. AtEnd code (made q first rounds m)) more h in
-    let read = one_read (codes "VAZIAS") 0 most_narrow found.0 line found.1 in
+    let read = one_read TABLE.vacant.word TABLE.vacant.low TABLE.vacant.high found.0 line found.1 in
     let narrow : found.0 < 2 ^ 32 = omega (arith, read.most) in
     let there : Goes (AtVacant code q first rounds) line (AtEnd code (made q first rounds found.0)) = (
       record { office = is.office; quotient = is.quotient; first = is.first; few_lines = is.few_lines; rise = is.rise; rounds = is.rounds; few_rounds = is.few_rounds; vacant = narrow },
@@ -146,7 +147,7 @@ first_goes code q first line more (Some l) e is h =
     let same : InFirst code q (first ++ l ∷ []) ≡ more = cc in
     subst (λ (s : State). Goes (InFirst code q first) line s) same (bloc_goes code q first line l is e)
 
-pub end_lines : (code : ℕ) (c : Certificate) (line : List ℕ) → line ≡ codes "FIM" → certificate_lines code c ≡ lines_before (AtEnd code c) ++ line ∷ []
+pub end_lines : (code : ℕ) (c : Certificate) (line : List ℕ) → line ≡ TABLE.end → certificate_lines code c ≡ lines_before (AtEnd code c) ++ line ∷ []
 end_lines code c line e =
     ap (λ (t : List ℕ). head_lines code c.quotient ++ (map bloc_line c.first ++ (round_lines 1 c.rounds ++ (vacant_line c.vacant ∷ t ∷ [])))) (sym e)
     ∙ ap (λ (l : List (List ℕ)). head_lines code c.quotient ++ (map bloc_line c.first ++ (l))) (sym (append_assoc (round_lines 1 c.rounds) (vacant_line c.vacant ∷ []) (line ∷ [])))
@@ -155,33 +156,33 @@ end_lines code c line e =
 pub step_goes : (st more : State) (line : List ℕ) → IsState st → step st line ≡ Some more → Goes st line more
 unfolding step office_at
 step_goes AtStart more line is h =
-    let test = if_some (bytes_eq line (codes "CERT U1")) (Some AtOffice) more h in
+    let test = if_some (bytes_eq line TABLE.version) (Some AtOffice) more h in
     let same : AtOffice ≡ more = cc in
-    let text = same_line line (codes "CERT U1") test.0 in
+    let text = same_line line TABLE.version test.0 in
     subst (λ (s : State). Goes AtStart line s) same (tt, ap (λ (t : List ℕ). t ∷ []) (sym text))
 step_goes AtOffice more line is h =
-    let found = map_some (option_and_then proportional_code (one_number (codes "CARGO") 0 255 line)) (λ code. AtQuotient code) more h in
-    let code = then_some (one_number (codes "CARGO") 0 255 line) proportional_code found.0 found.1 in
-    let read = one_read (codes "CARGO") 0 255 code.0 line code.1 in
+    let found = map_some (option_and_then proportional_code (one_number TABLE.office.word TABLE.office.low TABLE.office.high line)) (λ code. AtQuotient code) more h in
+    let code = then_some (one_number TABLE.office.word TABLE.office.low TABLE.office.high line) proportional_code found.0 found.1 in
+    let read = one_read TABLE.office.word TABLE.office.low TABLE.office.high code.0 line code.1 in
     let test = if_some (code_proportional code.0) (Some code.0) found.0 code.2 in
     let same : code.0 ≡ found.0 = cc in
-    let there : Goes AtOffice line (AtQuotient found.0) = (subst (λ (n : ℕ). code_proportional n ≡ true) same test.0, ap (λ (t : List ℕ). codes "CERT U1" ∷ t ∷ []) (ap office_line (sym same) ∙ sym read.text)) in
+    let there : Goes AtOffice line (AtQuotient found.0) = (subst (λ (n : ℕ). code_proportional n ≡ true) same test.0, ap (λ (t : List ℕ). TABLE.version ∷ t ∷ []) (ap office_line (sym same) ∙ sym read.text)) in
     subst (λ (s : State). Goes AtOffice line s) found.2 there
 step_goes (AtQuotient code) more line is h =
-    let found = map_some (one_number (codes "QUOCIENTE") 0 most_decimal line) (λ q. InFirst code q []) more h in
-    let read = one_read (codes "QUOCIENTE") 0 most_decimal found.0 line found.1 in
+    let found = map_some (one_number TABLE.quotient.word TABLE.quotient.low TABLE.quotient.high line) (λ q. InFirst code q []) more h in
+    let read = one_read TABLE.quotient.word TABLE.quotient.low TABLE.quotient.high found.0 line found.1 in
     let there : Goes (AtQuotient code) line (InFirst code found.0 []) = (
       record { office = is; quotient = read.few; first = tt; few_lines = omega arith; rise = tt; rounds = tt; few_rounds = omega arith; vacant = omega arith },
-      ap (λ (t : List ℕ). codes "CERT U1" ∷ office_line code ∷ t ∷ []) (sym read.text),
+      ap (λ (t : List ℕ). TABLE.version ∷ office_line code ∷ t ∷ []) (sym read.text),
     ) in
     subst (λ (s : State). Goes (AtQuotient code) line s) found.2 there
 step_goes (InFirst code q first) more line is h = first_goes code q first line more (next_bloc first line) refl is h
 step_goes (InRounds code q first rounds) more line is h = rounds_go code q first rounds line more (next_round rounds line) refl is h
 step_goes (AtVacant code q first rounds) more line is h = vacant_goes code q first rounds line more is h
 step_goes (AtEnd code c) more line is h =
-    let test = if_some (bytes_eq line (codes "FIM")) (Some (AtDone code c)) more h in
+    let test = if_some (bytes_eq line TABLE.end) (Some (AtDone code c)) more h in
     let same : AtDone code c ≡ more = cc in
-    let text = same_line line (codes "FIM") test.0 in
+    let text = same_line line TABLE.end test.0 in
     let there : Goes (AtEnd code c) line (AtDone code c) = (is, end_lines code c line text) in
     subst (λ (s : State). Goes (AtEnd code c) line s) same there
 step_goes (AtDone code c) more line is h = absurd (cc)

@@ -1,6 +1,6 @@
 -- Reading a text line by line: the state between two lines, a step for each line, and the first bad one on the way. It is a device of proofs: what the text of a certificate
 -- is, and what its first bad line, stands in `Text`.
-use Rattle.std.specs.Prelude.{ℕ, ◌+◌, ◌==◌, nat_lt, if◌then◌else◌, List, [], ◌∷◌, ◌++◌, length, codes, Option, Some, None, option_map, Result, Ok, Err}
+use Rattle.std.specs.Prelude.{ℕ, ◌+◌, ◌==◌, nat_lt, if◌then◌else◌, List, [], ◌∷◌, ◌++◌, length, Option, Some, None, option_map, Result, Ok, Err}
 use Rattle.std.specs.List.{join_with_byte, slice_split}
 use Rattle.std.specs.Option.{option_and_then, option_or}
 use Rattle.std.specs.Str.{bytes_eq}
@@ -14,7 +14,7 @@ use Rattle.seat_certificate.specs.declared.certificate.FirstLine.{FirstLine}
 use Rattle.seat_certificate.specs.declared.certificate.Round.{Round}
 use Rattle.seat_certificate.specs.declared.read.CertTextError.TheVariants as error
 use Rattle.seat_certificate.specs.declared.read.CertTextError.{CertTextError}
-use Rattle.seat_certificate.specs.Text.{most_first_lines, most_rounds}
+use Rattle.seat_certificate.specs.declared.table.TheConstants.{MOST_FIRST_LINES, MOST_ROUNDS, TABLE}
 
 infixl 10 ◌>>=◌
 abbrev pub ◌>>=◌ : {A B : Type 0} → Option A → (A → Option B) → Option B
@@ -50,12 +50,6 @@ abbrev pub at_end : {A : Type 0} → A → List (List ℕ) → Option A
 at_end x [] = Some x
 at_end x (w ∷ ws) = None
 
-abbrev pub most_decimal : ℕ
-most_decimal = 999999999999999999
-
-abbrev pub most_narrow : ℕ
-most_narrow = 4294967295
-
 -- ---- lines
 
 -- one keyword and one number
@@ -66,10 +60,10 @@ one_number word low high line = do
 
 unfoldable pub bloc_at : List ℕ → Option FirstLine
 bloc_at line = do
-  p ← keyed (codes "PARTIDO") 10 99 (pieces line)
-  q ← keyed (codes "QP") 0 most_decimal p.1
-  a ← keyed (codes "APTOS") 0 most_narrow q.1
-  s ← keyed (codes "VAGAS") 0 most_narrow a.1
+  p ← keyed TABLE.party.word TABLE.party.low TABLE.party.high (pieces line)
+  q ← keyed TABLE.party_quotient.word TABLE.party_quotient.low TABLE.party_quotient.high p.1
+  a ← keyed TABLE.able.word TABLE.able.low TABLE.able.high q.1
+  s ← keyed TABLE.seats.word TABLE.seats.low TABLE.seats.high a.1
   at_end (record { party = p.0; quotient = q.0; able = a.0; seats = s.0 }) s.1
 
 -- the first of some pieces, and the others with this byte between them
@@ -85,11 +79,11 @@ cut_at byte text = cut_in byte (slice_split (λ b. b == byte) text)
 -- bloc, votes and divisor
 unfoldable pub average_at : List ℕ → Option AverageData
 average_at w = do
-  first ← cut_at 58 w
-  p ← number_at 10 99 first.0
-  second ← cut_at 47 first.1
-  v ← number_at 0 most_decimal second.0
-  d ← number_at 1 most_narrow second.1
+  first ← cut_at TABLE.average_votes.mark w
+  p ← number_at TABLE.average_party.low TABLE.average_party.high first.0
+  second ← cut_at TABLE.average_divisor.mark first.1
+  v ← number_at TABLE.average_votes.low TABLE.average_votes.high second.0
+  d ← number_at TABLE.average_divisor.low TABLE.average_divisor.high second.1
   Some (record { votes = v; divisor = d; party = p })
 
 -- the average of a word, where its bloc is above the last
@@ -104,9 +98,9 @@ averages_at before last (w ∷ ws) = elim (next_average last w) [ None ↦ None 
 -- the front of a round, up to its averages
 unfoldable pub round_front : ℕ → List ℕ → Option ((ℕ × ℕ) × List (List ℕ))
 round_front k line = do
-  n ← keyed (codes "RODADA") k k (pieces line)
-  f ← keyed (codes "FASE") 2 3 n.1
-  p ← keyed (codes "VENCE") 10 99 f.1
+  n ← keyed TABLE.round k k (pieces line)
+  f ← keyed TABLE.phase.word TABLE.phase.low TABLE.phase.high n.1
+  p ← keyed TABLE.winner.word TABLE.winner.low TABLE.winner.high f.1
   Some ((f.0, p.0), p.1)
 
 -- round number k
@@ -131,25 +125,25 @@ last_bloc last [] = last
 last_bloc last (l ∷ lines) = last_bloc l.party lines
 
 abbrev pub start_step : List ℕ → Option State
-start_step line = if bytes_eq line (codes "CERT U1") then Some AtOffice else None
+start_step line = if bytes_eq line TABLE.version then Some AtOffice else None
 
 abbrev pub proportional_code : ℕ → Option ℕ
 proportional_code code = if code_proportional code then Some code else None
 
 unfoldable pub office_at : List ℕ → Option ℕ
-office_at line = option_and_then proportional_code (one_number (codes "CARGO") 0 255 line)
+office_at line = option_and_then proportional_code (one_number TABLE.office.word TABLE.office.low TABLE.office.high line)
 
 -- one line more of the first phase
 unfoldable pub next_bloc : List FirstLine → List ℕ → Option FirstLine
 next_bloc before line =
-    if nat_lt (length before) most_first_lines then option_and_then (λ l. if nat_lt (last_bloc 0 before) l.party then Some l else None) (bloc_at line) else None
+    if nat_lt (length before) MOST_FIRST_LINES then option_and_then (λ l. if nat_lt (last_bloc 0 before) l.party then Some l else None) (bloc_at line) else None
 
 -- one round more
 unfoldable pub next_round : List Round → List ℕ → Option Round
-next_round before line = if nat_lt (length before) most_rounds then round_at (length before + 1) line else None
+next_round before line = if nat_lt (length before) MOST_ROUNDS then round_at (length before + 1) line else None
 
 unfoldable pub vacant_at : List ℕ → Option ℕ
-vacant_at line = one_number (codes "VAZIAS") 0 most_narrow line
+vacant_at line = one_number TABLE.vacant.word TABLE.vacant.low TABLE.vacant.high line
 
 abbrev pub made : ℕ → List FirstLine → List Round → ℕ → Certificate
 made q first rounds vacant = record { quotient = q; first = first; rounds = rounds; vacant = vacant }
@@ -164,11 +158,11 @@ rounds_step code q first rounds line =
 unfoldable pub step : State → List ℕ → Option State
 step AtStart line = start_step line
 step AtOffice line = option_map (λ code. AtQuotient code) (office_at line)
-step (AtQuotient code) line = option_map (λ q. InFirst code q []) (one_number (codes "QUOCIENTE") 0 most_decimal line)
+step (AtQuotient code) line = option_map (λ q. InFirst code q []) (one_number TABLE.quotient.word TABLE.quotient.low TABLE.quotient.high line)
 step (InFirst code q first) line = option_or (option_map (λ l. InFirst code q (first ++ l ∷ [])) (next_bloc first line)) (rounds_step code q first [] line)
 step (InRounds code q first rounds) line = rounds_step code q first rounds line
 step (AtVacant code q first rounds) line = vacant_step code q first rounds line
-step (AtEnd code c) line = if bytes_eq line (codes "FIM") then Some (AtDone code c) else None
+step (AtEnd code c) line = if bytes_eq line TABLE.end then Some (AtDone code c) else None
 step (AtDone code c) line = None
 
 -- at the end of a text, with nothing behind the last line feed, all lines were read; else the line with this number is bad

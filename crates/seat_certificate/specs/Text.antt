@@ -1,5 +1,5 @@
 -- The text of a certificate of an office, and the first fault of any other text (docs/FORMATS.md, "Certificate")
-use Rattle.std.specs.Prelude.{◌≡◌, ◌⊎◌, ℕ, ◌+◌, ◌^◌, ◌≤◌, ◌<◌, true, List, [], ◌∷◌, ◌++◌, length, map, take, flat_map, codes}
+use Rattle.std.specs.Prelude.{◌≡◌, ◌⊎◌, ℕ, ◌+◌, ◌^◌, ◌≤◌, ◌<◌, true, List, [], ◌∷◌, ◌++◌, length, map, take, flat_map}
 use Rattle.std.specs.Fmt.{decimal}
 use Rattle.std.specs.List.{AllByRecursion}
 use Rattle.election_tables.specs.Offices.{code_proportional}
@@ -8,15 +8,9 @@ use Rattle.seat_remainders.specs.declared.contest.Contest.{Contest}
 use Rattle.seat_certificate.specs.declared.certificate.Certificate.{Certificate}
 use Rattle.seat_certificate.specs.declared.certificate.FirstLine.{FirstLine}
 use Rattle.seat_certificate.specs.declared.certificate.Round.{Round}
+use Rattle.seat_certificate.specs.declared.table.TheConstants.{MOST_FIRST_LINES, MOST_ROUNDS, TABLE}
 
 -- ---- which certificates have a text
-
--- the most lines of the first phase, and the most rounds
-abbrev pub most_first_lines : ℕ
-most_first_lines = 40
-
-abbrev pub most_rounds : ℕ
-most_rounds = 200
 
 -- a bloc has a number of two digits
 abbrev pub IsBloc : ℕ → Type 0
@@ -58,36 +52,38 @@ pub record HasText (code : ℕ) (c : Certificate) : Type 0 where
   pub office : code_proportional code ≡ true
   pub quotient : IsDecimalNumber c.quotient
   pub first : AllByRecursion LineFits c.first
-  pub few_lines : length c.first ≤ most_first_lines
+  pub few_lines : length c.first ≤ MOST_FIRST_LINES
   pub rise : RiseAbove 0 (map (λ l. l.party) c.first)
   pub rounds : AllByRecursion RoundFits c.rounds
-  pub few_rounds : length c.rounds ≤ most_rounds
+  pub few_rounds : length c.rounds ≤ MOST_ROUNDS
   pub vacant : IsNarrow c.vacant
 
 -- a contest of at most 40 blocs, each with a number of two digits
 pub record HasFewBlocs (contest : Contest) : Type 0 where
-  pub few : length contest.parties ≤ most_first_lines
+  pub few : length contest.parties ≤ MOST_FIRST_LINES
   pub numbers : AllByRecursion (λ p. IsBloc p.number) contest.parties
   pub candidates : AllByRecursion (λ p. IsNarrow (length p.candidates)) contest.parties
 
 -- ---- the text
 
 abbrev pub office_line : ℕ → List ℕ
-office_line code = codes "CARGO " ++ decimal code
+office_line code = TABLE.office.word ++ 32 ∷ decimal code
 
 abbrev pub quotient_line : ℕ → List ℕ
-quotient_line q = codes "QUOCIENTE " ++ decimal q
+quotient_line q = TABLE.quotient.word ++ 32 ∷ decimal q
 
 abbrev pub bloc_line : FirstLine → List ℕ
-bloc_line l = codes "PARTIDO " ++ (decimal l.party ++ (codes " QP " ++ (decimal l.quotient ++ (codes " APTOS " ++ (decimal l.able ++ (codes " VAGAS " ++ (decimal l.seats)))))))
+bloc_line l =
+    TABLE.party.word ++ 32 ∷ (decimal l.party ++ 32 ∷ (TABLE.party_quotient.word ++ 32 ∷ (decimal l.quotient ++ 32 ∷ (TABLE.able.word ++ 32 ∷ (decimal l.able ++ 32 ∷ (TABLE.seats.word ++ 32 ∷ decimal l.seats))))))
 
 -- an average behind a space, as bloc, votes and divisor
 abbrev pub average_word : AverageData → List ℕ
-average_word a = codes " " ++ (decimal a.party ++ (codes ":" ++ (decimal a.votes ++ (codes "/" ++ (decimal a.divisor)))))
+average_word a = TABLE.average_party.mark ∷ (decimal a.party ++ TABLE.average_votes.mark ∷ (decimal a.votes ++ TABLE.average_divisor.mark ∷ decimal a.divisor))
 
 -- round number k
 abbrev pub round_line : ℕ → Round → List ℕ
-round_line k r = codes "RODADA " ++ (decimal k ++ (codes " FASE " ++ (decimal r.phase ++ (codes " VENCE " ++ (decimal r.party ++ (flat_map average_word r.averages))))))
+round_line k r =
+    TABLE.round ++ 32 ∷ (decimal k ++ 32 ∷ (TABLE.phase.word ++ 32 ∷ (decimal r.phase ++ 32 ∷ (TABLE.winner.word ++ 32 ∷ (decimal r.party ++ flat_map average_word r.averages)))))
 
 -- rounds, the first of them with this number
 abbrev pub round_lines : ℕ → List Round → List (List ℕ)
@@ -95,12 +91,12 @@ round_lines k [] = []
 round_lines k (r ∷ rounds) = round_line k r ∷ round_lines (k + 1) rounds
 
 abbrev pub vacant_line : ℕ → List ℕ
-vacant_line m = codes "VAZIAS " ++ decimal m
+vacant_line m = TABLE.vacant.word ++ 32 ∷ decimal m
 
 -- the lines of a certificate of the office of a code
 abbrev pub certificate_lines : ℕ → Certificate → List (List ℕ)
 certificate_lines code c =
-    codes "CERT U1" ∷ office_line code ∷ quotient_line c.quotient ∷ map bloc_line c.first ++ (round_lines 1 c.rounds ++ (vacant_line c.vacant ∷ codes "FIM" ∷ []))
+    TABLE.version ∷ office_line code ∷ quotient_line c.quotient ∷ map bloc_line c.first ++ (round_lines 1 c.rounds ++ (vacant_line c.vacant ∷ TABLE.end ∷ []))
 
 -- lines as a text, each with a line feed (10) behind it
 abbrev pub text_of : List (List ℕ) → List ℕ

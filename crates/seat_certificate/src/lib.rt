@@ -15,6 +15,7 @@ pub mod laws;
 mod line;
 mod read;
 mod substitute;
+mod table;
 mod text;
 mod words;
 

@@ -1,22 +1,19 @@
 //! The text of a certificate is read.
 ghost use Rattle.std.specs.Prelude.{◌≡◌, ◌≢◌, ◌↔◌, ◌+◌, ◌≤◌, ◌<◌, ◌^◌, ◌==◌, ◌∷◌, [], ℕ, List, length, position, IfOk, IfSome, MatchOption, Err, None, Ok, Some};
 ghost use Rattle.seat_certificate.specs.Reading.{AtVacant, InFirst, InRounds, MatchRead, lines_in, made, next_bloc, last_bloc, next_round, read_by, text_goes};
-ghost use Rattle.seat_certificate.specs.Text.{IsFirstBadLine, Spells, most_first_lines, most_rounds};
+ghost use Rattle.seat_certificate.specs.Text.{IsFirstBadLine, Spells};
 ghost use Rattle.seat_certificate.specs.declared.certificate.Certificate.{Certificate};
 ghost use Rattle.seat_certificate.specs.declared.certificate.FirstLine.{FirstLine};
 ghost use Rattle.seat_certificate.specs.declared.certificate.Round.{Round};
+ghost use Rattle.seat_certificate.specs.declared.table.TheConstants.{MOST_FIRST_LINES, MOST_ROUNDS};
 ghost use Rattle.seat_certificate.specs.declared.read.CertTextError.TheVariants.{Line, Memory};
 
 use crate::certificate::{Certificate, FirstLine, FirstLines, Round, Rounds};
-use crate::line::{MOST_DECIMAL, bloc_of, office_of, round_of, vacant_of};
+use crate::line::{bloc_of, office_of, round_of, vacant_of};
+use crate::table::{MOST_FIRST_LINES, MOST_ROUNDS, TABLE};
 use crate::words::one_number;
 use std::alloc::Global;
 use urna_base::Memory;
-
-/// The most lines of the first phase, and the most rounds.
-const MOST_FIRST_LINES: u32 = 40;
-
-const MOST_ROUNDS: u32 = 200;
 
 /// Why a text gives no certificate: memory ran out, or this line, counted from 1, is the first that may not stand there.
 #[derive(Clone, Copy, Debug, PartialEq, Eq)]
@@ -68,7 +65,7 @@ fn read_head(text: &[u8]) -> Result<((u8, u64), &[u8]), CertTextError>
     let Some((line, rest)) = split_line(text) else {
         return Err(CertTextError::Line(1));
     };
-    if line != b"CERT U1".as_slice() {
+    if line != TABLE.version.as_slice() {
         return Err(CertTextError::Line(1));
     }
     let Some((line, rest)) = split_line(rest) else {
@@ -80,7 +77,7 @@ fn read_head(text: &[u8]) -> Result<((u8, u64), &[u8]), CertTextError>
     let Some((line, rest)) = split_line(rest) else {
         return Err(CertTextError::Line(3));
     };
-    let Some(quotient) = one_number(b"QUOCIENTE", 0, MOST_DECIMAL, line) else {
+    let Some(quotient) = one_number(&TABLE.quotient, line) else {
         return Err(CertTextError::Line(3));
     };
     Ok(((code, quotient), rest))
@@ -89,7 +86,7 @@ fn read_head(text: &[u8]) -> Result<((u8, u64), &[u8]), CertTextError>
 /// The lines of the first phase, as many as stand there, and the text behind them.
 fn read_blocs(alloc: Global, text: &[u8]) -> Result<(FirstLines, &[u8]), Memory>
     ensures goes { IfOk result (λ x. (code q : ℕ) → text_goes (4 + length x.0) (InRounds code q x.0 []) x.1.now ≡ text_goes 4 (InFirst code q []) text.now) }
-    ensures few { IfOk result (λ x. length x.0 ≤ most_first_lines) }
+    ensures few { IfOk result (λ x. length x.0 ≤ MOST_FIRST_LINES) }
 {
     let mut first = FirstLines::new(alloc);
     let mut rest = text;
@@ -134,7 +131,7 @@ fn last_bloc(before: &FirstLines) -> u8
 /// The rounds, as many as stand there, and the text behind them.
 fn read_rounds(alloc: Global, text: &[u8]) -> Result<(Rounds, &[u8]), Memory>
     ensures goes { IfOk result (λ x. (k code q : ℕ) (first : List FirstLine) → text_goes (k + length x.0) (AtVacant code q first x.0) x.1.now ≡ text_goes k (InRounds code q first []) text.now) }
-    ensures few { IfOk result (λ x. length x.0 ≤ most_rounds) }
+    ensures few { IfOk result (λ x. length x.0 ≤ MOST_ROUNDS) }
 {
     let mut rounds = Rounds::new(alloc);
     let mut rest = text;
@@ -175,7 +172,7 @@ fn read_end(text: &[u8], number: u32) -> Result<u32, CertTextError>
     let Some((line, rest)) = split_line(rest) else {
         return Err(CertTextError::Line(number + 1));
     };
-    if line != b"FIM".as_slice() {
+    if line != TABLE.end.as_slice() {
         return Err(CertTextError::Line(number + 1));
     }
     if !rest.is_empty() {
