@@ -3,7 +3,7 @@ use Rattle.std.proofs.Common.{◌≡◌, ◌≢◌, ◌↔◌, ℕ, ◌+◌, ◌
 use Rattle.std.specs.Prelude.{slice_get}
 use Rattle.std.proofs.Math.ListN.{drop_of_length-le}
 use Rattle.std.specs.List.{AllByRecursion, list_any, refill}
-use Rattle.std.proofs.lemmas.Bool.{cases_Bool}
+use Rattle.std.proofs.lemmas.Bool.{cases_Bool, not-true}
 use Rattle.std.proofs.lemmas.Bool.Decides.{nat_tests}
 use Rattle.std.proofs.lemmas.List.{get_or_default, length-map, length-take-le, map-append, map_more, take_all, take-append-drop, take_more}
 use Rattle.std.proofs.lemmas.List.Edits.{map_over_more}
@@ -53,10 +53,6 @@ any_is qe before phase (p ∷ parties) =
 
 pub phase_is : (qe : ℕ) (before : List Award) (parties : List Contestant) → phase_of (blocs_after qe before parties) ≡ next_phase qe before parties
 phase_is qe before parties = ap (λ (b : Bool). cond b 2 3) (any_is qe before 2 parties)
-
-not_true : (b : Bool) → not b ≡ true → b ≡ false
-not_true true e = absurd (cc)
-not_true false e = refl
 
 none_is : (f : Contestant → Bool) (parties : List Contestant) → list_any f parties ≡ false → AllByRecursion (λ p. f p ≡ false) parties
 none_is f parties none = all_of_members (λ p. f p ≡ false) parties (λ p at. elim (cases_Bool (f p)) [ inl t ↦ let any = any_of_member f parties p at t in absurd (cc) | inr e ↦ e ])
@@ -170,9 +166,6 @@ blocs_more qe parties i p s old new lt at is so_far pushed =
 pub blocs-length : (qe : ℕ) (before : List Award) (parties : List Contestant) (i : ℕ) (blocs : List Bloc) → blocs ≡ blocs_after qe before (take i parties) → i < length parties → length blocs ≡ i
 blocs-length qe before parties i blocs is lt = ap (λ (l : List Bloc). length l) is ∙ length-map (take i parties) (bloc_after qe before) ∙ length-take-le i parties (omega arith)
 
-pub votes_here : (contest : Contest) (items : List Contestant) (i : ℕ) (p : Contestant) → items ≡ contest.parties → i < length items → p ≡ get_or items i p → valid_votes contest.parties ≤ 10 ^ 12 → votes_of p ≤ 10 ^ 12
-votes_here contest items i p same lt at few = votes_at items i p lt at (subst (λ (l : List Contestant). valid_votes l ≤ 10 ^ 12) (sym same) few)
-
 -- ---- a seat is given, bloc by bloc
 
 pub seated_yes : (party : ℕ) (b : Bloc) → b.standing.party ≡ party → seated party b ≡ record { standing = b.standing; seats = b.seats + 1 }
@@ -211,4 +204,4 @@ nobody_told contest c qe rounds blocs slice told quotient turns are same is =
     same ∙ are ∙ ap (λ (l : List Round). blocs_after qe (awards_in l) contest.parties) turns ∙ ap (λ (q : ℕ). blocs_after q (awards_in c.rounds) contest.parties) (sym quotient) in
     let answer = is ∙ ap (λ (l : List Bloc). not (list_any (competes (phase_of l)) l)) whole in
     let law = nobody_is c.quotient (awards_in c.rounds) contest.parties in
-    ((λ yes. law.0 (not_true _ (sym answer ∙ yes))), (λ none. answer ∙ ap not (law.1 none)))
+    ((λ yes. law.0 (not-true _ (sym answer ∙ yes))), (λ none. answer ∙ ap not (law.1 none)))

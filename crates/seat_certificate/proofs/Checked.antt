@@ -22,7 +22,7 @@ use Rattle.seat_certificate.specs.Certificate.{EachIsLawful, IsLawful, award_in,
 use Rattle.seat_certificate.specs.Valid.{HasQuotient, IsFirstWrongLine, IsFirstWrongRound, TakesSeatOf, Unbeaten}
 use Rattle.seat_certificate.proofs.Outcomes.{first-sum}
 use Rattle.seat_certificate.proofs.Lawful.{takes_from, takes_to}
-use Rattle.seat_certificate.proofs.Members.{slice_get-take, slice_get_some, some_same, take_more_at}
+use Rattle.seat_certificate.proofs.Members.{in_front, slice_get_some, some_same, take_more_at}
 
 pub stands_here : {X : Type 0} (xs : List X) (i : ℕ) (x : X) → i < length xs → x ≡ get_or xs i x → slice_get xs i ≡ Some x
 stands_here xs i x lt at = slice_get-get_or xs i x lt ∙ ap (λ (y : _). Some y) (sym at)
@@ -78,15 +78,6 @@ further_line qe parties lines n count more front =
       wrong = λ e. let within = slice_get_some lines n more in absurd (let k : Some within.0 ≡ None = sym within.1 ∙ e ∙ none in cc);
     }
 
--- one line more
-pub line_more : (qe : ℕ) (parties : List Contestant) (lines : List FirstLine) (i : ℕ) (p : Contestant) (l : FirstLine) → i < length parties → p ≡ get_or parties i p → slice_get lines i ≡ Some l → l ≡ first_line qe p
-    → take i lines ≡ first_lines qe (take i parties) → take (i + 1) lines ≡ first_lines qe (take (i + 1) parties)
-line_more qe parties lines i p l lt at stands same front =
-    take_more_at lines i l stands
-    ∙ ap (λ (ls : List FirstLine). ls ++ l ∷ []) front
-    ∙ ap (λ (k : FirstLine). first_lines qe (take i parties) ++ k ∷ []) (same ∙ ap (first_line qe) at)
-    ∙ sym (map_more (first_line qe) parties i p lt)
-
 -- ---- rounds
 
 no_more : (rounds : List Round) (i k : ℕ) (s : Round) → i < k → slice_get (take (i + 1) rounds) k ≡ Some s → ⊥
@@ -100,13 +91,13 @@ pub round_more : (contest : Contest) (qe : ℕ) (rounds : List Round) (i : ℕ) 
     → EachIsLawful contest qe (take (i + 1) rounds)
 round_more contest qe rounds i r stands each here k s at = elim (cases_order k i) [
   | inl e ↦
-      let same : s ≡ r = some_same s r (sym at ∙ slice_get-take rounds (i + 1) k (omega arith) ∙ ap (λ (n : ℕ). slice_get rounds n) e ∙ stands) in
+      let same : s ≡ r = some_same s r (sym at ∙ in_front rounds (i + 1) k (Some r) (omega arith) (ap (λ (n : ℕ). slice_get rounds n) e ∙ stands)) in
       let front : take k (take (i + 1) rounds) ≡ take i rounds = take-take k (i + 1) rounds (omega arith) ∙ ap (λ (n : ℕ). take n rounds) e in
       subst (λ (l : List Round). IsLawful contest qe (awards_in l) s) (sym front) (subst (λ (x : Round). IsLawful contest qe (awards_in (take i rounds)) x) (sym same) here)
   | inr w ↦ elim w [
     | inl lt ↦
         let front : take k (take (i + 1) rounds) ≡ take k (take i rounds) = take-take k (i + 1) rounds (omega arith) ∙ sym (take-take k i rounds (omega arith)) in
-        subst (λ (l : List Round). IsLawful contest qe (awards_in l) s) (sym front) (each k s (slice_get-take rounds i k lt ∙ sym (slice_get-take rounds (i + 1) k (omega arith)) ∙ at))
+        subst (λ (l : List Round). IsLawful contest qe (awards_in l) s) (sym front) (each k s (in_front rounds i k (Some s) lt (sym (in_front rounds (i + 1) k (slice_get rounds k) (omega arith) refl) ∙ at)))
     | inr gt ↦ absurd (no_more rounds i k s gt at)
   ]
 ]
@@ -116,10 +107,6 @@ pub wrong_round : (contest : Contest) (qe : ℕ) (rounds : List Round) (i : ℕ)
 wrong_round contest qe rounds i r stands each wrong = record { place = i; number = refl; before = each; round = r; stands = stands; wrong = wrong }
 
 -- ---- the seat of a round
-
--- one average more that isn't one of the bloc, or isn't unbeaten
-pub no_seat : (averages : List AverageData) (party : ℕ) → AllByRecursion (λ a. a.party ≡ party → Unbeaten averages a → ⊥) averages → TakesSeatOf averages party → ⊥
-no_seat averages party none takes = of_member (λ a. a.party ≡ party → Unbeaten averages a → ⊥) averages takes.0 none takes.1 takes.2 takes.3
 
 -- a bloc's average that comes before this one
 pub beaten : (averages : List AverageData) (a own : AverageData) → Contains averages a → comes_before a own ≡ true → Unbeaten averages own → ⊥

@@ -1,5 +1,5 @@
 -- A certificate is valid or has one first fault, and never both.
-use Rattle.std.proofs.Common.{◌≡◌, ℕ, ◌+◌, ◌<◌, List, take, inl, inr, refl, sym, ap, ◌∙◌, subst, arith}
+use Rattle.std.proofs.Common.{Some, ◌≡◌, ℕ, ◌+◌, ◌<◌, List, take, inl, inr, refl, sym, ap, ◌∙◌, subst, arith}
 use Rattle.std.specs.Prelude.{slice_get}
 use Rattle.std.proofs.lemmas.Bool.{cases_order}
 use Rattle.std.proofs.lemmas.List.{take-take}
@@ -11,7 +11,7 @@ use Rattle.seat_certificate.specs.declared.check.CertFault.{CertFault}
 use Rattle.seat_certificate.specs.declared.check.CertFault.TheVariants as fault
 use Rattle.seat_certificate.specs.Certificate.{EachIsLawful, IsLawful, awards_in, first_lines}
 use Rattle.seat_certificate.specs.Valid.{HasQuotient, IsCertFault, IsFirstWrongLine, IsFirstWrongRound, IsValid}
-use Rattle.seat_certificate.proofs.Members.{slice_get-take}
+use Rattle.seat_certificate.proofs.Members.{in_front}
 
 quotient_or : (contest : Contest) (c : Certificate) → HasQuotient contest c → IsCertFault contest c fault.Quotient → ⊥
 quotient_or contest c has (inl none) = let some = has.some in absurd (omega arith)
@@ -21,7 +21,7 @@ quotient_or contest c has (inr other) = other has.told
 
 line_at : (law lines : List FirstLine) (k j : ℕ) (a : IsFirstWrongLine law lines k) (b : IsFirstWrongLine law lines j) → a.place < b.place → ⊥
 line_at law lines k j a b lt =
-    a.wrong (sym (slice_get-take lines b.place a.place lt) ∙ ap (λ (l : List FirstLine). slice_get l a.place) b.before ∙ slice_get-take law b.place a.place lt)
+    a.wrong (sym (in_front lines b.place a.place (slice_get lines a.place) lt refl) ∙ ap (λ (l : List FirstLine). slice_get l a.place) b.before ∙ in_front law b.place a.place (slice_get law a.place) lt refl)
 
 one_line : (law lines : List FirstLine) (k j : ℕ) → IsFirstWrongLine law lines k → IsFirstWrongLine law lines j → k ≡ j
 one_line law lines k j a b = elim (cases_order a.place b.place) [
@@ -39,7 +39,7 @@ no_line law lines k same wrong = wrong.wrong (ap (λ (l : List FirstLine). slice
 
 round_at : (contest : Contest) (qe : ℕ) (rounds : List Round) (n k : ℕ) (a : IsFirstWrongRound contest qe rounds k) → EachIsLawful contest qe (take n rounds) → a.place < n → ⊥
 round_at contest qe rounds n k a each lt =
-    let lawful = each a.place a.round (slice_get-take rounds n a.place lt ∙ a.stands) in
+    let lawful = each a.place a.round (in_front rounds n a.place (Some a.round) lt a.stands) in
     a.wrong (subst (λ (l : List Round). IsLawful contest qe (awards_in l) a.round) (take-take a.place n rounds (omega arith)) lawful)
 
 one_round : (contest : Contest) (qe : ℕ) (rounds : List Round) (k j : ℕ) → IsFirstWrongRound contest qe rounds k → IsFirstWrongRound contest qe rounds j → k ≡ j

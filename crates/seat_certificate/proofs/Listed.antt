@@ -60,13 +60,6 @@ ranked_push list old new bloc i xs d lt so_far pushed =
     ∙ ap (λ (n : ℕ). ranked_from bloc 1 (take i xs) ++ (let s : Substitute = record { bloc = bloc; rank = n; number = (get_or xs i d).number } in s) ∷ []) (omega arith) in
     pushed ∙ ap (λ (l : List Substitute). l ++ one) so_far ∙ append_assoc list (ranked_from bloc 1 (take i xs)) one ∙ ap (λ (l : List Substitute). list ++ l) (sym more)
 
--- the substitutes of a bloc, behind those of others
-pub with_seat : (p : Contestant) (seats : ℕ) (list new : List Substitute) (room slice others : List Entry) → 0 < seats → slice ≡ p.candidates → room ≡ in_order slice → others ≡ drop seats room → new ≡ list ++ ranked_from p.number 1 others
-    → new ≡ list ++ substitutes_with seats p
-with_seat p seats list new room slice others some items ordered behind pushed =
-    let test : nat_le 1 seats ≡ true = grind (arith, nat_tests) in
-    rw test (pushed ∙ ap (λ (l : List Entry). list ++ ranked_from p.number 1 l) (behind ∙ ap (λ (l : List Entry). drop seats l) (ordered ∙ ap (λ (l : List Entry). in_order l) items)))
-
 -- one bloc more of the seats
 pub listed_push : (contest : Contest) (s : SeatsData) (items : List Contestant) (old new : List Substitute) (i : ℕ) (p : Contestant) (q : PartySeats) → AreSeats contest s → items ≡ contest.parties → i < length items → p ≡ get_or items i p
     → slice_get s.parties i ≡ Some q → old ≡ flat_map (substitutes_of s.quotient s.awards) (take i items) → new ≡ old ++ substitutes_with q.seats p → new ≡ flat_map (substitutes_of s.quotient s.awards) (take (i + 1) items)
@@ -83,10 +76,6 @@ few_seats contest s items i p q given rise same lt at told =
     let seats = seats_of_bloc s.quotient s.awards items s.parties i p q parties lt at told in
     let most = candidates_at s.quotient _ s.vacant contest.parties items s.awards i p given.rounds rise same lt at in
     omega (arith, seats, most)
-
--- as many are counted as there are places
-pub same_count : (contest : Contest) (s : SeatsData) (items : List Contestant) → AreSeats contest s → items ≡ contest.parties → length s.parties ≡ length items
-same_count contest s items given same = ap (λ (l : List PartySeats). length l) given.parties ∙ length-map contest.parties (party_seats s.quotient s.awards) ∙ sym (ap (λ (l : List Contestant). length l) same)
 
 -- ---- elected and substitutes
 

@@ -1,11 +1,12 @@
 -- Members of lists that were made from others, and fronts of lists
-use Rattle.std.proofs.Common.{◌≡◌, ℕ, zero, suc, ◌<◌, Bool, true, List, [], ◌∷◌, ◌++◌, length, map, take, filter, Some, inl, inr, refl, sym, ap, ◌∙◌, subst, ◌+◌, arith}
+use Rattle.std.proofs.Common.{◌≡◌, ℕ, zero, suc, ◌<◌, Bool, true, List, [], ◌∷◌, ◌++◌, length, map, take, filter, Option, Some, inl, inr, refl, sym, ap, ◌∙◌, subst, ◌+◌, arith}
 use Rattle.std.specs.Prelude.{slice_get}
 use Rattle.std.specs.List.{AllByRecursion, Contains}
 use Rattle.std.proofs.lemmas.List.{take_more}
+use Rattle.std.proofs.lemmas.List.Elements.{Contains-push_cases}
 use Rattle.std.proofs.lemmas.Option.{get_or_from_slice_get, slice_get_within}
 use Rattle.std.proofs.lemmas.Bool.{cases_Bool}
-use Rattle.seat_remainders.proofs.Lists.{contains_cases, contains_first, contains_there}
+use Rattle.seat_remainders.proofs.Lists.{all_of_members, contains_cases, contains_first, contains_there, of_member}
 
 pub contains_map : {X Y : Type 0} (f : X → Y) (xs : List X) (x : X) → Contains xs x → Contains (map f xs) (f x)
 contains_map f [] x (k, lt, e) = absurd (omega arith)
@@ -49,12 +50,12 @@ filter_member p (y ∷ xs) x at = elim (cases_Bool (p y)) [
 ]
 
 -- the front of a list has what the list has there
-pub slice_get-take : {X : Type 0} (xs : List X) (n i : ℕ) → i < n → slice_get (take n xs) i ≡ slice_get xs i
-slice_get-take [] zero i lt = refl
-slice_get-take [] (suc n) i lt = refl
-slice_get-take (x ∷ xs) zero i lt = absurd (omega arith)
-slice_get-take (x ∷ xs) (suc n) zero lt = refl
-slice_get-take (x ∷ xs) (suc n) (suc i) lt = slice_get-take xs n i (omega arith)
+pub in_front : {X : Type 0} (xs : List X) (n i : ℕ) (o : Option X) → i < n → slice_get xs i ≡ o → slice_get (take n xs) i ≡ o
+in_front [] zero i o lt at = at
+in_front [] (suc n) i o lt at = at
+in_front (x ∷ xs) zero i o lt at = absurd (omega arith)
+in_front (x ∷ xs) (suc n) zero o lt at = at
+in_front (x ∷ xs) (suc n) (suc i) o lt at = in_front xs n i o (omega arith) at
 
 pub slice_get_seam : {X : Type 0} (xs : List X) (y : X) (ys : List X) → slice_get (xs ++ y ∷ ys) (length xs) ≡ Some y
 slice_get_seam [] y ys = refl
@@ -71,13 +72,12 @@ take_more_at xs i x at = take_more xs i x (slice_get_within xs i x at) ∙ ap (�
 pub some_same : {X : Type 0} (x y : X) → Some x ≡ Some y → x ≡ y
 some_same x y e = cc
 
-pub all_push : {X : Type 0} (P : X → Type 0) (xs : List X) (x : X) → AllByRecursion P xs → P x → AllByRecursion P (xs ++ x ∷ [])
-all_push P [] x all here = (here, tt)
-all_push P (y ∷ xs) x all here = (all.0, all_push P xs x all.1 here)
+-- one element more
+pub all_push : {X : Type 0} (P : X → Type 0) (xs ys : List X) (x : X) → ys ≡ xs ++ x ∷ [] → AllByRecursion P xs → P x → AllByRecursion P ys
+all_push P xs ys x is all here =
+    subst (λ (l : List _). AllByRecursion P l) (sym is) (all_of_members P (xs ++ x ∷ []) (λ y at. elim (Contains-push_cases xs x y at) [ inl m ↦ of_member P xs y all m | inr e ↦ subst P e here ]))
 
 -- one element more of a front
 pub all_at : {X : Type 0} (P : X → Type 0) (xs : List X) (i : ℕ) (x : X) → slice_get xs i ≡ Some x → AllByRecursion P (take i xs) → P x → AllByRecursion P (take (i + 1) xs)
-all_at P xs i x at all here = subst (λ (l : List _). AllByRecursion P l) (sym (take_more_at xs i x at)) (all_push P (take i xs) x all here)
+all_at P xs i x at all here = all_push P (take i xs) (take (i + 1) xs) x (take_more_at xs i x at) all here
 
-pub member_at : {X : Type 0} (xs : List X) (i : ℕ) (x : X) → slice_get xs i ≡ Some x → Contains xs x
-member_at xs i x at = (i, slice_get_within xs i x at, get_or_from_slice_get xs i x x at)

@@ -57,9 +57,6 @@ gives_seats contest c v =
 
 -- ---- the seats of each bloc
 
-one_more : (n : ℕ) (r : Round) (rounds : List Round) → count_by (λ r. r.party == n) (r ∷ rounds) ≡ cond (r.party == n) 1 0 + count_by (λ r. r.party == n) rounds
-one_more n r rounds = sum_by-cons (λ (r : Round). cond (r.party == n) 1 0) r rounds
-
 taken : (n : ℕ) (rounds : List Round) → count_by (λ r. r.party == n) rounds ≡ count_by (λ w. w.party == n) (awards_in rounds)
 taken n [] = refl
 taken n (r ∷ rounds) =

@@ -12,7 +12,8 @@ use Rattle.seat_certificate.specs.Reading.{average_at, averages_at, cut_at, keye
 use Rattle.seat_certificate.specs.Text.{AverageFits, IsBloc, RiseAbove, RoundFits, average_word, round_line}
 use Rattle.seat_certificate.proofs.Members.{some_same}
 use Rattle.seat_certificate.proofs.Pieces.{Lacks, cut_back, cut_here, decimal_lacks, lacks-append, number_first, word_first, word_last, words_join}
-use Rattle.seat_certificate.proofs.WordReading.{bind_some, if_some, keyed_read, keyed_written, map_some, number_read, number_written, then_some}
+use Rattle.urna_base.proofs.Cases.{and_then_some, guard_some, map_some}
+use Rattle.seat_certificate.proofs.WordReading.{bind_some, keyed_read, keyed_written, number_read, number_written}
 
 -- ---- one average
 
@@ -92,8 +93,8 @@ averages_written before (a ∷ xs) last fit rise =
 pub next_read : (last : ℕ) (w : List ℕ) (a : AverageData) → next_average last w ≡ Some a → AverageFits a × (w ≡ word_of a) × (last < a.party)
 unfolding next_average
 next_read last w a h =
-    let found = then_some (average_at w) (λ a. if nat_lt last a.party then Some a else None) a h in
-    let test = if_some (nat_lt last found.0.party) (Some found.0) a found.2 in
+    let found = and_then_some (average_at w) (λ a. if nat_lt last a.party then Some a else None) a h in
+    let test = guard_some (nat_lt last found.0.party) (Some found.0) a found.2 in
     let is : found.0 ≡ a = ap (λ (o : Option AverageData). unwrap_or o found.0) test.1 in
     let read = average_read w found.0 found.1 in
     subst (λ (m : AverageData). AverageFits m × (w ≡ word_of m) × (last < m.party)) is (read.0, read.1, ltb-true last found.0.party test.0)
@@ -173,8 +174,8 @@ round_written k r few fits = rw (front_written k r few fits, averages_written []
 pub round_read : (k : ℕ) (line : List ℕ) (r : Round) → round_at k line ≡ Some r → RoundFits r × (line ≡ round_line k r)
 unfolding round_at round_front
 round_read k line r h =
-    let x = then_some (round_front k line) (λ x. option_map (λ xs. record { phase = x.0.0; party = x.0.1; averages = xs }) (averages_at [] 0 x.1)) r h in
-    let xs = map_some (averages_at [] 0 x.0.1) (λ xs. record { phase = x.0.0.0; party = x.0.0.1; averages = xs }) r x.2 in
+    let x = and_then_some (round_front k line) (λ x. option_map (λ xs. record { phase = x.0.0; party = x.0.1; averages = xs }) (averages_at [] 0 x.1)) r h in
+    let xs = map_some (λ xs. record { phase = x.0.0.0; party = x.0.0.1; averages = xs }) (averages_at [] 0 x.0.1) r x.2 in
     let n = bind_some (keyed TABLE.round k k (pieces line)) _ x.0 x.1 in
     let f = bind_some (keyed TABLE.phase.word TABLE.phase.low TABLE.phase.high n.0.1) _ x.0 n.2 in
     let p = bind_some (keyed TABLE.winner.word TABLE.winner.low TABLE.winner.high f.0.1) _ x.0 f.2 in

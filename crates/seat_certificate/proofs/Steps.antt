@@ -14,7 +14,8 @@ use Rattle.seat_certificate.specs.Text.{HasText, LineFits, RiseAbove, RoundFits,
 use Rattle.seat_certificate.proofs.LineReading.{bloc_read, one_read}
 use Rattle.seat_certificate.proofs.Members.{all_push}
 use Rattle.seat_certificate.proofs.RoundReading.{round_read}
-use Rattle.seat_certificate.proofs.WordReading.{if_some, map_some, same_line, then_some}
+use Rattle.urna_base.proofs.Cases.{and_then_some, guard_some, map_some}
+use Rattle.seat_certificate.proofs.WordReading.{same_line}
 
 -- ---- what was read before a state
 
@@ -73,9 +74,9 @@ Goes st line more = IsState more × (lines_before more ≡ lines_before st ++ li
 bloc_goes : (code q : ℕ) (first : List FirstLine) (line : List ℕ) (l : FirstLine) → HasText code (made q first [] 0) → next_bloc first line ≡ Some l → Goes (InFirst code q first) line (InFirst code q (first ++ l ∷ []))
 unfolding next_bloc
 bloc_goes code q first line l is h =
-    let room = if_some (nat_lt (length first) MOST_FIRST_LINES) _ l h in
-    let found = then_some (bloc_at line) (λ l. if nat_lt (last_bloc 0 first) l.party then Some l else None) l room.1 in
-    let test = if_some (nat_lt (last_bloc 0 first) found.0.party) (Some found.0) l found.2 in
+    let room = guard_some (nat_lt (length first) MOST_FIRST_LINES) _ l h in
+    let found = and_then_some (bloc_at line) (λ l. if nat_lt (last_bloc 0 first) l.party then Some l else None) l room.1 in
+    let test = guard_some (nat_lt (last_bloc 0 first) found.0.party) (Some found.0) l found.2 in
     let same : found.0 ≡ l = ap (λ (o : Option FirstLine). unwrap_or o found.0) test.1 in
     let read = bloc_read line found.0 found.1 in
     let fits : LineFits l = subst LineFits same read.0 in
@@ -85,7 +86,7 @@ bloc_goes code q first line l is h =
       record {
         office = is.office;
         quotient = is.quotient;
-        first = all_push LineFits first l is.first fits;
+        first = all_push LineFits first _ l refl is.first fits;
         few_lines = omega (arith, count, ltb-true _ _ room.0);
         rise = rise_push 0 first l is.rise above;
         rounds = tt;
@@ -99,7 +100,7 @@ round_goes : (code q : ℕ) (first : List FirstLine) (rounds : List Round) (line
     → Goes (InRounds code q first rounds) line (InRounds code q first (rounds ++ r ∷ []))
 unfolding next_round
 round_goes code q first rounds line r is h =
-    let room = if_some (nat_lt (length rounds) MOST_ROUNDS) _ r h in
+    let room = guard_some (nat_lt (length rounds) MOST_ROUNDS) _ r h in
     let few : length rounds < MOST_ROUNDS = ltb-true _ _ room.0 in
     let read = round_read (length rounds + 1) line r room.1 in
     let count = length-append rounds (r ∷ []) in (
@@ -109,7 +110,7 @@ round_goes code q first rounds line r is h =
         first = is.first;
         few_lines = is.few_lines;
         rise = is.rise;
-        rounds = all_push RoundFits rounds r is.rounds read.0;
+        rounds = all_push RoundFits rounds _ r refl is.rounds read.0;
         few_rounds = omega (arith, count, few);
         vacant = omega arith;
       },
@@ -121,7 +122,7 @@ vacant_goes : (code q : ℕ) (first : List FirstLine) (rounds : List Round) (lin
     → Goes (AtVacant code q first rounds) line more
 unfolding vacant_at
 vacant_goes code q first rounds line more is h =
-    let found = map_some (vacant_at line) (λ m. AtEnd code (made q first rounds m)) more h in
+    let found = map_some (λ m. AtEnd code (made q first rounds m)) (vacant_at line) more h in
     let read = one_read TABLE.vacant.word TABLE.vacant.low TABLE.vacant.high found.0 line found.1 in
     let narrow : found.0 < 2 ^ 32 = omega (arith, read.most) in
     let there : Goes (AtVacant code q first rounds) line (AtEnd code (made q first rounds found.0)) = (
@@ -156,20 +157,20 @@ end_lines code c line e =
 pub step_goes : (st more : State) (line : List ℕ) → IsState st → step st line ≡ Some more → Goes st line more
 unfolding step office_at
 step_goes AtStart more line is h =
-    let test = if_some (bytes_eq line TABLE.version) (Some AtOffice) more h in
+    let test = guard_some (bytes_eq line TABLE.version) (Some AtOffice) more h in
     let same : AtOffice ≡ more = cc in
     let text = same_line line TABLE.version test.0 in
     subst (λ (s : State). Goes AtStart line s) same (tt, ap (λ (t : List ℕ). t ∷ []) (sym text))
 step_goes AtOffice more line is h =
-    let found = map_some (option_and_then proportional_code (one_number TABLE.office.word TABLE.office.low TABLE.office.high line)) (λ code. AtQuotient code) more h in
-    let code = then_some (one_number TABLE.office.word TABLE.office.low TABLE.office.high line) proportional_code found.0 found.1 in
+    let found = map_some (λ code. AtQuotient code) (option_and_then proportional_code (one_number TABLE.office.word TABLE.office.low TABLE.office.high line)) more h in
+    let code = and_then_some (one_number TABLE.office.word TABLE.office.low TABLE.office.high line) proportional_code found.0 found.1 in
     let read = one_read TABLE.office.word TABLE.office.low TABLE.office.high code.0 line code.1 in
-    let test = if_some (code_proportional code.0) (Some code.0) found.0 code.2 in
+    let test = guard_some (code_proportional code.0) (Some code.0) found.0 code.2 in
     let same : code.0 ≡ found.0 = cc in
     let there : Goes AtOffice line (AtQuotient found.0) = (subst (λ (n : ℕ). code_proportional n ≡ true) same test.0, ap (λ (t : List ℕ). TABLE.version ∷ t ∷ []) (ap office_line (sym same) ∙ sym read.text)) in
     subst (λ (s : State). Goes AtOffice line s) found.2 there
 step_goes (AtQuotient code) more line is h =
-    let found = map_some (one_number TABLE.quotient.word TABLE.quotient.low TABLE.quotient.high line) (λ q. InFirst code q []) more h in
+    let found = map_some (λ q. InFirst code q []) (one_number TABLE.quotient.word TABLE.quotient.low TABLE.quotient.high line) more h in
     let read = one_read TABLE.quotient.word TABLE.quotient.low TABLE.quotient.high found.0 line found.1 in
     let there : Goes (AtQuotient code) line (InFirst code found.0 []) = (
       record { office = is; quotient = read.few; first = tt; few_lines = omega arith; rise = tt; rounds = tt; few_rounds = omega arith; vacant = omega arith },
@@ -180,7 +181,7 @@ step_goes (InFirst code q first) more line is h = first_goes code q first line m
 step_goes (InRounds code q first rounds) more line is h = rounds_go code q first rounds line more (next_round rounds line) refl is h
 step_goes (AtVacant code q first rounds) more line is h = vacant_goes code q first rounds line more is h
 step_goes (AtEnd code c) more line is h =
-    let test = if_some (bytes_eq line TABLE.end) (Some (AtDone code c)) more h in
+    let test = guard_some (bytes_eq line TABLE.end) (Some (AtDone code c)) more h in
     let same : AtDone code c ≡ more = cc in
     let text = same_line line TABLE.end test.0 in
     let there : Goes (AtEnd code c) line (AtDone code c) = (is, end_lines code c line text) in

@@ -8,6 +8,7 @@ use Rattle.std.proofs.lemmas.Bool.Decides.{nat_tests}
 use Rattle.std.proofs.lemmas.Slice.Eq.{bytes_eq-Decides}
 use Rattle.urna_base.specs.Digits.{decimal_value}
 use Rattle.urna_base.specs.Moment.{is_between}
+use Rattle.urna_base.proofs.Cases.{and_then_some, guard_some, map_some}
 use Rattle.urna_base.proofs.DecimalLaws.{decimal-decimal_value, decimal_value-below, decimal_value-decimal}
 use Rattle.urna_base.proofs.DigitLaws.{some_from_test}
 use Rattle.seat_certificate.specs.Reading.{◌>>=◌, at_end, keyed, number_at}
@@ -18,32 +19,19 @@ pub bind_some : {A B : Type 0} (o : Option A) (f : A → Option B) (y : B) → (
 bind_some None f y h = absurd (cc)
 bind_some (Some x) f y h = (x, refl, h)
 
-pub then_some : {A B : Type 0} (o : Option A) (f : A → Option B) (y : B) → option_and_then f o ≡ Some y → (x : A) × (o ≡ Some x) × (f x ≡ Some y)
-then_some None f y h = absurd (cc)
-then_some (Some x) f y h = (x, refl, h)
-
-pub map_some : {A B : Type 0} (o : Option A) (f : A → B) (y : B) → option_map f o ≡ Some y → (x : A) × (o ≡ Some x) × (f x ≡ y)
-map_some None f y h = absurd (cc)
-map_some (Some x) f y h = (x, refl, cc)
-
 pub end_some : {A : Type 0} (x y : A) (ws : List (List ℕ)) → at_end x ws ≡ Some y → (ws ≡ []) × (x ≡ y)
 end_some x y [] h = (refl, cc)
 end_some x y (w ∷ ws) h = absurd (cc)
 
-pub if_some : {A : Type 0} (b : Bool) (o : Option A) (y : A) → (if b then o else None) ≡ Some y → (b ≡ true) × (o ≡ Some y)
-if_some true o y h = (refl, h)
-if_some false o y h = absurd (cc)
-
 -- ---- numbers
-
-between_from : (low high n : ℕ) → low ≤ n → n ≤ high → is_between low high n ≡ true
-between_from low high n h g = grind (arith, nat_tests)
 
 between_to : (low high n : ℕ) → is_between low high n ≡ true → (low ≤ n) × (n ≤ high)
 between_to low high n h = (grind (arith, nat_tests), grind (arith, nat_tests))
 
 pub number_written : (low high n : ℕ) → low ≤ n → n ≤ high → n < 10 ^ 18 → number_at low high (decimal n) ≡ Some n
-number_written low high n h g lt = rw (decimal_value-decimal n lt, between_from low high n h g) refl
+number_written low high n h g lt =
+    let within : is_between low high n ≡ true = grind (arith, nat_tests) in
+    rw (decimal_value-decimal n lt, within) refl
 
 -- what was read within bounds
 pub record IsNumber (low high n : ℕ) (w : List ℕ) : Type 0 where
@@ -54,7 +42,7 @@ pub record IsNumber (low high n : ℕ) (w : List ℕ) : Type 0 where
 
 pub number_read : (low high n : ℕ) (w : List ℕ) → number_at low high w ≡ Some n → IsNumber low high n w
 number_read low high n w h =
-    let found = then_some (decimal_value w) (λ n. if is_between low high n then Some n else None) n h in
+    let found = and_then_some (decimal_value w) (λ n. if is_between low high n then Some n else None) n h in
     let test = some_from_test (is_between low high found.0) found.0 n found.2 in
     let bounds = between_to low high found.0 test.0 in
     let value : decimal_value w ≡ Some n = found.1 ∙ ap (λ (x : ℕ). Some x) test.1 in
@@ -63,15 +51,14 @@ number_read low high n w h =
 
 -- ---- a keyword and its number
 
-same_bytes : (xs : List ℕ) → bytes_eq xs xs ≡ true
-same_bytes xs = (bytes_eq-Decides xs xs).1 refl
-
 pub same_line : (line word : List ℕ) → bytes_eq line word ≡ true → line ≡ word
 same_line line word h = (bytes_eq-Decides line word).0 h
 
 pub keyed_written : (word : List ℕ) (low high n : ℕ) (ws : List (List ℕ)) → low ≤ n → n ≤ high → n < 10 ^ 18 → keyed word low high (word ∷ decimal n ∷ ws) ≡ Some (n, ws)
 unfolding keyed
-keyed_written word low high n ws h g lt = rw (same_bytes word, number_written low high n h g lt) refl
+keyed_written word low high n ws h g lt =
+    let same : bytes_eq word word ≡ true = (bytes_eq-Decides word word).1 refl in
+    rw (same, number_written low high n h g lt) refl
 
 pub record IsKeyed (word : List ℕ) (low high : ℕ) (ws : List (List ℕ)) (x : ℕ × List (List ℕ)) : Type 0 where
   pub words : ws ≡ word ∷ decimal x.0 ∷ x.1
@@ -84,8 +71,8 @@ unfolding keyed
 keyed_read word low high [] x h = absurd (cc)
 keyed_read word low high (w ∷ []) x h = absurd (cc)
 keyed_read word low high (w ∷ v ∷ ws) x h =
-    let test = if_some (bytes_eq w word) (option_map (λ n. (n, ws)) (number_at low high v)) x h in
-    let found = map_some (number_at low high v) (λ n. (n, ws)) x test.1 in
+    let test = guard_some (bytes_eq w word) (option_map (λ n. (n, ws)) (number_at low high v)) x h in
+    let found = map_some (λ n. (n, ws)) (number_at low high v) x test.1 in
     let read = number_read low high found.0 v found.1 in
     let first : found.0 ≡ x.0 = ap (λ (y : ℕ × List (List ℕ)). y.0) found.2 in
     let rest : ws ≡ x.1 = ap (λ (y : ℕ × List (List ℕ)). y.1) found.2 in

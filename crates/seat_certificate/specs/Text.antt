@@ -1,7 +1,7 @@
 -- The text of a certificate of an office, and the first fault of any other text (docs/FORMATS.md, "Certificate")
 use Rattle.std.specs.Prelude.{◌≡◌, ◌⊎◌, ℕ, ◌+◌, ◌^◌, ◌≤◌, ◌<◌, true, List, [], ◌∷◌, ◌++◌, length, map, take, flat_map}
 use Rattle.std.specs.Fmt.{decimal}
-use Rattle.std.specs.List.{AllByRecursion}
+use Rattle.std.specs.List.{AllByRecursion, join_with_byte}
 use Rattle.election_tables.specs.Offices.{code_proportional}
 use Rattle.quotients.specs.Average.{AverageData}
 use Rattle.seat_remainders.specs.declared.contest.Contest.{Contest}
@@ -66,15 +66,19 @@ pub record HasFewBlocs (contest : Contest) : Type 0 where
 
 -- ---- the text
 
+-- words with single spaces (32) between them
+abbrev pub spaced : List (List ℕ) → List ℕ
+spaced words = join_with_byte 32 words
+
 abbrev pub office_line : ℕ → List ℕ
-office_line code = TABLE.office.word ++ 32 ∷ decimal code
+office_line code = spaced (TABLE.office.word ∷ decimal code ∷ [])
 
 abbrev pub quotient_line : ℕ → List ℕ
-quotient_line q = TABLE.quotient.word ++ 32 ∷ decimal q
+quotient_line q = spaced (TABLE.quotient.word ∷ decimal q ∷ [])
 
 abbrev pub bloc_line : FirstLine → List ℕ
 bloc_line l =
-    TABLE.party.word ++ 32 ∷ (decimal l.party ++ 32 ∷ (TABLE.party_quotient.word ++ 32 ∷ (decimal l.quotient ++ 32 ∷ (TABLE.able.word ++ 32 ∷ (decimal l.able ++ 32 ∷ (TABLE.seats.word ++ 32 ∷ decimal l.seats))))))
+    spaced (TABLE.party.word ∷ decimal l.party ∷ TABLE.party_quotient.word ∷ decimal l.quotient ∷ TABLE.able.word ∷ decimal l.able ∷ TABLE.seats.word ∷ decimal l.seats ∷ [])
 
 -- an average behind a space, as bloc, votes and divisor
 abbrev pub average_word : AverageData → List ℕ
@@ -83,7 +87,7 @@ average_word a = TABLE.average_party.mark ∷ (decimal a.party ++ TABLE.average_
 -- round number k
 abbrev pub round_line : ℕ → Round → List ℕ
 round_line k r =
-    TABLE.round ++ 32 ∷ (decimal k ++ 32 ∷ (TABLE.phase.word ++ 32 ∷ (decimal r.phase ++ 32 ∷ (TABLE.winner.word ++ 32 ∷ (decimal r.party ++ flat_map average_word r.averages)))))
+    spaced (TABLE.round ∷ decimal k ∷ TABLE.phase.word ∷ decimal r.phase ∷ TABLE.winner.word ∷ (decimal r.party ++ flat_map average_word r.averages) ∷ [])
 
 -- rounds, the first of them with this number
 abbrev pub round_lines : ℕ → List Round → List (List ℕ)
@@ -91,7 +95,7 @@ round_lines k [] = []
 round_lines k (r ∷ rounds) = round_line k r ∷ round_lines (k + 1) rounds
 
 abbrev pub vacant_line : ℕ → List ℕ
-vacant_line m = TABLE.vacant.word ++ 32 ∷ decimal m
+vacant_line m = spaced (TABLE.vacant.word ∷ decimal m ∷ [])
 
 -- the lines of a certificate of the office of a code
 abbrev pub certificate_lines : ℕ → Certificate → List (List ℕ)

@@ -13,8 +13,9 @@ use crate::certificate::{Certificate, FirstLine, Round};
 use quotients::{Average, party_quotient, quotient};
 use seat_remainders::{Averages, Contest, Contestant, standing_of, valid_votes};
 
-/// The first fault of a certificate: the electoral quotient; this line of the first phase, counted from 1, of which a missing one and one too
-/// many are faults too; this round, counted from 1; or the end, at which all seats are to be given or vacant.
+/// The first fault of a certificate: the electoral quotient; the line of the first phase with this number, counted from 1, where a missing line
+/// and one too many are faults too; the round with this number, counted from 1; or the end, where the seats don't add up or one is vacant
+/// though a bloc competes.
 #[derive(Clone, Copy, Debug, PartialEq, Eq)]
 pub enum CertFault {
     Quotient,
@@ -23,8 +24,9 @@ pub enum CertFault {
     End,
 }
 
-/// Whether a certificate is valid for a contest, and where it isn't, its first fault. It takes no memory, and nobody who made the
-/// certificate is trusted.
+/// Whether a certificate is valid for a contest (docs/RULES.md, "The certificate"), and where it isn't, its first fault. Nobody who made the
+/// certificate is trusted: `distribute` and `certify` take an allocator, which is not given here, so neither can be called, and no memory is
+/// taken.
 ///
 /// The caller owes what `distribute` asks for.
 pub fn check_certificate(contest: &Contest, certificate: &Certificate) -> Result<(), CertFault>
@@ -35,7 +37,7 @@ pub fn check_certificate(contest: &Contest, certificate: &Certificate) -> Result
     checked(contest, certificate)
 }
 
-/// The same, told of the answer that there is: that there is no other follows.
+/// The same, told of the answer that is given: no other one fits, which `check_certificate` adds.
 fn checked(contest: &Contest, certificate: &Certificate) -> Result<(), CertFault>
     requires { IsContest contest.now }
     ensures { MatchResult result (λ _. IsValid contest.now certificate.now) (λ f. IsCertFault contest.now certificate.now f) }
