@@ -8,13 +8,13 @@ use Rattle.std.proofs.lemmas.Bool.Decides.{nat_tests}
 use Rattle.std.proofs.lemmas.List.{get_or_default, length-map, length-take-le, map-append, map_more, take_all, take-append-drop, take_more}
 use Rattle.std.proofs.lemmas.List.Edits.{map_over_more}
 use Rattle.std.proofs.lemmas.List.Elements.{filter-append}
-use Rattle.std.proofs.lemmas.List.Sums.{count_by-le-length, get_or-le-sum_by, sum_by-cons}
+use Rattle.std.proofs.lemmas.List.Sums.{count_by-le-length, sum_by-cons}
 use Rattle.quotients.specs.Average.{AverageData}
 use Rattle.seat_remainders.specs.declared.contest.Contest.{Contest}
 use Rattle.seat_remainders.specs.declared.contest.Contestant.{Contestant}
 use Rattle.seat_remainders.specs.declared.outcome.Award.{Award}
 use Rattle.seat_remainders.specs.declared.standing.Standing.{Standing}
-use Rattle.seat_remainders.specs.Parties.{first_phase, first_seats, valid_votes, votes_of}
+use Rattle.seat_remainders.specs.Parties.{first_phase, first_seats}
 use Rattle.seat_remainders.specs.Rounds.{NobodyLeft, average_of, is_eligible, next_phase, seats_after}
 use Rattle.seat_remainders.proofs.Awarded.{seats_more}
 use Rattle.seat_remainders.proofs.Eligible.{eligible_below}
@@ -98,11 +98,6 @@ next_from contest qe before r is = record {
   averages = is.averages ∙ sym (averages_are qe before r.phase contest.parties);
   seat = lawful_seat contest qe before r is;
 }
-
--- ---- the blocs of a contest, one by one
-
-pub votes_at : (parties : List Contestant) (i : ℕ) (p : Contestant) → i < length parties → p ≡ get_or parties i p → valid_votes parties ≤ 10 ^ 12 → votes_of p ≤ 10 ^ 12
-votes_at parties i p lt at few = omega (arith, get_or-le-sum_by votes_of parties i p lt, ap votes_of at)
 
 -- ---- the averages of blocs, one by one
 

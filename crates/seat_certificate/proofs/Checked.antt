@@ -1,10 +1,10 @@
 -- What the check of lines and rounds finds
-use Rattle.std.proofs.Common.{◌≡◌, ℕ, ◌+◌, ◌^◌, ◌≤◌, ◌<◌, ◌==◌, ◌&&◌, not, true, false, List, [], ◌∷◌, ◌++◌, length, take, get_or, sum_by, Option, Some, None, inl, inr, refl, sym, ap, ◌∙◌, subst, arith}
+use Rattle.std.proofs.Common.{◌≡◌, ℕ, ◌+◌, ◌^◌, ◌≤◌, ◌<◌, ◌==◌, ◌&&◌, not, true, false, List, length, take, get_or, sum_by, Option, Some, None, inl, inr, refl, sym, ap, ◌∙◌, subst, arith}
 use Rattle.std.specs.Prelude.{option_map, slice_get}
 use Rattle.std.proofs.lemmas.Bool.{cases_order}
 use Rattle.std.proofs.lemmas.Bool.Decides.{nat_tests}
-use Rattle.std.specs.List.{AllByRecursion, Contains}
-use Rattle.std.proofs.lemmas.List.{length-map, length-take, map_more, take_all, take-map, take-take}
+use Rattle.std.specs.List.{Contains}
+use Rattle.std.proofs.lemmas.List.{length-map, length-take, take_all, take-map, take-take}
 use Rattle.std.proofs.lemmas.Option.{slice_get-get_or, slice_get-map, slice_get_past, slice_get_within}
 use Rattle.quotients.specs.Average.{AverageData, comes_before}
 use Rattle.seat_remainders.specs.declared.contest.Contest.{Contest}
@@ -22,7 +22,7 @@ use Rattle.seat_certificate.specs.Certificate.{EachIsLawful, IsLawful, award_in,
 use Rattle.seat_certificate.specs.Valid.{HasQuotient, IsFirstWrongLine, IsFirstWrongRound, TakesSeatOf, Unbeaten}
 use Rattle.seat_certificate.proofs.Outcomes.{first-sum}
 use Rattle.seat_certificate.proofs.Lawful.{takes_from, takes_to}
-use Rattle.seat_certificate.proofs.Members.{in_front, slice_get_some, some_same, take_more_at}
+use Rattle.seat_certificate.proofs.Members.{in_front, slice_get_some, some_same}
 
 pub stands_here : {X : Type 0} (xs : List X) (i : ℕ) (x : X) → i < length xs → x ≡ get_or xs i x → slice_get xs i ≡ Some x
 stands_here xs i x lt at = slice_get-get_or xs i x lt ∙ ap (λ (y : _). Some y) (sym at)

@@ -80,4 +80,3 @@ all_push P xs ys x is all here =
 -- one element more of a front
 pub all_at : {X : Type 0} (P : X → Type 0) (xs : List X) (i : ℕ) (x : X) → slice_get xs i ≡ Some x → AllByRecursion P (take i xs) → P x → AllByRecursion P (take (i + 1) xs)
 all_at P xs i x at all here = all_push P (take i xs) (take (i + 1) xs) x (take_more_at xs i x at) all here
-

@@ -1,6 +1,6 @@
 -- A text is its pieces, and numbers are pieces of their own.
-use Rattle.std.proofs.Common.{◌≡◌, ◌⊎◌, ℕ, ◌+◌, ◌^◌, ◌<◌, true, false, not, ◌==◌, List, [], ◌∷◌, ◌++◌, length, take, drop, None, Some, All, inl, refl, sym, ap, ◌∙◌, append_assoc, arith}
-use Rattle.std.specs.Prelude.{position}
+use Rattle.std.proofs.Common.{◌≡◌, ◌⊎◌, ℕ, ◌^◌, ◌<◌, true, false, not, ◌==◌, List, [], ◌∷◌, ◌++◌, length, Bool, cond, Option, None, Some, All, inl, refl, sym, ap, ◌∙◌, append_assoc, length-append, arith}
+use Rattle.std.specs.Prelude.{option_map}
 use Rattle.std.specs.Fmt.{decimal}
 use Rattle.std.specs.List.{AllByRecursion, list_all, slice_split, join_with_byte}
 use Rattle.std.proofs.lemmas.Bool.Decides.{nat_tests}
@@ -8,13 +8,12 @@ use Rattle.std.proofs.lemmas.List.Elements.{All-nil, All-cons}
 use Rattle.std.proofs.lemmas.List.Folds.{list_all-append}
 use Rattle.std.proofs.lemmas.List.Splits.{join_with_byte-slice_split, length-slice_split, slice_split_at, slice_split_none}
 use Rattle.urna_base.specs.Digits.{is_digit}
-use Rattle.urna_base.specs.Words.{pieces}
+use Rattle.urna_base.specs.Words.{cut_at, pieces}
 use Rattle.urna_base.proofs.DecimalLaws.{all_digits}
 use Rattle.urna_base.proofs.DigitLaws.{both_from_and}
-use Rattle.urna_base.proofs.PieceLaws.{no_split, split_first}
-use Rattle.seat_certificate.specs.Reading.{cut_at, cut_in, lines_in, with_feeds}
+use Rattle.urna_base.proofs.CutLaws.{cut_front, cut_parts}
+use Rattle.seat_certificate.specs.Reading.{lines_in, with_feeds}
 use Rattle.seat_certificate.specs.Text.{text_of}
-use Rattle.seat_certificate.proofs.Members.{some_same}
 
 -- a text without a byte
 abbrev pub Lacks : ℕ → List ℕ → Type 0
@@ -61,45 +60,33 @@ number_last n lt = word_last (decimal n) (decimal_lacks 32 n (inl (omega arith))
 pub words_join : (text : List ℕ) (ws : List (List ℕ)) → pieces text ≡ ws → text ≡ join_with_byte 32 ws
 words_join text ws e = sym (join_with_byte-slice_split 32 text) ∙ ap (join_with_byte 32) e
 
--- ---- a text that is cut at a byte
-
-cut_in-cons : (c : ℕ) (w : List ℕ) (ws : List (List ℕ)) → 0 < length ws → cut_in c (w ∷ ws) ≡ Some (w, join_with_byte c ws)
-cut_in-cons c w [] some = absurd (omega arith)
-cut_in-cons c w (v ∷ ws) some = refl
-
 pub parts_there : (c : ℕ) (text : List ℕ) → 0 < length (slice_split (λ b. b == c) text)
 parts_there c text = omega (arith, length-slice_split (λ b. b == c) text)
 
-pub cut_here : (c : ℕ) (x y : List ℕ) → Lacks c x → cut_at c (x ++ c ∷ y) ≡ Some (x, y)
-unfolding cut_at
-cut_here c x y h =
-    let same : (c == c) ≡ true = grind (arith, nat_tests) in
-    ap (λ (ws : List (List ℕ)). cut_in c ws) (slice_split_at (λ b. b == c) x c y (each_other c x h) same)
-    ∙ cut_in-cons c x (slice_split (λ b. b == c) y) (parts_there c y)
-    ∙ ap (λ (t : List ℕ). Some (x, t)) (join_with_byte-slice_split c y)
+-- ---- as the code cuts a text
 
-joined_back : (c : ℕ) (ws : List (List ℕ)) (x y : List ℕ) → cut_in c ws ≡ Some (x, y) → join_with_byte c ws ≡ x ++ c ∷ y
-joined_back c [] x y h = absurd (cc)
-joined_back c (w ∷ []) x y h = absurd (cc)
-joined_back c (w ∷ v ∷ ws) x y h =
-    let both : (w, join_with_byte c (v ∷ ws)) ≡ (x, y) = some_same _ _ h in
-    ap (λ (p : List ℕ × List ℕ). p.0 ++ c ∷ p.1) both
-
-pub cut_back : (c : ℕ) (text x y : List ℕ) → cut_at c text ≡ Some (x, y) → text ≡ x ++ c ∷ y
+-- what can't be cut has no such byte
+pub uncut_lacks : (c : ℕ) (text : List ℕ) → cut_at c text ≡ None → Lacks c text
 unfolding cut_at
-cut_back c text x y h = sym (join_with_byte-slice_split c text) ∙ joined_back c (slice_split (λ b. b == c) text) x y h
+uncut_lacks c [] h = refl
+uncut_lacks c (b ∷ text) h = go (b == c) refl h (uncut_lacks c text)
+  where
+    front : List ℕ × List ℕ → List ℕ × List ℕ
+    front x = (b ∷ x.0, x.1)
 
--- as the code cuts it
-pub cut_first : (c : ℕ) (text : List ℕ) (at : ℕ) → position (λ b. b == c) text ≡ Some at → cut_at c text ≡ Some (take at text, drop (at + 1) text)
-unfolding cut_at
-cut_first c text at h =
-    ap (λ (ws : List (List ℕ)). cut_in c ws) (split_first (λ b. b == c) text at h)
-    ∙ cut_in-cons c (take at text) (slice_split (λ b. b == c) (drop (at + 1) text)) (parts_there c (drop (at + 1) text))
-    ∙ ap (λ (t : List ℕ). Some (take at text, t)) (join_with_byte-slice_split c (drop (at + 1) text))
+    rest_none : (o : Option (List ℕ × List ℕ)) → option_map front o ≡ None → o ≡ None
+    rest_none None e = refl
+    rest_none (Some x) e = absurd (cc)
 
-pub cut_none : (c : ℕ) (text : List ℕ) → position (λ b. b == c) text ≡ None → cut_at c text ≡ None
-unfolding cut_at
-cut_none c text h = ap (λ (ws : List (List ℕ)). cut_in c ws) (no_split (λ b. b == c) text h)
+    go : (p : Bool) → (b == c) ≡ p → cond {A = Option (List ℕ × List ℕ)} p (Some ([], text)) (option_map front (cut_at c text)) ≡ None → (cut_at c text ≡ None → Lacks c text) → Lacks c (b ∷ text)
+    go true e g behind = absurd (cc)
+    go false e g behind = rw (e, behind (rest_none (cut_at c text) g)) refl
+
+pub word_cut : (text w rest : List ℕ) → cut_at 32 text ≡ Some (w, rest) → pieces text ≡ w ∷ pieces rest
+word_cut text w rest h = ap pieces (cut_parts 32 text (w, rest) h) ∙ word_first w rest (cut_front 32 text (w, rest) h)
+
+pub word_uncut : (text : List ℕ) → cut_at 32 text ≡ None → pieces text ≡ text ∷ []
+word_uncut text h = word_last text (uncut_lacks 32 text h)
 
 -- ---- lines
 
@@ -138,11 +125,15 @@ lines_of_text (line ∷ lines) rest h =
     ∙ line_first line (text_of lines ++ rest) h.0
     ∙ ap (λ (x : List (List ℕ) × List ℕ). (line ∷ x.0, x.1)) (lines_of_text lines rest h.1)
 
--- the first line of a text, and the text behind it
-pub split_here : (text : List ℕ) (end : ℕ) → position (λ b. b == 10) text ≡ Some end → lines_in text ≡ (take end text ∷ (lines_in (drop (end + 1) text)).0, (lines_in (drop (end + 1) text)).1)
-unfolding lines_in
-split_here text end h = ap with_feeds (split_first (λ b. b == 10) text end h) ∙ with_feeds-cons (take end text) (slice_split (λ b. b == 10) (drop (end + 1) text)) (some_pieces (drop (end + 1) text))
+pub line_cut : (text line rest : List ℕ) → cut_at 10 text ≡ Some (line, rest) → lines_in text ≡ (line ∷ (lines_in rest).0, (lines_in rest).1)
+line_cut text line rest h = ap lines_in (cut_parts 10 text (line, rest) h) ∙ line_first line rest (cut_front 10 text (line, rest) h)
 
-pub no_line : (text : List ℕ) → position (λ b. b == 10) text ≡ None → (lines_in text).0 ≡ []
+pub line_uncut : (text : List ℕ) → cut_at 10 text ≡ None → (lines_in text).0 ≡ []
 unfolding lines_in
-no_line text h = ap (λ (ws : List (List ℕ)). (with_feeds ws).0) (no_split (λ b. b == 10) text h)
+line_uncut text h = ap (λ (ws : List (List ℕ)). (with_feeds ws).0) (slice_split_none (λ b. b == 10) text (each_other 10 text (uncut_lacks 10 text h)))
+
+pub line_shorter : (text line rest : List ℕ) → cut_at 10 text ≡ Some (line, rest) → length rest < length text
+line_shorter text line rest h =
+    let parts = ap (λ (l : List ℕ). length l) (cut_parts 10 text (line, rest) h) in
+    let len = length-append line (10 ∷ rest) in
+    omega (arith, parts, len)

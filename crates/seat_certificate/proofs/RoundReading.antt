@@ -4,14 +4,15 @@ use Rattle.std.specs.Prelude.{codes, if◌then◌else◌, option_map, unwrap_or}
 use Rattle.std.specs.Fmt.{decimal}
 use Rattle.std.specs.List.{AllByRecursion, join_with_byte}
 use Rattle.std.proofs.lemmas.Bool.{cases_eq, ltb-true, lt-ltb}
-use Rattle.urna_base.specs.Words.{pieces}
+use Rattle.urna_base.specs.Words.{cut_at, pieces}
+use Rattle.urna_base.proofs.CutLaws.{cut_behind, cut_parts}
 use Rattle.quotients.specs.Average.{AverageData}
 use Rattle.seat_certificate.specs.declared.table.TheConstants.{TABLE}
 use Rattle.seat_certificate.specs.declared.certificate.Round.{Round}
-use Rattle.seat_certificate.specs.Reading.{average_at, averages_at, cut_at, keyed, next_average, number_at, round_at, round_front}
+use Rattle.seat_certificate.specs.Reading.{average_at, averages_at, keyed, next_average, number_at, round_at, round_front}
 use Rattle.seat_certificate.specs.Text.{AverageFits, IsBloc, RiseAbove, RoundFits, average_word, round_line}
 use Rattle.seat_certificate.proofs.Members.{some_same}
-use Rattle.seat_certificate.proofs.Pieces.{Lacks, cut_back, cut_here, decimal_lacks, lacks-append, number_first, word_first, word_last, words_join}
+use Rattle.seat_certificate.proofs.Pieces.{Lacks, decimal_lacks, lacks-append, number_first, word_first, word_last, words_join}
 use Rattle.urna_base.proofs.Cases.{and_then_some, guard_some, map_some}
 use Rattle.seat_certificate.proofs.WordReading.{bind_some, keyed_read, keyed_written, number_read, number_written}
 
@@ -27,8 +28,8 @@ narrow n h = omega arith
 average_written : (a : AverageData) → AverageFits a → average_at (word_of a) ≡ Some a
 unfolding average_at
 average_written a fits =
-    let first = cut_here TABLE.average_votes.mark (decimal a.party) (decimal a.votes ++ (codes "/" ++ (decimal a.divisor))) (decimal_lacks 58 a.party (inr (omega arith)) (narrow a.party fits.party.1)) in
-    let second = cut_here TABLE.average_divisor.mark (decimal a.votes) (decimal a.divisor) (decimal_lacks 47 a.votes (inl (omega arith)) fits.votes) in
+    let first = cut_behind TABLE.average_votes.mark (decimal a.party) (decimal a.votes ++ (codes "/" ++ (decimal a.divisor))) (decimal_lacks 58 a.party (inr (omega arith)) (narrow a.party fits.party.1)) in
+    let second = cut_behind TABLE.average_divisor.mark (decimal a.votes) (decimal a.divisor) (decimal_lacks 47 a.votes (inl (omega arith)) fits.votes) in
     let p = number_written TABLE.average_party.low TABLE.average_party.high a.party fits.party.0 fits.party.1 (narrow a.party fits.party.1) in
     let v = number_written TABLE.average_votes.low TABLE.average_votes.high a.votes (omega arith) (omega (arith, fits.votes)) fits.votes in
     let d = number_written TABLE.average_divisor.low TABLE.average_divisor.high a.divisor fits.some (omega (arith, fits.divisor)) (omega (arith, fits.divisor)) in
@@ -48,9 +49,9 @@ average_read w a h =
     let made : AverageData = record { votes = v.0; divisor = d.0; party = p.0 } in
     let is : made ≡ a = ap (λ (o : Option AverageData). unwrap_or o made) d.2 in
     let text : w ≡ word_of made =
-    cut_back TABLE.average_votes.mark w first.0.0 first.0.1 first.1
+    cut_parts TABLE.average_votes.mark w first.0 first.1
     ∙ ap (λ (t : List ℕ). t ++ 58 ∷ first.0.1) np.word
-    ∙ ap (λ (t : List ℕ). decimal p.0 ++ 58 ∷ t) (cut_back TABLE.average_divisor.mark first.0.1 second.0.0 second.0.1 second.1
+    ∙ ap (λ (t : List ℕ). decimal p.0 ++ 58 ∷ t) (cut_parts TABLE.average_divisor.mark first.0.1 second.0 second.1
     ∙ ap (λ (t : List ℕ). t ++ 47 ∷ second.0.1) nv.word
     ∙ ap (λ (t : List ℕ). decimal v.0 ++ 47 ∷ t) nd.word) in
     let fits : AverageFits made = record { party = (np.least, np.most); votes = nv.few; some = nd.least; divisor = omega (arith, nd.most) } in

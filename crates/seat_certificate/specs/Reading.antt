@@ -1,12 +1,12 @@
 -- Reading a text line by line: the state between two lines, a step for each line, and the first bad one on the way. It is a device of proofs: what the text of a certificate
 -- is, and what its first bad line, stands in `Text`.
 use Rattle.std.specs.Prelude.{ℕ, ◌+◌, ◌==◌, nat_lt, if◌then◌else◌, List, [], ◌∷◌, ◌++◌, length, Option, Some, None, option_map, Result, Ok, Err}
-use Rattle.std.specs.List.{join_with_byte, slice_split}
+use Rattle.std.specs.List.{slice_split}
 use Rattle.std.specs.Option.{option_and_then, option_or}
 use Rattle.std.specs.Str.{bytes_eq}
 use Rattle.urna_base.specs.Digits.{decimal_value}
 use Rattle.urna_base.specs.Moment.{is_between}
-use Rattle.urna_base.specs.Words.{pieces}
+use Rattle.urna_base.specs.Words.{cut_at, pieces}
 use Rattle.election_tables.specs.Offices.{code_proportional}
 use Rattle.quotients.specs.Average.{AverageData}
 use Rattle.seat_certificate.specs.declared.certificate.Certificate.{Certificate}
@@ -16,6 +16,7 @@ use Rattle.seat_certificate.specs.declared.read.CertTextError.TheVariants as err
 use Rattle.seat_certificate.specs.declared.read.CertTextError.{CertTextError}
 use Rattle.seat_certificate.specs.declared.table.TheConstants.{MOST_FIRST_LINES, MOST_ROUNDS, TABLE}
 
+-- what stands first, and then what follows from it
 infixl 10 ◌>>=◌
 abbrev pub ◌>>=◌ : {A B : Type 0} → Option A → (A → Option B) → Option B
 None >>= f = None
@@ -58,6 +59,7 @@ one_number word low high line = do
   n ← keyed word low high (pieces line)
   at_end n.0 n.1
 
+-- the line of a bloc in the first phase
 unfoldable pub bloc_at : List ℕ → Option FirstLine
 bloc_at line = do
   p ← keyed TABLE.party.word TABLE.party.low TABLE.party.high (pieces line)
@@ -65,16 +67,6 @@ bloc_at line = do
   a ← keyed TABLE.able.word TABLE.able.low TABLE.able.high q.1
   s ← keyed TABLE.seats.word TABLE.seats.low TABLE.seats.high a.1
   at_end (record { party = p.0; quotient = q.0; able = a.0; seats = s.0 }) s.1
-
--- the first of some pieces, and the others with this byte between them
-abbrev pub cut_in : ℕ → List (List ℕ) → Option (List ℕ × List ℕ)
-cut_in byte [] = None
-cut_in byte (w ∷ []) = None
-cut_in byte (w ∷ v ∷ ws) = Some (w, join_with_byte byte (v ∷ ws))
-
--- a text cut at the first of these bytes
-unfoldable pub cut_at : ℕ → List ℕ → Option (List ℕ × List ℕ)
-cut_at byte text = cut_in byte (slice_split (λ b. b == byte) text)
 
 -- bloc, votes and divisor
 unfoldable pub average_at : List ℕ → Option AverageData
@@ -109,6 +101,7 @@ round_at k line = option_and_then (λ x. option_map (λ xs. record { phase = x.0
 
 -- ---- the state between two lines
 
+-- what stands next, after what was read: the first line, the office, the quotient, or what may follow a bloc, a round, neither of both, the vacant seats and the end
 pub data State : Type 0 where
   AtStart : State
   AtOffice : State
@@ -124,12 +117,15 @@ abbrev pub last_bloc : ℕ → List FirstLine → ℕ
 last_bloc last [] = last
 last_bloc last (l ∷ lines) = last_bloc l.party lines
 
+-- the first line
 abbrev pub start_step : List ℕ → Option State
 start_step line = if bytes_eq line TABLE.version then Some AtOffice else None
 
+-- a code that is that of a proportional office
 abbrev pub proportional_code : ℕ → Option ℕ
 proportional_code code = if code_proportional code then Some code else None
 
+-- the line of the office
 unfoldable pub office_at : List ℕ → Option ℕ
 office_at line = option_and_then proportional_code (one_number TABLE.office.word TABLE.office.low TABLE.office.high line)
 
@@ -142,19 +138,24 @@ next_bloc before line =
 unfoldable pub next_round : List Round → List ℕ → Option Round
 next_round before line = if nat_lt (length before) MOST_ROUNDS then round_at (length before + 1) line else None
 
+-- the line of the vacant seats
 unfoldable pub vacant_at : List ℕ → Option ℕ
 vacant_at line = one_number TABLE.vacant.word TABLE.vacant.low TABLE.vacant.high line
 
+-- the certificate that was read
 abbrev pub made : ℕ → List FirstLine → List Round → ℕ → Certificate
 made q first rounds vacant = record { quotient = q; first = first; rounds = rounds; vacant = vacant }
 
+-- the vacant seats behind the rounds
 abbrev pub vacant_step : ℕ → ℕ → List FirstLine → List Round → List ℕ → Option State
 vacant_step code q first rounds line = option_map (λ m. AtEnd code (made q first rounds m)) (vacant_at line)
 
+-- a round more, or the vacant seats
 abbrev pub rounds_step : ℕ → ℕ → List FirstLine → List Round → List ℕ → Option State
 rounds_step code q first rounds line =
     option_or (option_map (λ r. InRounds code q first (rounds ++ r ∷ [])) (next_round rounds line)) (vacant_step code q first rounds line)
 
+-- one line more
 unfoldable pub step : State → List ℕ → Option State
 step AtStart line = start_step line
 step AtOffice line = option_map (λ code. AtQuotient code) (office_at line)

@@ -14,7 +14,7 @@ use Rattle.seat_certificate.specs.declared.table.TheConstants.{MOST_FIRST_LINES,
 
 -- a bloc has a number of two digits
 abbrev pub IsBloc : ℕ → Type 0
-IsBloc p = (10 ≤ p) × (p ≤ 99)
+IsBloc p = (TABLE.party.low ≤ p) × (p ≤ TABLE.party.high)
 
 -- a number that a decimal of at most 18 digits writes
 abbrev pub IsDecimalNumber : ℕ → Type 0
@@ -29,18 +29,21 @@ abbrev pub RiseAbove : ℕ → List ℕ → Type 0
 RiseAbove last [] = Unit {0}
 RiseAbove last (n ∷ numbers) = (last < n) × RiseAbove n numbers
 
+-- a line of the first phase that has a text
 pub record LineFits (l : FirstLine) : Type 0 where
   pub party : IsBloc l.party
   pub quotient : IsDecimalNumber l.quotient
   pub able : IsNarrow l.able
   pub seats : IsNarrow l.seats
 
+-- an average that has one
 pub record AverageFits (a : AverageData) : Type 0 where
   pub party : IsBloc a.party
   pub votes : IsDecimalNumber a.votes
   pub some : 1 ≤ a.divisor
   pub divisor : IsNarrow a.divisor
 
+-- a round that has one: its averages rise by bloc
 pub record RoundFits (r : Round) : Type 0 where
   pub phase : (r.phase ≡ 2) ⊎ (r.phase ≡ 3)
   pub party : IsBloc r.party
@@ -70,12 +73,15 @@ pub record HasFewBlocs (contest : Contest) : Type 0 where
 abbrev pub spaced : List (List ℕ) → List ℕ
 spaced words = join_with_byte 32 words
 
+-- the line of an office's code
 abbrev pub office_line : ℕ → List ℕ
 office_line code = spaced (TABLE.office.word ∷ decimal code ∷ [])
 
+-- that of the electoral quotient
 abbrev pub quotient_line : ℕ → List ℕ
 quotient_line q = spaced (TABLE.quotient.word ∷ decimal q ∷ [])
 
+-- that of a bloc in the first phase
 abbrev pub bloc_line : FirstLine → List ℕ
 bloc_line l =
     spaced (TABLE.party.word ∷ decimal l.party ∷ TABLE.party_quotient.word ∷ decimal l.quotient ∷ TABLE.able.word ∷ decimal l.able ∷ TABLE.seats.word ∷ decimal l.seats ∷ [])
@@ -94,6 +100,7 @@ abbrev pub round_lines : ℕ → List Round → List (List ℕ)
 round_lines k [] = []
 round_lines k (r ∷ rounds) = round_line k r ∷ round_lines (k + 1) rounds
 
+-- that of the vacant seats
 abbrev pub vacant_line : ℕ → List ℕ
 vacant_line m = spaced (TABLE.vacant.word ∷ decimal m ∷ [])
 

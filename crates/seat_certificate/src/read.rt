@@ -1,5 +1,5 @@
 //! The text of a certificate is read.
-ghost use Rattle.std.specs.Prelude.{◌≡◌, ◌≢◌, ◌↔◌, ◌+◌, ◌≤◌, ◌<◌, ◌^◌, ◌==◌, ◌∷◌, [], ℕ, List, length, position, IfOk, IfSome, MatchOption, Err, None, Ok, Some};
+ghost use Rattle.std.specs.Prelude.{◌≡◌, ◌≢◌, ◌↔◌, ◌+◌, ◌≤◌, ◌<◌, ◌^◌, ◌==◌, ◌∷◌, [], ℕ, List, length, IfOk, IfSome, MatchOption, Err, None, Ok, Some};
 ghost use Rattle.seat_certificate.specs.Reading.{AtVacant, InFirst, InRounds, MatchRead, lines_in, made, next_bloc, last_bloc, next_round, read_by, text_goes};
 ghost use Rattle.seat_certificate.specs.Text.{IsFirstBadLine, Spells};
 ghost use Rattle.seat_certificate.specs.declared.certificate.Certificate.{Certificate};
@@ -13,7 +13,7 @@ use crate::line::{bloc_of, office_of, round_of, vacant_of};
 use crate::table::{MOST_FIRST_LINES, MOST_ROUNDS, TABLE};
 use crate::words::one_number;
 use std::alloc::Global;
-use urna_base::Memory;
+use urna_base::{Memory, cut_at};
 
 /// Why a text gives no certificate: memory ran out, or this line, counted from 1, is the first that may not stand there.
 #[derive(Clone, Copy, Debug, PartialEq, Eq)]
@@ -186,17 +186,7 @@ fn split_line(text: &[u8]) -> Option<(&[u8], &[u8])>
     ensures split { MatchOption result ((lines_in text.now).0 ≡ []) (λ x. lines_in text.now ≡ (x.0.now ∷ (lines_in x.1.now).0, (lines_in x.1.now).1)) }
     ensures shorter { IfSome result (λ x. length x.1.now < length text.now) }
 {
-    match first_feed(text) {
-        Some(end) => Some((&text[..end], &text[end + 1..])),
-        None => None,
-    }
-}
-
-/// Where the first line feed stands.
-fn first_feed(text: &[u8]) -> Option<usize>
-    ensures { result ≡ position (λ b. b == 10) text.now }
-{
-    text.iter().position(|byte| *byte == b'\n')
+    cut_at(b'\n', text)
 }
 
 /// So does want of memory.
