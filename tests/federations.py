@@ -48,7 +48,7 @@ def result_lines(blocs, contestants, places, votes):
     word = {number: f"{word} {number}" for number, word, _ in blocs}
     lines = [f"QUOCIENTE {quotient}"]
     lines += [f"{word[it.number]} VOTOS {it.votes} QP {it.votes // quotient} VAGAS {it.seats}" for it in contestants]
-    lines += [f"SOBRA {k} FASE {phase} {word[number]}" for k, (phase, number) in enumerate(rounds, 1)]
+    lines += [f"SOBRA {k} FASE {phase} {word[number]}" for k, (phase, number, _) in enumerate(rounds, 1)]
     lines += [f"ELEITO {number} VOTOS {votes[number]}" for it in contestants for number in it.elected()]
     return [*lines, f"VAGAS VAZIAS {places - first - len(rounds)}"]
 
