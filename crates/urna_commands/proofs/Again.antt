@@ -1,12 +1,12 @@
 -- Any calls and exchanges one after the other keep the votes of a poll
 use Rattle.std.proofs.Common.{◌≡◌, ◌≢◌, ◌⊎◌, inl, inr, ℕ, ◌+◌, ◌<◌, List, [], ◌∷◌, ◌++◌, Option, Some, None, length, refl, sym, ap, subst, ◌∙◌, arith, append_assoc}
-use Rattle.std.specs.Prelude.{codes, false, replicate, slice_index_or}
+use Rattle.std.specs.Prelude.{codes}
 use Rattle.std.specs.Str.{bytes_eq}
 use Rattle.std.proofs.lemmas.Bool.{cases_Bool}
-use Rattle.std.proofs.lemmas.List.{append-nil, length-replicate}
+use Rattle.std.proofs.lemmas.List.{append-nil}
 use Rattle.std.proofs.lemmas.Slice.Eq.{bytes_eq-Decides}
 use Rattle.urna_outside.specs.Cabinet.{CabinetTold, Files}
-use Rattle.urna_outside.specs.Flash.{Flash, Flashes, IsClean, IsImage, Op, Put, Show, Sync, after, clean_flash, flash_of, shown_by}
+use Rattle.urna_outside.specs.Flash.{Flash, Flashes, IsClean, IsImage, Op, Put, Show, Sync, after, flash_of, shown_by}
 use Rattle.urna_outside.specs.ShownLines.{shows}
 use Rattle.urna_outside.specs.Started.{clean_flashes}
 use Rattle.urna_outside.specs.Stop.{AtEachStop, IsLeft, IsStop, Left, left_on}
@@ -15,7 +15,6 @@ use Rattle.urna_outside.specs.Traced.{IsTraced}
 use Rattle.urna_outside.specs.declared.device.Dev.{Dev}
 use Rattle.urna_outside.specs.declared.device.Dev.TheVariants as dev
 use Rattle.urna_outside.proofs.Doing.{after-append, does-append, does_nothing, shown_by-append}
-use Rattle.urna_outside.proofs.Keeping.{synced_clean}
 use Rattle.urna_outside.proofs.ShowingLines.{cut_front, shows_lines}
 use Rattle.urna_outside.proofs.Stops.{stop-append, stop_whole, stops_none}
 use Rattle.urna_outside.proofs.Traced.{traced_is}

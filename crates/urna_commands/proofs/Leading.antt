@@ -1,15 +1,14 @@
 -- How far a session comes that finds a poll, and to which poll it leads
-use Rattle.state_store.specs.Held.{HeldAlone, HeldByBoth, poll}
+use Rattle.state_store.specs.Held.{HeldAlone, HeldByBoth}
 use Rattle.std.proofs.Common.{◌≡◌, ◌≢◌, ◌⊎◌, inl, inr, ℕ, ◌+◌, ◌<◌, List, [], ◌∷◌, ◌++◌, Option, Some, length, take, refl, sym, ap, subst, ◌∙◌, arith, length-append}
 use Rattle.std.proofs.lemmas.List.{append_cancel_left, take_all}
 use Rattle.std.proofs.lemmas.List.Elements.{Contains-get_or}
 use Rattle.urna_outside.specs.Cabinet.{CabinetTold, Files}
-use Rattle.urna_outside.specs.Flash.{Flashes, IsImage, Op, Sync, after, shown_by}
+use Rattle.urna_outside.specs.Flash.{Flashes, IsImage, Op, after, shown_by}
 use Rattle.urna_outside.specs.Started.{clean_flashes}
 use Rattle.urna_outside.specs.Stop.{IsStop, Left}
 use Rattle.urna_outside.specs.Told.{Does, Runs, Told}
 use Rattle.urna_outside.specs.Traced.{IsTraced}
-use Rattle.urna_outside.specs.declared.device.Dev.TheVariants as dev
 use Rattle.urna_outside.specs.declared.device.Port.TheVariants as port
 use Rattle.urna_outside.proofs.Doing.{does_nothing}
 use Rattle.urna_outside.proofs.Stops.{stop-append}
