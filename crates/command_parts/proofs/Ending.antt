@@ -1,5 +1,6 @@
 -- How a command ends that took no document, whatever its statuses are
 use Rattle.std.proofs.Common.{◌≡◌, ◌≢◌, ℕ, Option, Some, None, IsSomeAnd, refl, sym, ap, subst, ◌∙◌}
+use Rattle.std.proofs.lemmas.Option.{same_Some}
 use Rattle.urna_outside.specs.Cabinet.{CabinetTold}
 use Rattle.command_parts.specs.Taking.{HasTaken}
 use Rattle.command_parts.specs.declared.error.CommandError.{CommandError}
@@ -12,6 +13,10 @@ error_told error_of s P h = go (error_of s) h
     go : (o : Option CommandError) → IsSomeAnd o P → (e : CommandError) × (o ≡ Some e) × P e
     go None h = absurd h
     go (Some e) h = (e, refl, h)
+
+-- the status of an error is that of the same error
+pub told_by : {S : Type 0} (status_of : CommandError → S) (e f : CommandError) → Some e ≡ Some f → status_of e ≡ status_of f
+told_by status_of e f is = ap status_of (same_Some e f is)
 
 -- Statuses of a program: the error that each tells, if it tells one; and the one status that tells an error.
 module _ {S : Type 0} (error_of : S → Option CommandError) (status_of : CommandError → S) (only : (s : S) (e : CommandError) → error_of s ≡ Some e → s ≡ status_of e) where

@@ -1,6 +1,6 @@
 -- Calls that put nothing on a flash
-use Rattle.std.proofs.Common.{inl, inr, ℕ, Option, Some, None, List, [], ◌∷◌, ◌++◌, sym, subst}
-use Rattle.urna_outside.specs.Flash.{Flashes, Op, Put, Show, Sync, after, after_one}
+use Rattle.std.proofs.Common.{inl, inr, ℕ, Option, Some, None, List, [], ◌∷◌, ◌++◌, refl, sym, subst}
+use Rattle.urna_outside.specs.Flash.{Flashes, IsImage, Op, Put, Show, Sync, after, after_one}
 use Rattle.urna_outside.specs.ShownLines.{HasShown, IsCutOff, IsCutShort, shows}
 use Rattle.urna_outside.specs.Stop.{IsLeft, IsPartOf, IsStop, Left}
 use Rattle.urna_outside.specs.Told.{IsTornShow, Runs, Told}
@@ -33,6 +33,13 @@ idle_left [] start text left idle is = is
 idle_left (Put d at bytes ∷ done) start text left idle is = absurd idle.0
 idle_left (Sync d ∷ done) start text left idle is = sync_leaves d start text left (idle_left done (after_one (Sync d) start) text left idle.1 is)
 idle_left (Show bytes ∷ done) start text left idle is = idle_left done start text left idle.1 is
+
+pub idle_images : (done : List Op) (start : Flashes) (a b : List ℕ) → AreIdle done → IsImage (after done start).internal a → IsImage (after done start).external b
+    → IsImage start.internal a × IsImage start.external b
+idle_images done start a b idle internal external =
+    let left : Left = record { internal = a; external = b; shown = [] } in
+    let is = idle_left done start [] left idle (record { internal = internal; external = external; shown = refl }) in
+    (is.internal, is.external)
 
 -- ---- calls of the machine
 

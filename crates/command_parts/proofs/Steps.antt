@@ -1,5 +1,5 @@
 -- What there is for the next call of a program
-use Rattle.std.proofs.Common.{◌≡◌, ◌⊎◌, inl, inr, ℕ, List, [], ◌∷◌, Option, Some, length, refl, sym, subst}
+use Rattle.std.proofs.Common.{◌≡◌, ◌≢◌, ◌⊎◌, inl, inr, ℕ, List, [], ◌∷◌, Option, Some, length, refl, sym, subst}
 use Rattle.std.specs.Prelude.{false, replicate, slice_index_or}
 use Rattle.std.proofs.lemmas.List.{length-replicate}
 use Rattle.urna_outside.specs.Flash.{Flashes, IsClean, IsImage, Op, Sync, after, clean_flash, shown_by}
@@ -23,6 +23,11 @@ left_images flashes text left is a b internal external =
     let i : a ≡ left.internal = clean_image (clean_flash left.internal) a (clean_is_clean left.internal) internal in
     let e : b ≡ left.external = clean_image (clean_flash left.external) b (clean_is_clean left.external) external in
     (subst (IsImage flashes.internal) (sym i) is.internal, subst (IsImage flashes.external) (sym e) is.external)
+
+-- nothing was shown, or something
+pub none_or_some : (l : List ℕ) → (l ≡ []) ⊎ (l ≢ [])
+none_or_some [] = inl refl
+none_or_some (one ∷ l) = inr (λ is. absurd (cc))
 
 -- ---- stops
 

@@ -40,11 +40,11 @@ use Rattle.command_parts.specs.FaultLines.{Tells}
 use Rattle.command_parts.specs.Idle.{AreIdle}
 use Rattle.command_parts.specs.Steps.{IsInterrupted, IsToldOrOneMore, failed}
 use Rattle.command_parts.specs.declared.error.Doc.TheVariants as doc
-use Rattle.command_parts.proofs.Idle.{Idles, front_idles, idle_left, idle_stop, idle_trail, idles-append, told_idles, untouched_idles}
+use Rattle.command_parts.proofs.Idle.{Idles, front_idles, idle_images, idle_stop, idle_trail, idles-append, told_idles, untouched_idles}
 use Rattle.command_parts.proofs.Ending.{error_told}
 use Rattle.key_script.specs.Laws.{OneListAnswers}
 use Rattle.command_parts.proofs.Once.{refused_or_listed, same_tables}
-use Rattle.command_parts.proofs.Steps.{IsOver, goes, within_stop}
+use Rattle.command_parts.proofs.Steps.{IsOver, goes, none_or_some, within_stop}
 use Rattle.ledger_commands.specs.Abre.{AbreEnds, HasBegun, begin_no_cabinet, begin_no_memory, begin_refused, begun, begun_untold, not_begun}
 use Rattle.ledger_commands.specs.Again.{AreDone, AreReady, BeginMakesReady, Call, CallsKeepOffers, HasKept, IsCall, IsReceiptOf, LeadsTo, MayBeCalled, NextIsFound, ReceivesOn, done_call, done_nothing, leads, other, received as takes_in, silent, stays, tables_of}
 use Rattle.ledger_commands.specs.Command.{Command, Recebe, ToBegin, ToReceive, ToTotal, command_of}
@@ -63,11 +63,6 @@ use Rattle.ledger_commands.proofs.Idle.{FromBoth, OpensOrNot, abre_idles, found_
 -- what is left, of which the shown text doesn't matter
 abbrev images : List ℕ → List ℕ → Left
 images a b = record { internal = a; external = b; shown = [] }
-
--- nothing was shown, or something
-none_or_some : (l : List ℕ) → (l ≡ []) ⊎ (l ≢ [])
-none_or_some [] = inl refl
-none_or_some (one ∷ l) = inr (λ is. absurd (cc))
 
 -- ---- the statuses of ports
 
@@ -209,12 +204,6 @@ module _ (t : TablesData) (l : LedgerData) (origin : Flashes) (ready : AreReady 
     add_same : (a b : List ℕ) (kept : At before a b) → LeadsTo t x kept.ledger kept.ledger → AtNext a b
     add_same a b kept one = record { ledger = kept.ledger; found = kept.found; whole = kept.whole; led = leads kept.led one; frames = kept.frames }
 
-    -- what is left of a call that put nothing might have been left before it
-    idle_kept : (done : List Op) (a b : List ℕ) → AreIdle done → IsImage (after done start).internal a → IsImage (after done start).external b → At before a b
-    idle_kept done a b idle internal external =
-        let left = idle_left done start [] (images a b) idle (record { internal = internal; external = external; shown = refl }) in
-        kept a b left.internal left.external
-
     -- what is left of one that holds this ledger
     add_held : (m : LedgerData) (left : Left) → HeldByBoth (ledgers t) left.internal left.external m → KeepFrames body_size start left → LeadsTo t x here.ledger m
         → AtNext left.internal left.external
@@ -239,7 +228,8 @@ module _ (t : TablesData) (l : LedgerData) (origin : Flashes) (ready : AreReady 
 
       idle_step : Idles is.machine is.machine_after → (At before a e → (k : LedgerData) → LeadsTo t x k k) → AtNext a e
       idle_step idles one =
-          let same = idle_kept is.done a e (idle_stop is.ops is.done (idle_trail is.machine is.machine_after start is.ops is.traced idles) stop) internal external in
+          let before_it = idle_images is.done start a e (idle_stop is.ops is.done (idle_trail is.machine is.machine_after start is.ops is.traced idles) stop) internal external in
+          let same = kept a e before_it.0 before_it.1 in
           add_same a e same (one same same.ledger)
 
       idle_here : Idles is.machine is.machine_after → ((listed : List (List ℕ)) → ¬ IsReceiptOf t x listed) → AtNext a e
@@ -270,7 +260,8 @@ module _ (t : TablesData) (l : LedgerData) (origin : Flashes) (ready : AreReady 
           let others = no_receipt (Some (ToBegin name)) is_this (λ names same. absurd (cc)) in
           elim (cases_eq (accepted_in here.ledger) 0) [
             | inl none ↦
-                let same = idle_kept is.done a e (may.no_begin name is_this here.ledger found none) internal external in add_same a e same (other others)
+                let before_it = idle_images is.done start a e (may.no_begin name is_this here.ledger found none) internal external in
+                add_same a e (kept a e before_it.0 before_it.1) (other others)
             | inr some ↦
                 let used = found_in_use t here.ledger start found some in
                 idle_here (then_told (abre_idles start used.0 used.1 is.machine is.ends.between is.traced.flashes name is.cabinet is.cabinet_after is.answer (command_ends (Some (ToBegin name)) is_this))) others

@@ -1,6 +1,6 @@
 -- The sums of a ledger behind calls, and those that the totals tell of the same reports
 use Rattle.std.proofs.Common.{◌≡◌, inl, inr, ℕ, zero, suc, ◌+◌, ◌<◌, ◌≤◌, ◌^◌, Bool, true, false, not, cond, ◌==◌, ◌&&◌, ◌||◌, List, [], ◌∷◌, ◌++◌, length, map, get_or, slice_get, unwrap_or, Option, Some, None, refl, sym, ap, subst, ◌∙◌, arith, append_assoc, append-nil, length-append}
-use Rattle.std.specs.Prelude.{nat_eq, nat_le, nat_lt, slice_index}
+use Rattle.std.specs.Prelude.{nat_eq, slice_index}
 use Rattle.std.specs.List.{AllByRecursion, flat_map, list_any, position, position_or_len, sum_by}
 use Rattle.std.specs.Option.{option_map_or}
 use Rattle.std.proofs.lemmas.Bool.{and_from, and_parts, cases_Bool, eq-eqb, eqb-true, lt-ltb}
@@ -21,16 +21,14 @@ use Rattle.vote_kinds.specs.declared.choice.Choice.{Choice}
 use Rattle.vote_kinds.specs.declared.choice.Choice.TheVariants as choice
 use Rattle.vote_kinds.proofs.LineChoices.{choice_is_one}
 use Rattle.vote_kinds.proofs.Lookups.{line_found}
-use Rattle.vote_record.proofs.Bags.{le_antisym}
+use Rattle.vote_record.proofs.Bags.{same_true}
 use Rattle.section_intake.specs.Accepted.{AreOffered, File}
-use Rattle.section_intake.specs.Accepted.{none_offered as no_offers, one_more as one_offer}
 use Rattle.section_intake.specs.Fits.{Fits}
 use Rattle.section_intake.specs.Laws.{AreShort}
 use Rattle.section_intake.specs.Sums.{all_nominal, all_party, blank_sum, nominal_sum, party_sum}
 use Rattle.section_intake.specs.declared.verdict.Verdict.{Verdict}
 use Rattle.section_intake.proofs.AcceptedLaws.{some_reports}
-use Rattle.section_intake.proofs.BehindLaws.{kept_with}
-use Rattle.section_intake.proofs.Members.{all_but_last}
+use Rattle.section_intake.proofs.BehindLaws.{short_accepted}
 use Rattle.section_intake.proofs.ReportLaws.{as_many, one_list}
 use Rattle.section_intake.proofs.VotesOfTables.{each_vote_is_of_the_tables}
 use Rattle.seat_remainders.specs.Parties.{nominal_votes}
@@ -93,13 +91,6 @@ led_has_sums t calls l verdicts accepted tables led offered =
 
 -- ---- the sum of a choice
 
--- numbers in the order of choices
-either_order : (k m j n : ℕ) → (k == j && m == n) ≡ true → (cond (k == j) (nat_le m n) (nat_lt k j) ≡ true) × (cond (j == k) (nat_le n m) (nat_lt j k) ≡ true)
-either_order k m j n h = (grind (arith, nat_tests), grind (arith, nat_tests))
-
-same_is : (d c : Choice) → is_same d c ≡ true → d ≡ c
-same_is d c h = let both = either_order (kind_of d) (number_of d) (kind_of c) (number_of c) h in le_antisym d c both.0 both.1
-
 turned : (k m j n : ℕ) → (k == j && m == n) ≡ true → (j == k && n == m) ≡ true
 turned k m j n h = grind (arith, nat_tests)
 
@@ -121,7 +112,7 @@ module _ (f : ℕ × Choice → ℕ) (panel : ℕ) (c : Choice) (xs : List (ℕ 
   one_choice : (x : ℕ × Choice) → passes x ≡ true → f x ≡ f (panel, c)
   one_choice (of_panel, d) is =
       let both = and_parts (of_panel == panel) (is_same d c) is in
-      ap (λ (k : ℕ). f (k, d)) (eqb-true of_panel panel both.0) ∙ ap (λ (e : Choice). f (panel, e)) (same_is d c both.1)
+      ap (λ (k : ℕ). f (k, d)) (eqb-true of_panel panel both.0) ∙ ap (λ (e : Choice). f (panel, e)) (same_true d c both.1)
 
   there : (place : ℕ) → position passes xs ≡ Some place → slice_index (map f xs) place ≡ f (panel, c)
   there place at =
@@ -289,15 +280,6 @@ module _ (t : TablesData) (tables : IsTables t) (l : LedgerData) (reports : List
         panels_same (first + 1) (before ++ p ∷ []) panels others more (append_assoc before (p ∷ []) panels ∙ all) rest,
         is ∙ ap (λ (x : List (List ℕ)). x ++ others) (same ∙ ap (λ (q : Panel). panel_lines t l first q ++ told.result) this),
       )
-
--- ---- accepted files are short
-
-short_accepted : (t : TablesData) (files : List File) (verdicts : List Verdict) (accepted : List File) → AreShort files → AreOffered t files verdicts accepted → AreShort accepted
-short_accepted t _ _ _ short no_offers = tt
-short_accepted t _ _ _ short (one_offer {files} {accepted} {verdicts} {file} {v} before is) =
-    let both = all_but_last (λ (f : File). length f < 2 ^ 63) files file short in
-    let rest = short_accepted t files verdicts accepted both.0 before in
-    kept_with AreShort t accepted file v is rest (λ zone section own free. short-append accepted (file ∷ []) rest (both.1, tt))
 
 pub totals_tell_ledger : TotalsTellLedger
 totals_tell_ledger t calls l verdicts accepted reports lines tables led offered read told =

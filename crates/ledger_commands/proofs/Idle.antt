@@ -31,15 +31,12 @@ header_is : (t : TablesData) (d : Dev) → header t d ≡ magic ++ device_byte d
 unfolding header
 header_is t d = refl
 
-behind_device : (byte : ℕ) (rest : List ℕ) → drop 9 (magic ++ byte ∷ rest) ≡ rest
-behind_device byte rest = refl
-
 magic_first : (byte : ℕ) (rest : List ℕ) → take 8 (magic ++ byte ∷ rest) ≡ magic
 magic_first byte rest = refl
 
 hash_place : (t : TablesData) (d : Dev) → IsTables t → take 32 (drop 9 (header t d)) ≡ t.digest
 hash_place t d tables =
-    ap (λ (l : List ℕ). take 32 (drop 9 l)) (header_is t d) ∙ ap (take 32) (behind_device (device_byte d) (t.digest ++ replicate header_zeros 0))
+    ap (λ (l : List ℕ). take 32 (drop 9 l)) (header_is t d)
     ∙ take_at t.digest (replicate header_zeros 0) 32 tables.digest
 
 -- a device has the frames of tables of one hash
@@ -70,15 +67,12 @@ found_in_use t l start found some =
 -- ---- abre, where one is in use
 
 module _ (start : Flashes) (used : Dev) (in_use : IsInUse (flash_of used start).content) (m b : Told) (told : m.flashes ≡ Some start) where
-  not_loads : (ops : List Op) → Loads m ops → ⊥
-  not_loads ops loads = loads.free start told used in_use
-
   format_idles : (e : LedgerError) → FailsToFormat m b e → Idles m b
   format_idles ledger.Memory h = untouched_idles m b h
   format_idles (ledger.Flash d) (ends, (ops, does, inl within)) = front_idles m b (ops, does, inl within)
   format_idles (ledger.Flash d) (ends, (ops, does, inr (rest, is, inl none))) =
       front_idles m b (ops, does, inr (is ∙ ap (λ (l : List Op). both_synced ++ l) none))
-  format_idles (ledger.Flash d) (ends, (ops, does, inr (rest, is, inr loads))) = absurd (not_loads rest loads)
+  format_idles (ledger.Flash d) (ends, (ops, does, inr (rest, is, inr loads))) = absurd (loads.free start told used in_use)
   format_idles (ledger.Foreign d) h = absurd h
   format_idles ledger.NoImage h = absurd h
   format_idles (ledger.Busy d) h = synced_idles m b h.0
@@ -88,8 +82,8 @@ module _ (start : Flashes) (used : Dev) (in_use : IsInUse (flash_of used start).
   abre_idles name c d _ (begin_no_memory taken un) = untouched_idles m b un
   abre_idles name c d _ (begin_no_cabinet taken un) = untouched_idles m b un
   abre_idles name c d _ (not_begun e given taken h) = format_idles e h.fails
-  abre_idles name c d _ (begun_untold between given taken h off) = absurd (not_loads h.ran.2.0 h.ran.2.2)
-  abre_idles name c d _ (begun between given taken h shown) = absurd (not_loads h.ran.2.0 h.ran.2.2)
+  abre_idles name c d _ (begun_untold between given taken h off) = absurd (h.ran.2.2.free start told used in_use)
+  abre_idles name c d _ (begun between given taken h shown) = absurd (h.ran.2.2.free start told used in_use)
 
 -- ---- opening a ledger
 

@@ -1,6 +1,5 @@
 -- How a call ends whose documents are refused
 use Rattle.std.proofs.Common.{◌≡◌, ◌⊎◌, inl, inr, ℕ, List, Option, Some, None, refl, sym, ap, subst, ◌∙◌}
-use Rattle.std.proofs.lemmas.Option.{same_Some}
 use Rattle.urna_outside.specs.Cabinet.{CabinetTold, Files}
 use Rattle.urna_outside.specs.Told.{Told}
 use Rattle.election_tables.specs.TablesData.{TablesData}
@@ -11,7 +10,7 @@ use Rattle.command_parts.specs.declared.error.CommandError.{CommandError}
 use Rattle.command_parts.specs.declared.error.CommandError.TheVariants as error
 use Rattle.command_parts.specs.declared.error.Doc.{Doc}
 use Rattle.command_parts.specs.declared.error.Doc.TheVariants as both
-use Rattle.command_parts.proofs.Ending.{error_told, one_status}
+use Rattle.command_parts.proofs.Ending.{error_told, one_status, told_by}
 use Rattle.command_parts.proofs.Once.{fault_once, first_once, refused_or_listed, tables_not_fault}
 use Rattle.ledger_commands.specs.Abre.{AbreEnds, begin_no_cabinet, begin_no_memory, begin_refused, begun, begun_untold, not_begun}
 use Rattle.ledger_commands.specs.Command.{Command, Recebe, ToBegin, ToReceive, ToTotal, command_of}
@@ -53,25 +52,22 @@ status_of error.RollCount = status.Done
 status_of (error.RollLine k) = status.Done
 status_of (error.RecordLine k) = status.Done
 
-told_by : (e f : CommandError) → Some e ≡ Some f → status_of e ≡ status_of f
-told_by e f is = ap status_of (same_Some e f is)
-
 only_status : (s : LedgerStatus) (e : CommandError) → error_of s ≡ Some e → s ≡ status_of e
-only_status status.Memory e is = told_by error.Memory e is
-only_status status.Usage e is = told_by error.Usage e is
-only_status status.TablesNotToml e is = told_by error.TablesNotToml e is
-only_status (status.TablesRule k) e is = told_by (error.TablesRule k) e is
-only_status (status.Line k) e is = told_by (error.Line k) e is
-only_status (status.TooLong doc.Tables) e is = told_by (error.TooLong both.Tables) e is
-only_status (status.TooLong doc.Report) e is = told_by (error.TooLong both.Report) e is
-only_status (status.TooLong doc.List) e is = told_by (error.TooLong both.List) e is
-only_status (status.Missing doc.Tables) e is = told_by (error.Missing both.Tables) e is
-only_status (status.Missing doc.Report) e is = told_by (error.Missing both.Report) e is
-only_status (status.Missing doc.List) e is = told_by (error.Missing both.List) e is
-only_status status.Cabinet e is = told_by error.Cabinet e is
-only_status (status.Foreign d) e is = told_by (error.Foreign d) e is
-only_status status.NoImage e is = told_by error.NoImage e is
-only_status (status.Busy d) e is = told_by (error.Busy d) e is
+only_status status.Memory e is = told_by status_of error.Memory e is
+only_status status.Usage e is = told_by status_of error.Usage e is
+only_status status.TablesNotToml e is = told_by status_of error.TablesNotToml e is
+only_status (status.TablesRule k) e is = told_by status_of (error.TablesRule k) e is
+only_status (status.Line k) e is = told_by status_of (error.Line k) e is
+only_status (status.TooLong doc.Tables) e is = told_by status_of (error.TooLong both.Tables) e is
+only_status (status.TooLong doc.Report) e is = told_by status_of (error.TooLong both.Report) e is
+only_status (status.TooLong doc.List) e is = told_by status_of (error.TooLong both.List) e is
+only_status (status.Missing doc.Tables) e is = told_by status_of (error.Missing both.Tables) e is
+only_status (status.Missing doc.Report) e is = told_by status_of (error.Missing both.Report) e is
+only_status (status.Missing doc.List) e is = told_by status_of (error.Missing both.List) e is
+only_status status.Cabinet e is = told_by status_of error.Cabinet e is
+only_status (status.Foreign d) e is = told_by status_of (error.Foreign d) e is
+only_status status.NoImage e is = told_by status_of error.NoImage e is
+only_status (status.Busy d) e is = told_by status_of (error.Busy d) e is
 only_status status.Done e is = absurd (cc)
 only_status (status.SomeRefused k) e is = absurd (cc)
 only_status status.InternalFlash e is = absurd (cc)

@@ -185,7 +185,8 @@ each_section_once t _ _ _ short (one_more {files} {accepted} {verdicts} {file} {
     let apart = each_section_once t files verdicts accepted both.0 before in
     kept_with (AreAllApart t) t accepted file v is apart (λ z s h free. apart_push t accepted file z s both.1 apart h free)
 
-short_accepted : (t : TablesData) (files : List File) (verdicts : List Verdict) (accepted : List File) → AreShort files → AreOffered t files verdicts accepted
+-- and so each of them is short
+pub short_accepted : (t : TablesData) (files : List File) (verdicts : List Verdict) (accepted : List File) → AreShort files → AreOffered t files verdicts accepted
     → AreShort accepted
 short_accepted t _ _ _ short none_offered = tt
 short_accepted t _ _ _ short (one_more {files} {accepted} {verdicts} {file} {v} before is) =

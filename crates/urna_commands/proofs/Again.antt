@@ -53,9 +53,9 @@ use Rattle.urna_commands.proofs.Completion.{port_silent}
 use Rattle.urna_commands.proofs.Endings.{ends_as}
 use Rattle.urna_commands.proofs.Headline.{given_once, votes_are_kept}
 use Rattle.command_parts.specs.Idle.{AreIdle}
-use Rattle.command_parts.proofs.Idle.{Idles, front_idles, idle_left, idle_stop, idle_trail, idles-append, told_idles, untouched_idles}
+use Rattle.command_parts.proofs.Idle.{Idles, front_idles, idle_images, idle_left, idle_stop, idle_trail, idles-append, told_idles, untouched_idles}
 use Rattle.urna_commands.proofs.Keeping.{found_roll}
-use Rattle.command_parts.proofs.Steps.{IsOver, goes, stop_none}
+use Rattle.command_parts.proofs.Steps.{IsOver, goes, none_or_some, stop_none}
 use Rattle.urna_commands.proofs.Leading.{left_so, session_leaves, found_left}
 use Rattle.urna_commands.proofs.Leaving.{idle_endings, load_is_kept_out, opened_is_in_use, standing_is_in_use}
 use Rattle.urna_commands.proofs.Once.{refused_or_given}
@@ -128,11 +128,6 @@ replaced_clean t r section u dev.External fs is = record { standing = is.standin
 poll_in_use : (t : TablesData) (r : RollData) (section : Section) (u : State) (fs : Flashes) → HavePoll t r section u fs → u.phase ≢ phase.Ready → (d : Dev) × IsInUse (flash_of d fs).content
 poll_in_use t r section u fs (by_both found) opened = opened_is_in_use t r section u fs found opened
 poll_in_use t r section u fs (by_one d is) opened = (beside d, standing_is_in_use t r section u (beside d) (flash_of (beside d) fs).content is.standing opened)
-
--- nothing was shown, or something
-none_or_some : (l : List ℕ) → (l ≡ []) ⊎ (l ≢ [])
-none_or_some [] = inl refl
-none_or_some (one ∷ l) = inr (λ is. absurd (cc))
 
 -- a poll is ready, or was opened
 ready_or_opened : (p : Phase) → (p ≡ phase.Ready) ⊎ (p ≢ phase.Ready)
@@ -221,8 +216,7 @@ module _ (t : TablesData) (r : RollData) (section : Section) (s : State) (origin
     -- what is left of a call that put nothing might have been left before it
     idle_kept : (done : List Op) (a b : List ℕ) → AreIdle done → IsImage (after done start).internal a → IsImage (after done start).external b → At before a b
     idle_kept done a b idle internal external =
-        let left = idle_left done start [] (images a b) idle (record { internal = internal; external = external; shown = refl }) in
-        kept a b left.internal left.external
+        let before_it = idle_images done start a b idle internal external in kept a b before_it.0 before_it.1
 
     idle_step : (done : List Op) (a b : List ℕ) → AreIdle done → IsImage (after done start).internal a → IsImage (after done start).external b
         → ((es : List Event) → ¬ IsSessionOf t r x es) → AtNext a b

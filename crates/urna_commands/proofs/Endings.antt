@@ -1,6 +1,5 @@
 -- How a command ends, by the answer of its steps
 use Rattle.std.proofs.Common.{◌≡◌, ◌≢◌, ℕ, zero, suc, List, Option, Some, Result, Ok, Err, IsSomeAnd, refl, sym, ap, subst}
-use Rattle.std.proofs.lemmas.Option.{same_Some}
 use Rattle.std.specs.Prelude.{IfErr}
 use Rattle.std.specs.Result.{IsErrAnd}
 use Rattle.urna_outside.specs.Cabinet.{CabinetTold, Files, Tally}
@@ -28,7 +27,7 @@ use Rattle.station.specs.declared.station.StartError.TheVariants as start
 use Rattle.command_parts.specs.Taking.{CountsFor, HasTaken as HasTakenOf}
 use Rattle.command_parts.specs.declared.error.CommandError.{CommandError}
 use Rattle.command_parts.specs.declared.error.CommandError.TheVariants as error
-use Rattle.command_parts.proofs.Ending.{fault_ends_as}
+use Rattle.command_parts.proofs.Ending.{fault_ends_as, told_by}
 use Rattle.urna_commands.specs.Answering.{Answers, answered, cut_short}
 use Rattle.urna_commands.specs.Command.{Command, Vota, command_of}
 use Rattle.command_parts.specs.Documents.{HasKeys, HasRoll, HasTables}
@@ -78,25 +77,22 @@ status_of (error.Foreign d) = status.Foreign d
 status_of error.NoImage = status.NoImage
 status_of (error.Busy d) = status.Busy d
 
-told_by : (e f : CommandError) → Some e ≡ Some f → status_of e ≡ status_of f
-told_by e f is = ap status_of (same_Some e f is)
-
 -- no other status tells it
 pub only_status : (s : Status) (e : CommandError) → error_of s ≡ Some e → s ≡ status_of e
-only_status status.Memory e is = told_by error.Memory e is
-only_status status.Usage e is = told_by error.Usage e is
-only_status status.TablesNotToml e is = told_by error.TablesNotToml e is
-only_status (status.TablesRule k) e is = told_by (error.TablesRule k) e is
-only_status status.RollCount e is = told_by error.RollCount e is
-only_status (status.RollLine k) e is = told_by (error.RollLine k) e is
-only_status (status.Line k) e is = told_by (error.Line k) e is
-only_status (status.RecordLine k) e is = told_by (error.RecordLine k) e is
-only_status (status.TooLong d) e is = told_by (error.TooLong d) e is
-only_status (status.Missing d) e is = told_by (error.Missing d) e is
-only_status status.Cabinet e is = told_by error.Cabinet e is
-only_status (status.Foreign d) e is = told_by (error.Foreign d) e is
-only_status status.NoImage e is = told_by error.NoImage e is
-only_status (status.Busy d) e is = told_by (error.Busy d) e is
+only_status status.Memory e is = told_by status_of error.Memory e is
+only_status status.Usage e is = told_by status_of error.Usage e is
+only_status status.TablesNotToml e is = told_by status_of error.TablesNotToml e is
+only_status (status.TablesRule k) e is = told_by status_of (error.TablesRule k) e is
+only_status status.RollCount e is = told_by status_of error.RollCount e is
+only_status (status.RollLine k) e is = told_by status_of (error.RollLine k) e is
+only_status (status.Line k) e is = told_by status_of (error.Line k) e is
+only_status (status.RecordLine k) e is = told_by status_of (error.RecordLine k) e is
+only_status (status.TooLong d) e is = told_by status_of (error.TooLong d) e is
+only_status (status.Missing d) e is = told_by status_of (error.Missing d) e is
+only_status status.Cabinet e is = told_by status_of error.Cabinet e is
+only_status (status.Foreign d) e is = told_by status_of (error.Foreign d) e is
+only_status status.NoImage e is = told_by status_of error.NoImage e is
+only_status (status.Busy d) e is = told_by status_of (error.Busy d) e is
 only_status status.Done e is = absurd (cc)
 only_status (status.SomeRefused k) e is = absurd (cc)
 only_status (status.ReportRefused v) e is = absurd (cc)
