@@ -9,7 +9,7 @@ use crate::runs::{Runs, Ways};
 use crate::stage::{Faults, Last, Stage, kept_as, last_of, no_faults};
 use crate::words::{head, numbers};
 use std::alloc::Global;
-use urna_outside::{Dev, Recorder};
+use urna_outside::{Dev, Recorder, Tear};
 
 /// What a command without faults shows over some flashes, and its number where it isn't 0.
 pub(crate) fn told_by(
@@ -137,7 +137,8 @@ impl<'a> Teller<'a> {
     }
 }
 
-/// What is told behind some operations, over each way in which torn bytes may stand, at last as in other flashes.
+/// What is told behind some operations, over each way in which torn bytes may stand, at last as in other flashes. Where nothing is dirty they
+/// are one.
 fn told_at(
     alloc: Global,
     teller: &mut Teller<'_>,
@@ -146,6 +147,12 @@ fn told_at(
     later: &Flashes,
 ) -> Result<String, Halt> {
     let mut told = Ways::new(alloc);
+    let zeros = cut(alloc, m, ops, Fill::Torn(Tear::Byte(0)))?;
+    let ones = cut(alloc, m, ops, Fill::Torn(Tear::Byte(1)))?;
+    if are_same(&zeros, &ones) {
+        told.add("whole", teller.tell(alloc, zeros)?)?;
+        return Ok(told.text);
+    }
     for (name, tear) in WAYS {
         let flashes = cut(alloc, m, ops, Fill::Torn(tear))?;
         told.add(name, teller.tell(alloc, flashes)?)?;
