@@ -405,8 +405,8 @@ module _ (t : TablesData) (l : LedgerData) (origin : Flashes) (ready : AreReady 
             inl (
               idle_told (fault_text status.NoImage) tells (front_idles is.machine is.ends.between front),
               not_these u others also (λ same.
-              let held = (subst (λ (y : TablesData). AreFound y here.ledger start) (sym same) found).held in
-              hold_or_none (ledgers u) (bodies_of_both body_size start.internal.content start.external.content) here.ledger (fails.1 start is.traced.flashes).none held),
+                  let held = (subst (λ (y : TablesData). AreFound y here.ledger start) (sym same) found).held in
+                  hold_or_none (ledgers u) (bodies_of_both body_size start.internal.content start.external.content) here.ledger (fails.1 start is.traced.flashes).none held),
             )
         none_opened_so u others also (ledger.Busy d) fails tells front = absurd fails
 

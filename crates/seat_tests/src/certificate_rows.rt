@@ -11,14 +11,26 @@ pub(crate) const CERTIFICATES: &[(&str, &str, &[(&str, &str, &str)])] = &[
          RODADA 1 FASE 2 VENCE 10 10:500/3 11:300/2\nRODADA 2 FASE 2 VENCE 11 11:300/2\nVAZIAS 0\nFIM\n",
         &[
             // the quotient is judged before all else
-            ("QUOCIENTE 200\nPARTIDO 10 QP 2", "QUOCIENTE 201\nPARTIDO 10 QP 3", "quotient"),
+            (
+                "QUOCIENTE 200\nPARTIDO 10 QP 2",
+                "QUOCIENTE 201\nPARTIDO 10 QP 3",
+                "quotient",
+            ),
             // lines of the first phase: other numbers, of those who aren't elected left out, a missing line, one too many
             ("QP 1 APTOS 2", "QP 2 APTOS 2", "first 2"),
-            ("APTOS 1 VAGAS 0\nPARTIDO 13", "APTOS 0 VAGAS 0\nPARTIDO 13", "first 3"),
+            (
+                "APTOS 1 VAGAS 0\nPARTIDO 13",
+                "APTOS 0 VAGAS 0\nPARTIDO 13",
+                "first 3",
+            ),
             ("APTOS 2 VAGAS 1", "APTOS 2 VAGAS 2", "first 2"),
             ("PARTIDO 12 QP 0 APTOS 1 VAGAS 0\n", "", "first 3"),
             ("PARTIDO 13 QP 0 APTOS 1 VAGAS 0\n", "", "first 4"),
-            ("RODADA 1", "PARTIDO 14 QP 0 APTOS 0 VAGAS 0\nRODADA 1", "first 5"),
+            (
+                "RODADA 1",
+                "PARTIDO 14 QP 0 APTOS 0 VAGAS 0\nRODADA 1",
+                "first 5",
+            ),
             // rounds: another bloc takes the seat, the phase, an average, an eligible bloc isn't listed, one that isn't eligible is, one too many
             ("VENCE 10 10:500", "VENCE 11 10:500", "round 1"),
             ("VENCE 10 10:500", "VENCE 14 10:500", "round 1"),
@@ -28,11 +40,19 @@ pub(crate) const CERTIFICATES: &[(&str, &str, &[(&str, &str, &str)])] = &[
             (" 10:500/3 11:300/2", " 10:500/3", "round 1"),
             (" 11:300/2\nVAZIAS", "\nVAZIAS", "round 2"),
             ("11:300/2\nRODADA", "11:300/2 12:150/1\nRODADA", "round 1"),
-            ("VAZIAS", "RODADA 3 FASE 3 VENCE 12 12:150/1 13:50/1\nVAZIAS", "round 3"),
+            (
+                "VAZIAS",
+                "RODADA 3 FASE 3 VENCE 12 12:150/1 13:50/1\nVAZIAS",
+                "round 3",
+            ),
             // the end: a round is missing, or a seat told to be vacant
             ("RODADA 2 FASE 2 VENCE 11 11:300/2\n", "", "end"),
             ("VAZIAS 0", "VAZIAS 1", "end"),
-            ("RODADA 2 FASE 2 VENCE 11 11:300/2\nVAZIAS 0", "VAZIAS 1", "end"),
+            (
+                "RODADA 2 FASE 2 VENCE 11 11:300/2\nVAZIAS 0",
+                "VAZIAS 1",
+                "end",
+            ),
             // texts of no certificate
             ("CERT U1", "CERT U2", "line 1"),
             ("CARGO 13", "CARGO 3", "line 2"),
@@ -41,7 +61,11 @@ pub(crate) const CERTIFICATES: &[(&str, &str, &[(&str, &str, &str)])] = &[
             ("QUOCIENTE 200", "QUOCIENTE 1000000000000000000", "line 3"),
             ("PARTIDO 11", "PARTIDO 10", "line 5"),
             ("PARTIDO 13", "PARTIDO 100", "line 7"),
-            ("APTOS 1 VAGAS 0\nRODADA 1", "APTOS 1 VAGAS 4294967296\nRODADA 1", "line 7"),
+            (
+                "APTOS 1 VAGAS 0\nRODADA 1",
+                "APTOS 1 VAGAS 4294967296\nRODADA 1",
+                "line 7",
+            ),
             ("RODADA 1", "FIM\nRODADA 1", "line 8"),
             ("RODADA 2", "RODADA 3", "line 9"),
             ("FASE 2 VENCE 11", "FASE 1 VENCE 11", "line 9"),
@@ -68,10 +92,22 @@ pub(crate) const CERTIFICATES: &[(&str, &str, &[(&str, &str, &str)])] = &[
         "CERT U1\nCARGO 13\nQUOCIENTE 1\nPARTIDO 10 QP 6 APTOS 6 VAGAS 6\n\
          RODADA 1 FASE 3 VENCE 10 10:6/7\nRODADA 2 FASE 3 VENCE 10 10:6/8\nVAZIAS 2\nFIM\n",
         &[
-            ("FASE 3 VENCE 10 10:6/7", "FASE 2 VENCE 10 10:6/7", "round 1"),
-            ("VAZIAS", "RODADA 3 FASE 3 VENCE 10 10:6/9\nVAZIAS", "round 3"),
+            (
+                "FASE 3 VENCE 10 10:6/7",
+                "FASE 2 VENCE 10 10:6/7",
+                "round 1",
+            ),
+            (
+                "VAZIAS",
+                "RODADA 3 FASE 3 VENCE 10 10:6/9\nVAZIAS",
+                "round 3",
+            ),
             ("VAZIAS 2", "VAZIAS 1", "end"),
-            ("RODADA 2 FASE 3 VENCE 10 10:6/8\nVAZIAS 2", "VAZIAS 3", "end"),
+            (
+                "RODADA 2 FASE 3 VENCE 10 10:6/8\nVAZIAS 2",
+                "VAZIAS 3",
+                "end",
+            ),
         ],
     ),
 ];
