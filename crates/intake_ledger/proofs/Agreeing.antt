@@ -2,7 +2,7 @@
 use Rattle.std.proofs.Common.{◌≡◌, ◌≢◌, inl, inr, ℕ, zero, suc, ◌+◌, ◌<◌, ◌^◌, Bool, true, cond, ◌&&◌, ◌==◌, List, [], ◌∷◌, ◌++◌, length, map, slice_get, slice_set, Option, Some, None, is_some, refl, sym, ap, subst, ◌∙◌, arith}
 use Rattle.std.specs.List.{AllByRecursion, Contains, count_by, sum_by}
 use Rattle.std.specs.Option.{option_and_then}
-use Rattle.std.proofs.lemmas.Bool.{and_parts, cases_eq, eqb-true}
+use Rattle.std.proofs.lemmas.Bool.{and_parts, cases_Bool, cases_eq, eqb-true}
 use Rattle.std.proofs.lemmas.List.{length-map, length-set, length_push, same_from_push}
 use Rattle.std.proofs.lemmas.List.Elements.{All-contains, All-from_recursion, Contains-append_left, Contains-push, Contains-push_cases}
 use Rattle.std.proofs.lemmas.List.Sums.{sum_by-cons, sum_by_push}
@@ -11,7 +11,7 @@ use Rattle.election_tables.specs.TablesData.{TablesData, place_with}
 use Rattle.election_tables.specs.declared.tables.sections.Section.{Section}
 use Rattle.poll_report.specs.declared.report.Report.{Report}
 use Rattle.vote_kinds.specs.declared.choice.Choice.{Choice}
-use Rattle.section_intake.specs.Accepted.{AreOffered, File, IsOfSection, IsVerdictBehind, accepted_with, again, another, by_itself, first, none_offered, one_more}
+use Rattle.section_intake.specs.Accepted.{AreOffered, File, IsOfSection, IsVerdictBehind, accepted_with, again, another, by_itself, first, is_accepted, none_offered, one_more}
 use Rattle.section_intake.specs.Laws.{AreAllApart, AreShort}
 use Rattle.section_intake.specs.Verdict.{IsReportFile}
 use Rattle.section_intake.specs.Verdict.{accepted as by_fit}
@@ -29,7 +29,7 @@ use Rattle.intake_ledger.specs.Ledger.{LedgerData, empty_ledger, hash_at, panel_
 use Rattle.intake_ledger.specs.Offers.{AreOfferedTo, IsOffer, IsReportAt}
 use Rattle.intake_ledger.specs.Offers.{by_itself as refused, first as entered, again as repeated, another as conflicting, none_offered as none_yet, one_more as one_later}
 use Rattle.intake_ledger.proofs.Colliding.{one_or_collide}
-use Rattle.intake_ledger.proofs.OneOffer.{hash_set, of_section, one_hash}
+use Rattle.intake_ledger.proofs.OneOffer.{hash_set, of_section, one_hash, set_elsewhere}
 
 -- ---- places
 
@@ -41,13 +41,6 @@ nothing_kept : {X : Type 0} (xs : List X) (place : ℕ) → hash_of (slice_get (
 nothing_kept [] place = refl
 nothing_kept (x ∷ xs) zero = refl
 nothing_kept (x ∷ xs) (suc place) = nothing_kept xs place
-
-set_elsewhere : {X : Type 0} (xs : List X) (place other : ℕ) (v : X) → other ≢ place → slice_get (slice_set xs place v) other ≡ slice_get xs other
-set_elsewhere [] place other v ne = refl
-set_elsewhere (x ∷ xs) zero zero v ne = absurd (ne refl)
-set_elsewhere (x ∷ xs) zero (suc other) v ne = refl
-set_elsewhere (x ∷ xs) (suc place) zero v ne = refl
-set_elsewhere (x ∷ xs) (suc place) (suc other) v ne = set_elsewhere xs place other v (λ e. ne (ap suc e))
 
 abbrev no_hash : Option (List ℕ)
 no_hash = None
@@ -216,16 +209,16 @@ module _ (t : TablesData) (accepted : List File) (l : LedgerData) (agrees : Agre
       let other_is : IsOfSection t r.zone r.section other = subst (λ (x : ℕ). IsOfSection t x r.section other) both.0 (subst (λ (x : ℕ). IsOfSection t z x other) both.1 is) in
       one_holder t r.zone r.section accepted f other apart there here (same_section r q place hash kept f at beside) other_is
 
-  step : (v w : Verdict) (m : LedgerData) → IsVerdictBehind t accepted file v → IsOffer t l file w m → IsSaidSo t file v w × Agrees t (accepted_with accepted v file) m
+  step : (v w : Verdict) (m : LedgerData) → IsVerdictBehind t accepted file v → IsOffer t l file w m → IsSaidSo t accepted file v w × Agrees t (accepted_with accepted v file) m
   step _ _ _ (by_itself {v} h refuses) (refused {v = w} i no_w) =
       let one : v ≡ w = one_verdict t file v w short h i in
-      (subst (IsSaidSo t file v) one same, subst (λ (b : Bool). Agrees t (cond b (accepted ++ file ∷ []) accepted) l) (sym refuses) agrees)
+      (subst (IsSaidSo t accepted file v) one same, subst (λ (b : Bool). Agrees t (cond b (accepted ++ file ∷ []) accepted) l) (sym refuses) agrees)
   step _ _ _ (by_itself {v} h refuses) (entered {r} {place} {hash} at none) = absurd (not_itself t file r.zone r.section v short h refuses (of_section t file r place hash at))
   step _ _ _ (by_itself {v} h refuses) (repeated {r} {place} {hash} at some) = absurd (not_itself t file r.zone r.section v short h refuses (of_section t file r place hash at))
   step _ _ _ (by_itself {v} h refuses) (conflicting {r} {place} {hash} {kept} at some ne) = absurd (not_itself t file r.zone r.section v short h refuses (of_section t file r place hash at))
   step _ _ _ (first {zone = z} {section = s} h free) (refused {v = w} i no_w) = absurd (not_itself t file z s w short i no_w h)
   step _ _ _ (first {zone = z} {section = s} h free) (entered {r} {place} {hash} at none) =
-      (subst (IsSaidSo t file (verdict.Accepted z s)) (one_verdict t file (verdict.Accepted z s) (verdict.Accepted r.zone r.section) short h (of_section t file r place hash at)) same, agrees_more t accepted l agrees file r place hash at short none)
+      (subst (IsSaidSo t accepted file (verdict.Accepted z s)) (one_verdict t file (verdict.Accepted z s) (verdict.Accepted r.zone r.section) short h (of_section t file r place hash at)) same, agrees_more t accepted l agrees file r place hash at short none)
   step _ _ _ (first {zone = z} {section = s} h free) (repeated {r} {place} {hash} at some) =
       let holder = agrees.held place hash some in
       absurd (never_free z s h free r place hash at holder.0 holder.2 (same_section r holder.1 place hash hash holder.0 at holder.3))
@@ -252,7 +245,7 @@ module _ (t : TablesData) (accepted : List File) (l : LedgerData) (agrees : Agre
       let kept : IsLastHash other hash = subst (λ (f : File). IsLastHash f hash) there holder.3.last in
       let of_same : IsOfSection t r.zone r.section other = subst (λ (x : ℕ). IsOfSection t x r.section other) both.0 (subst (λ (x : ℕ). IsOfSection t z x other) both.1 is) in
       elim (one_or_collide other file hash kept at.last) [
-        | inl collide ↦ (rw (both.0, both.1) (collided of_same other_than kept at.last collide), agrees)
+        | inl collide ↦ (rw (both.0, both.1) (collided here of_same other_than kept at.last collide), agrees)
         | inr equal ↦ absurd (other_than equal)
       ]
   step _ _ _ (another {zone = z} {section = s} {other} h here is other_than) (conflicting {r} {place} {hash} {kept} at some ne) =
@@ -261,17 +254,30 @@ module _ (t : TablesData) (accepted : List File) (l : LedgerData) (agrees : Agre
 
 -- ---- all offers
 
-said_push : (t : TablesData) (files : List File) (verdicts said : List Verdict) (file : File) (v w : Verdict) → AreSaidSo t files verdicts said → IsSaidSo t file v w
-    → AreSaidSo t (files ++ file ∷ []) (verdicts ++ v ∷ []) (said ++ w ∷ [])
-said_push t [] [] [] file v w all one = (one, tt)
-said_push t [] [] (y ∷ said) file v w all one = absurd all
-said_push t [] (x ∷ verdicts) said file v w all one = absurd all
-said_push t (f ∷ files) [] said file v w all one = absurd all
-said_push t (f ∷ files) (x ∷ verdicts) [] file v w all one = absurd all
-said_push t (f ∷ files) (x ∷ verdicts) (y ∷ said) file v w all one = (all.0, said_push t files verdicts said file v w all.1 one)
+-- what is said so of some accepted files, is said so of more
+module _ (t : TablesData) (accepted more : List File) (among : (f : File) → Contains accepted f → Contains more f) where
+  said_still : (file : File) (v w : Verdict) → IsSaidSo t accepted file v w → IsSaidSo t more file v w
+  said_still file v _ same = same
+  said_still file _ _ (collided {other} here is other_than kept last collide) = collided (among other here) is other_than kept last collide
+
+  said_push : (files : List File) (verdicts said : List Verdict) (file : File) (v w : Verdict) → AreSaidSo t accepted files verdicts said → IsSaidSo t accepted file v w
+      → AreSaidSo t more (files ++ file ∷ []) (verdicts ++ v ∷ []) (said ++ w ∷ [])
+  said_push [] [] [] file v w all one = (said_still file v w one, tt)
+  said_push [] [] (y ∷ said) file v w all one = absurd all
+  said_push [] (x ∷ verdicts) said file v w all one = absurd all
+  said_push (f ∷ files) [] said file v w all one = absurd all
+  said_push (f ∷ files) (x ∷ verdicts) [] file v w all one = absurd all
+  said_push (f ∷ files) (x ∷ verdicts) (y ∷ said) file v w all one = (said_still f x y all.0, said_push files verdicts said file v w all.1 one)
+
+-- those that were accepted stay so
+still_accepted : (accepted : List File) (v : Verdict) (file f : File) → Contains accepted f → Contains (accepted_with accepted v file) f
+still_accepted accepted v file f here = elim (cases_Bool (is_accepted v)) [
+  | inl accepts ↦ subst (λ (b : Bool). Contains (cond b (accepted ++ file ∷ []) accepted) f) (sym accepts) (Contains-append_left accepted (file ∷ []) f here)
+  | inr refuses ↦ subst (λ (b : Bool). Contains (cond b (accepted ++ file ∷ []) accepted) f) (sym refuses) here
+]
 
 agree : (t : TablesData) (files others accepted : List File) (verdicts said : List Verdict) (pieces : List (Piece LedgerData)) (l : LedgerData) → AreShort files → files ≡ others
-    → AreOffered t files verdicts accepted → AreOfferedTo t (empty_ledger t) others said pieces l → AreSaidSo t files verdicts said × Agrees t accepted l
+    → AreOffered t files verdicts accepted → AreOfferedTo t (empty_ledger t) others said pieces l → AreSaidSo t accepted files verdicts said × Agrees t accepted l
 agree t _ _ _ _ _ _ _ short is none_offered none_yet = (tt, agrees_empty t)
 agree t _ _ _ _ _ _ _ short is none_offered (one_later {files} {file} before offer) = absurd (never_none files file is)
 agree t _ _ _ _ _ _ _ short is (one_more {files} {file} before behind) none_yet = absurd (never_none files file (sym is))
@@ -281,7 +287,7 @@ agree t _ _ _ _ _ _ _ short is (one_more {files} {accepted} {verdicts} {file} {v
     let rest = agree t files gs accepted verdicts said pieces m both.0 ends.0 before earlier in
     let own : IsOffer t m file w k = subst (λ (f : File). IsOffer t m f w k) (sym ends.1) offer in
     let now = step t accepted m rest.1 (each_section_once t files verdicts accepted both.0 before) file both.1 v w k behind own in
-    (said_push t files verdicts said file v w rest.0 now.0, now.1)
+    (said_push t accepted (accepted_with accepted v file) (still_accepted accepted v file) files verdicts said file v w rest.0 now.0, now.1)
 
 pub ledger_is_intake : LedgerIsIntake
 ledger_is_intake t files accepted verdicts said pieces l tables short offered told =

@@ -1,5 +1,5 @@
 -- A file that is offered to a ledger has one verdict, and leaves one ledger; and each file has one.
-use Rattle.std.proofs.Common.{◌≡◌, inl, inr, ℕ, zero, suc, ◌<◌, ◌^◌, Option, Some, None, List, [], ◌∷◌, length, option_and_then, refl, sym, ap, subst, ◌∙◌, arith}
+use Rattle.std.proofs.Common.{◌≡◌, ◌≢◌, inl, inr, ℕ, zero, suc, ◌<◌, ◌^◌, Option, Some, None, List, [], ◌∷◌, length, option_and_then, refl, sym, ap, subst, ◌∙◌, arith}
 use Rattle.std.specs.Prelude.{slice_get, slice_set}
 use Rattle.std.specs.Str.{bytes_eq}
 use Rattle.std.specs.Cmp.Lexicographic.{other_text, same_text}
@@ -23,10 +23,11 @@ use Rattle.section_intake.proofs.AcceptedLaws.{by_report}
 use Rattle.section_intake.proofs.BehindLaws.{not_itself}
 use Rattle.section_intake.proofs.HolderLaws.{not_listed, section_there}
 use Rattle.section_intake.proofs.VerdictLaws.{one_report, one_verdict, some_verdict}
+use Rattle.flash_store.specs.Pieces.{Piece}
 use Rattle.intake_ledger.specs.LastHash.{IsLastHash, last_hash, lines_of_text}
 use Rattle.intake_ledger.specs.Laws.{AcceptedIsRepeated, OneOffer, SomeOffer}
 use Rattle.intake_ledger.specs.Ledger.{IsHash, IsLedger, LedgerData, hash_at, with_report}
-use Rattle.intake_ledger.specs.Offers.{IsOffer, IsReportAt, again, another, by_itself, first}
+use Rattle.intake_ledger.specs.Offers.{AreOfferedTo, IsOffer, IsReportAt, again, another, by_itself, first, none_offered, one_more}
 use Rattle.intake_ledger.proofs.LastHash.{are_bytes, hash_written, sha_is_hash, written_hash}
 
 -- ---- one last hash
@@ -161,17 +162,43 @@ hash_set [] place hash lt = absurd (omega arith)
 hash_set (h ∷ last) zero hash lt = refl
 hash_set (h ∷ last) (suc place) hash lt = hash_set last place hash (omega arith)
 
-repeated : (t : TablesData) (l m : LedgerData) (file : File) (v : Verdict) (zone section : ℕ) → IsLedger t l → v ≡ verdict.Accepted zone section → IsOffer t l file v m
-    → IsOffer t m file (verdict.Repeated zone section) m
-repeated t l m file _ zone section of is (by_itself {v} h refuses) = let accepted = sym refuses ∙ ap is_accepted is in absurd (cc)
-repeated t l m file _ zone section of is (again at some) = absurd (cc)
-repeated t l m file _ zone section of is (another at some ne) = absurd (cc)
-repeated t l _ file _ zone section of is (first {r} {place} {hash} at none) =
-    let there = section_there t.sections r.zone r.section place at.section in
-    let within : place < length l.last = omega (arith, slice_get_within t.sections place there.0 there.1, of.sections) in
-    let kept : hash_at place (with_report t place hash r l) ≡ Some hash = ap (option_and_then (λ h. h)) (hash_set l.last place hash within) in
-    let same : verdict.Repeated r.zone r.section ≡ verdict.Repeated zone section = cc in
-    subst (λ (v : Verdict). IsOffer t (with_report t place hash r l) file v (with_report t place hash r l)) same (again at kept)
+pub set_elsewhere : {X : Type 0} (xs : List X) (place other : ℕ) (v : X) → other ≢ place → slice_get (slice_set xs place v) other ≡ slice_get xs other
+set_elsewhere [] place other v ne = refl
+set_elsewhere (x ∷ xs) zero zero v ne = absurd (ne refl)
+set_elsewhere (x ∷ xs) zero (suc other) v ne = refl
+set_elsewhere (x ∷ xs) (suc place) zero v ne = refl
+set_elsewhere (x ∷ xs) (suc place) (suc other) v ne = set_elsewhere xs place other v (λ e. ne (ap suc e))
+
+-- a hash that a ledger has stays in an offer,
+still_kept : (t : TablesData) (l m : LedgerData) (file : File) (v : Verdict) (place : ℕ) (hash : List ℕ) → IsOffer t l file v m → hash_at place l ≡ Some hash → hash_at place m ≡ Some hash
+still_kept t l _ file _ place hash (by_itself h refuses) kept = kept
+still_kept t l _ file _ place hash (again at some) kept = kept
+still_kept t l _ file _ place hash (another at some ne) kept = kept
+still_kept t l _ file _ place hash (first {r} {place = other} {hash = last} at none) kept =
+    let apart : place ≢ other = λ same. let free = ap (λ (k : ℕ). hash_at k l) same in absurd (cc) in
+    ap (option_and_then (λ h. h)) (set_elsewhere l.last other place (Some last) apart) ∙ kept
+
+-- and in many
+stays_kept : (t : TablesData) (l m : LedgerData) (files : List File) (verdicts : List Verdict) (pieces : List (Piece LedgerData)) (place : ℕ) (hash : List ℕ)
+    → AreOfferedTo t l files verdicts pieces m → hash_at place l ≡ Some hash → hash_at place m ≡ Some hash
+stays_kept t l _ _ _ _ place hash none_offered kept = kept
+stays_kept t l _ _ _ _ place hash (one_more {files} {verdicts} {pieces} {m} {k} {file} {v} before offer) kept =
+    still_kept t m k file v place hash offer (stays_kept t l m files verdicts pieces place hash before kept)
+
+module _ (t : TablesData) (k : LedgerData) (file : File) (zone section : ℕ) (files : List File) (verdicts : List Verdict) (pieces : List (Piece LedgerData)) where
+  repeated : (l m : LedgerData) (v : Verdict) → IsLedger t l → v ≡ verdict.Accepted zone section → IsOffer t l file v m → AreOfferedTo t m files verdicts pieces k
+      → IsOffer t k file (verdict.Repeated zone section) k
+  repeated l m _ of is (by_itself {v} h refuses) later = let accepted = sym refuses ∙ ap is_accepted is in absurd (cc)
+  repeated l m _ of is (again at some) later = absurd (cc)
+  repeated l m _ of is (another at some ne) later = absurd (cc)
+  repeated l _ _ of is (first {r} {place} {hash} at none) later =
+      let there = section_there t.sections r.zone r.section place at.section in
+      let within : place < length l.last = omega (arith, slice_get_within t.sections place there.0 there.1, of.sections) in
+      let now : hash_at place (with_report t place hash r l) ≡ Some hash = ap (option_and_then (λ h. h)) (hash_set l.last place hash within) in
+      let kept : hash_at place k ≡ Some hash = stays_kept t (with_report t place hash r l) k files verdicts pieces place hash later now in
+      let same : verdict.Repeated r.zone r.section ≡ verdict.Repeated zone section = cc in
+      subst (λ (v : Verdict). IsOffer t k file v k) same (again at kept)
 
 pub accepted_is_repeated : AcceptedIsRepeated
-accepted_is_repeated t l m file zone section of offer = repeated t l m file (verdict.Accepted zone section) zone section of refl offer
+accepted_is_repeated t l m k file zone section files verdicts pieces of offer later =
+    repeated t k file zone section files verdicts pieces l m (verdict.Accepted zone section) of refl offer later

@@ -60,10 +60,11 @@ OneOffer = (t : TablesData) (l m k : LedgerData) (file : File) (v w : Verdict) �
 abbrev pub SomeOffer : Type 0
 SomeOffer = (t : TablesData) (l : LedgerData) (file : File) → IsTables t → length file < 2 ^ 63 → (v : Verdict) × (m : LedgerData) × IsOffer t l file v m
 
--- A file that was accepted is repeated from then on.
+-- A file that was accepted is repeated from then on, whatever is offered between.
 abbrev pub AcceptedIsRepeated : Type 0
-AcceptedIsRepeated = (t : TablesData) (l m : LedgerData) (file : File) (zone section : ℕ) → IsLedger t l → IsOffer t l file (verdict.Accepted zone section) m
-    → IsOffer t m file (verdict.Repeated zone section) m
+AcceptedIsRepeated =
+    (t : TablesData) (l m k : LedgerData) (file : File) (zone section : ℕ) (files : List File) (verdicts : List Verdict) (pieces : List (Piece LedgerData)) → IsLedger t l
+    → IsOffer t l file (verdict.Accepted zone section) m → AreOfferedTo t m files verdicts pieces k → IsOffer t k file (verdict.Repeated zone section) k
 
 -- ---- the ledger, and the intake of the same files
 
@@ -71,18 +72,18 @@ AcceptedIsRepeated = (t : TablesData) (l m : LedgerData) (file : File) (zone sec
 abbrev pub Collision : Type 0
 Collision = (x : List ℕ) × (y : List ℕ) × (x ≢ y) × (hash_text x ≡ hash_text y)
 
--- The verdict of a ledger on a file is that of the intake. Only a file that is in conflict there may be repeated here, where another file of
--- its section has the same hash of its last part; and then two different texts have one SHA-512.
-pub data IsSaidSo (t : TablesData) (file : File) : Verdict → Verdict → Type 0 where
-  same : {v : Verdict} → IsSaidSo t file v v
-  collided : {zone section : ℕ} {other : File} {hash : List ℕ} → IsOfSection t zone section other → other ≢ file → IsLastHash other hash
-      → IsLastHash file hash → Collision → IsSaidSo t file (verdict.Conflict zone section) (verdict.Repeated zone section)
+-- The verdict of a ledger on a file is that of the intake, which accepts these files. Only a file that is in conflict there may be repeated
+-- here, where the accepted file of its section is another one with the same hash of its last part; and then two different texts have one SHA-512.
+pub data IsSaidSo (t : TablesData) (accepted : List File) (file : File) : Verdict → Verdict → Type 0 where
+  same : {v : Verdict} → IsSaidSo t accepted file v v
+  collided : {zone section : ℕ} {other : File} {hash : List ℕ} → Contains accepted other → IsOfSection t zone section other → other ≢ file
+      → IsLastHash other hash → IsLastHash file hash → Collision → IsSaidSo t accepted file (verdict.Conflict zone section) (verdict.Repeated zone section)
 
 -- so it is of each of these files
-abbrev pub AreSaidSo : TablesData → List File → List Verdict → List Verdict → Type 0
-AreSaidSo t [] [] [] = Unit {0}
-AreSaidSo t (file ∷ files) (v ∷ verdicts) (w ∷ said) = IsSaidSo t file v w × AreSaidSo t files verdicts said
-AreSaidSo t files verdicts said = ⊥
+abbrev pub AreSaidSo : TablesData → List File → List File → List Verdict → List Verdict → Type 0
+AreSaidSo t accepted [] [] [] = Unit {0}
+AreSaidSo t accepted (file ∷ files) (v ∷ verdicts) (w ∷ said) = IsSaidSo t accepted file v w × AreSaidSo t accepted files verdicts said
+AreSaidSo t accepted files verdicts said = ⊥
 
 -- The ledger has the sums over the reports of these accepted files, and as many sections as there are.
 pub record HasSumsOf (t : TablesData) (accepted : List File) (l : LedgerData) : Type 0 where
@@ -95,7 +96,7 @@ pub record HasSumsOf (t : TablesData) (accepted : List File) (l : LedgerData) : 
 -- hash; and the ledger has the sums over those that the intake accepts, even then.
 abbrev pub LedgerIsIntake : Type 0
 LedgerIsIntake = (t : TablesData) (files accepted : List File) (verdicts said : List Verdict) (pieces : List (Piece LedgerData)) (l : LedgerData) → IsTables t
-    → AreShort files → AreOffered t files verdicts accepted → AreOfferedTo t (empty_ledger t) files said pieces l → AreSaidSo t files verdicts said × HasSumsOf t accepted l
+    → AreShort files → AreOffered t files verdicts accepted → AreOfferedTo t (empty_ledger t) files said pieces l → AreSaidSo t accepted files verdicts said × HasSumsOf t accepted l
 
 -- ---- on two flashes
 

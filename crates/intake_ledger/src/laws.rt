@@ -30,15 +30,15 @@ pub fn goes_on()
     ensures offers { OffersGoOn }
 {}
 
-/// Files that are offered to the ledger before the first report have the verdicts that `section_intake` gives them. Only where another file of
-/// its section has the same hash of its last part is a file in conflict told as repeated, and then two different texts have one SHA-512. The
+/// Files that are offered to the ledger before the first report have the verdicts that `section_intake` gives them. Only where the accepted
+/// file of its section has the same hash of its last part is a file in conflict told as repeated, and then two different texts have one SHA-512. The
 /// ledger has the sums over the files that `section_intake` accepts, even then.
 pub fn intake()
     ensures { LedgerIsIntake }
 {}
 
 /// A file of less than 2^63 bytes that is offered to a ledger has one verdict, and leaves one ledger. A file that was accepted is repeated from
-/// then on.
+/// then on, whatever is offered between.
 pub fn offers()
     ensures one { OneOffer }
     ensures some { SomeOffer }

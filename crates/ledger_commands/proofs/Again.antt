@@ -3,6 +3,7 @@ use Rattle.std.proofs.Common.{◌≡◌, ◌≢◌, ◌⊎◌, inl, inr, ℕ, �
 use Rattle.std.proofs.lemmas.List.{append_cancel_left}
 use Rattle.std.proofs.lemmas.List.Elements.{Contains-get_or}
 use Rattle.std.proofs.lemmas.Bool.{cases_eq}
+use Rattle.std.proofs.lemmas.Option.{same_Some}
 use Rattle.urna_outside.specs.Cabinet.{CabinetTold, Files}
 use Rattle.urna_outside.specs.Flash.{Flashes, IsImage, Op, after, shown_by}
 use Rattle.urna_outside.specs.Started.{clean_flashes}
@@ -38,7 +39,7 @@ use Rattle.command_parts.specs.Documents.{HasTables, IsListed}
 use Rattle.command_parts.specs.Documents.{IsFirstFault as IsFirstFaultOf}
 use Rattle.command_parts.specs.FaultLines.{Tells}
 use Rattle.command_parts.specs.Idle.{AreIdle}
-use Rattle.command_parts.specs.Steps.{IsInterrupted, IsToldOrOneMore, failed}
+use Rattle.command_parts.specs.Steps.{IsInterrupted, IsNext, IsToldOrOneMore, cut as cut_off, cut_behind, ended as ended_whole, failed}
 use Rattle.command_parts.specs.declared.error.Doc.TheVariants as doc
 use Rattle.command_parts.proofs.Idle.{Idles, front_idles, idle_images, idle_stop, idle_trail, idles-append, told_idles, untouched_idles}
 use Rattle.command_parts.proofs.Ending.{error_told}
@@ -53,11 +54,11 @@ use Rattle.ledger_commands.specs.Ending.{CommandEnds}
 use Rattle.ledger_commands.specs.Errors.{error_of, fault_text, ledger_status, port_status}
 use Rattle.ledger_commands.specs.Headline.{KeepsOffers, TakesIn, TotaisTraced, verdicts_begun}
 use Rattle.ledger_commands.specs.Opening.{IsOpened, ledger_line}
-use Rattle.ledger_commands.specs.Recebe.{HasReceived, RecebeEnds, cut, list_no_cabinet, list_no_memory, list_refused, not_opened, received, report_no_cabinet, report_no_memory, report_refused}
+use Rattle.ledger_commands.specs.Recebe.{HasReceived, RecebeEnds, cut, list_no_cabinet, list_no_memory, list_refused, not_opened, received, refused_status, report_no_cabinet, report_no_memory, report_refused}
 use Rattle.ledger_commands.specs.Totais.{TotaisEnds, no_lines, none_opened, total_no_cabinet, total_no_memory, total_refused, totals_told, totals_untold}
 use Rattle.ledger_commands.specs.declared.status.LedgerStatus.{LedgerStatus}
 use Rattle.ledger_commands.specs.declared.status.LedgerStatus.TheVariants as status
-use Rattle.ledger_commands.proofs.Headline.{ledger_is_kept, offers_are_kept, tells_does}
+use Rattle.ledger_commands.proofs.Headline.{all_begun, all_taken, ledger_is_kept, not_refused_port, offers_are_kept, tells_does}
 use Rattle.ledger_commands.proofs.Idle.{FromBoth, OpensOrNot, abre_idles, found_digest, found_in_use, from_both, unopened}
 
 -- what is left, of which the shown text doesn't matter
@@ -91,6 +92,13 @@ port_is port.Display = refl
 
 no_port : (s : LedgerStatus) → port_in s ≡ None → (p : Port) → s ≢ port_status p
 no_port s none p is = let both : None ≡ Some p = sym none ∙ ap port_in is ∙ port_is p in absurd (cc)
+
+-- a call that ended did so with its answer, and did all
+ended_with : (start next : Flashes) (ops done : List Op) (answer : LedgerStatus) (status : Option LedgerStatus) → IsNext start ops answer done status next → (s : LedgerStatus) → status ≡ Some s
+    → (answer ≡ s) × (done ≡ ops)
+ended_with start _ ops _ answer _ ended_whole s same = (same_Some _ _ same, refl)
+ended_with start _ ops _ answer _ (cut_behind is) s same = (same_Some _ _ same, refl)
+ended_with start _ ops _ answer _ (cut_off stop is) s same = absurd (cc)
 
 port_or_none : (s : LedgerStatus) → ((p : Port) × (s ≡ port_status p)) ⊎ ((p : Port) → s ≢ port_status p)
 port_or_none status.InternalFlash = inl (port.Internal, refl)
@@ -474,7 +482,8 @@ module _ (t : TablesData) (l : LedgerData) (origin : Flashes) (ready : AreReady 
               → keeps.both.reached ≢ verdicts_begun here.ledger takes.pieces (length (shown_by later)) + 1
           no_more (with, all) none more =
               let same : later ≡ rest from = append_cancel_left both_synced later (rest from) (sym front ∙ all ∙ row from) in
-              let told = takes.told none in
+              let (behind, text) = takes.told none in
+              let told = all_begun (Some x.files) t here.ledger takes.last listed takes.unread takes.verdicts takes.pieces takes.are (shown_by (rest from)) behind text in
               let begun_here = ap (λ (ops : List Op). verdicts_begun here.ledger takes.pieces (length (shown_by ops))) same in
               absurd (omega (arith, more, told, begun_here, keeps.both.few))
 
@@ -482,13 +491,26 @@ module _ (t : TablesData) (l : LedgerData) (origin : Flashes) (ready : AreReady 
           told_so = elim keeps.both.told [
             | inl same ↦ inl same
             | inr more ↦ elim over [
-              | inl cut_off ↦ inr (cut_off, more)
+              | inl stopped ↦ inr (stopped, more)
               | inr end ↦ elim (port_or_none is.answer) [
                 | inl (p, is_p) ↦ inr (subst (IsInterrupted port_status) (sym (end.0 ∙ ap (λ (s : LedgerStatus). Some s) is_p)) (failed p), more)
                 | inr none ↦ absurd (no_more end none more)
               ]
             ]
           ]
+
+          -- where some reports were refused, or none, all were taken in
+          all_so : (refused : ℕ) → (is.answer ≡ refused_status refused) × (is.done ≡ is.ops) → keeps.both.reached ≡ length listed
+          all_so refused end =
+              let same : later ≡ rest from = append_cancel_left both_synced later (rest from) (sym front ∙ end.1 ∙ row from) in
+              let (behind, text) = takes.told (λ p is_p. not_refused_port p refused (sym is_p ∙ end.0)) in
+              let told = all_begun (Some x.files) t here.ledger takes.last listed takes.unread takes.verdicts takes.pieces takes.are (shown_by (rest from)) behind text in
+              let begun_here = ap (λ (ops : List Op). verdicts_begun here.ledger takes.pieces (length (shown_by ops))) same in
+              let many = all_taken (Some x.files) t here.ledger takes.last listed takes.unread takes.verdicts takes.pieces takes.are (takes.all refused end.0) in
+              elim keeps.both.told [
+                | inl as_told ↦ omega (arith, as_told, told, begun_here, many)
+                | inr more ↦ absurd (omega (arith, more, told, begun_here, keeps.both.few))
+              ]
 
           on : ReceivesOn t x listed here.ledger keeps.both.ledger
           on =
@@ -504,6 +526,8 @@ module _ (t : TablesData) (l : LedgerData) (origin : Flashes) (ready : AreReady 
                 number = keeps.both.reached;
                 after = keeps.both.after;
                 told = subst (λ (shown : List ℕ). IsToldOrOneMore port_status x.status (verdicts_begun here.ledger takes.pieces (length shown)) keeps.both.reached) (sym shown_is) told_so;
+                ended = λ s with. (ended_with start next is.ops is.done is.answer x.status is.goes_on s with).0;
+                all = λ refused with. all_so refused (ended_with start next is.ops is.done is.answer x.status is.goes_on (refused_status refused) with);
               }
 
           offers_step : AtNext a e

@@ -33,10 +33,10 @@ use Rattle.section_intake.proofs.ReportLaws.{as_many, one_list}
 use Rattle.section_intake.proofs.VotesOfTables.{each_vote_is_of_the_tables}
 use Rattle.seat_remainders.specs.Parties.{nominal_votes}
 use Rattle.seat_remainders.specs.declared.contest.Entry.{Entry}
-use Rattle.totals.specs.Contest.{entries_in, entry_of, party_numbers}
+use Rattle.totals.specs.Contest.{contest_for, entries_in, entry_of, party_numbers}
 use Rattle.totals.specs.Contest.{votes_in as panel_votes}
 use Rattle.totals.specs.Lines.{candidate_line, office_line, section_line}
-use Rattle.totals.specs.Totals.{TellPanel, TellPanels}
+use Rattle.totals.specs.Totals.{TellPanel, TellPanels, TellResult}
 use Rattle.totals.specs.declared.votes.PanelVotes.{PanelVotes}
 use Rattle.totals.proofs.VoteLaws.{candidates_have_nominal, majority_has_none}
 use Rattle.flash_store.specs.Pieces.{Piece}
@@ -85,9 +85,10 @@ led_short t l k _ (leads {before} {x} {m} earlier (other none)) = short-append (
 led_short t l k _ (leads {before} {x} {m} earlier (silent unshown)) = short-append (reports_led earlier) [] (led_short t l m before earlier) tt
 
 pub led_has_sums : LedHasSums
-led_has_sums t calls l verdicts accepted tables led offered =
+led_has_sums t calls l tables led =
     let (said, pieces, to) = led_offered t (empty_ledger t) l calls led in
-    (ledger_is_intake t (reports_led led) accepted verdicts said pieces l tables (led_short t (empty_ledger t) l calls led) offered to).1
+    let short = led_short t (empty_ledger t) l calls led in
+    (short, λ verdicts accepted offered. (ledger_is_intake t (reports_led led) accepted verdicts said pieces l tables short offered to).1)
 
 -- ---- the sum of a choice
 
@@ -267,7 +268,7 @@ get_behind (q ∷ before) p panels = get_behind before p panels
 module _ (t : TablesData) (tables : IsTables t) (l : LedgerData) (reports : List Report) (fit : AllByRecursion (Fits t) reports)
     (sums : l.sums ≡ map (λ x. sum_by (votes_in x) reports) (panel_choices t)) where
   panels_same : (first : ℕ) (before panels : List Panel) (lines : List (List ℕ)) → length before ≡ first → before ++ panels ≡ t.panels → TellPanels t reports first panels lines
-      → TellAlso t l first panels lines
+      → TellAlso t reports l first panels lines
   panels_same first before [] lines long all told = told
   panels_same first before (p ∷ panels) lines long all (own, others, here, rest, is) =
       let at : slice_get t.panels first ≡ Some p = ap (λ (ps : List Panel). slice_get ps first) (sym all) ∙ ap (λ (k : ℕ). slice_get (before ++ p ∷ panels) k) (sym long) ∙ get_behind before p panels in
@@ -277,14 +278,15 @@ module _ (t : TablesData) (tables : IsTables t) (l : LedgerData) (reports : List
       let more : length (before ++ p ∷ []) ≡ first + 1 = omega (arith, long, length-append before (p ∷ [])) in (
         told.result,
         others,
+        subst (λ (q : Panel). TellResult q.office.kind t (contest_for t reports first q) (entries_in reports first q) (λ number. nominal_sum first number reports) told.result) this told.told,
         panels_same (first + 1) (before ++ p ∷ []) panels others more (append_assoc before (p ∷ []) panels ∙ all) rest,
         is ∙ ap (λ (x : List (List ℕ)). x ++ others) (same ∙ ap (λ (q : Panel). panel_lines t l first q ++ told.result) this),
       )
 
 pub totals_tell_ledger : TotalsTellLedger
 totals_tell_ledger t calls l verdicts accepted reports lines tables led offered read told =
-    let has = led_has_sums t calls l verdicts accepted tables led offered in
-    let short = led_short t (empty_ledger t) l calls led in
+    let (short, sums_of) = led_has_sums t calls l tables led in
+    let has = sums_of verdicts accepted offered in
     let short_here = short_accepted t (reports_led led) verdicts accepted short offered in
     let (others, also, fit, different) = some_reports t (reports_led led) verdicts accepted short offered in
     let same = one_list accepted others reports short_here also read in

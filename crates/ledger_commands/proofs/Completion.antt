@@ -1,5 +1,5 @@
 -- Where a call has what it needs, each other ending shows a fault
-use Rattle.std.proofs.Common.{◌≡◌, ◌⊎◌, inl, inr, ℕ, List, [], ◌∷◌, Option, Some, refl, sym, subst, ◌∙◌, append-nil}
+use Rattle.std.proofs.Common.{◌≡◌, ◌⊎◌, inl, inr, ℕ, zero, suc, ◌+◌, false, List, [], ◌∷◌, length, Option, Some, None, IsSomeAnd, refl, sym, ap, subst, ◌∙◌, append-nil}
 use Rattle.std.specs.Option.{option_and_then}
 use Rattle.urna_outside.specs.Cabinet.{CabinetTold, Files}
 use Rattle.urna_outside.specs.Flash.{Flashes}
@@ -31,9 +31,9 @@ use Rattle.command_parts.proofs.Ending.{error_told}
 use Rattle.command_parts.proofs.Listing.{none_at_fault, same_reports}
 use Rattle.command_parts.proofs.Once.{refused_or_listed, same_names, same_tables, tables_not_fault}
 use Rattle.ledger_commands.specs.Abre.{AbreEnds, begin_no_cabinet, begin_no_memory, begin_refused, begun, begun_untold, not_begun}
-use Rattle.ledger_commands.specs.Command.{Command, Recebe, ToBegin, ToReceive, ToTotal}
-use Rattle.ledger_commands.specs.Completion.{CanBegin, CanDo, CanReceive, CanTell, Completes, CompletesWhereItCan, IsByOffers, IsDoneOrMemory}
-use Rattle.ledger_commands.specs.Documents.{IsFault, IsFirstFault}
+use Rattle.ledger_commands.specs.Command.{Command, Recebe, ToBegin, ToReceive, ToTotal, command_of}
+use Rattle.ledger_commands.specs.Completion.{CanBegin, CanDo, CanReceive, CanTell, Completes, CompletesWhereItCan, IsByOffers, IsDoneOrMemory, TellsOfRisenCounts, tells_of_count}
+use Rattle.ledger_commands.specs.Documents.{HasTaken, IsFault, IsFirstFault}
 use Rattle.ledger_commands.specs.Ending.{CommandEnds}
 use Rattle.ledger_commands.specs.Errors.{error_of, fault_text, ledger_status, port_status}
 use Rattle.ledger_commands.specs.Recebe.{HasReceived, RecebeEnds, cut, list_no_cabinet, list_no_memory, list_refused, not_opened, received, refused_status, report_no_cabinet, report_no_memory, report_refused}
@@ -170,3 +170,84 @@ pub completes : OneListAnswers → CompletesWhereItCan
 completes answers words command c d m n s files flashes is there told none ends can =
     command_completes answers command c d m ends.between s files flashes there told none.cabinet (calm_before s m ends.between n none.ports ends.told)
     (subst (λ (o : Option Command). CommandEnds o c d m ends.between s) is ends.command) can
+
+-- ---- over any cabinet and machine
+
+-- nothing counted: no count rose of the cabinet's three, and none of a port before the line of the status
+record NothingCounted (c d : CabinetTold) (s : LedgerStatus) (m b : Told) : Type 0 where
+  faults : ¬ Rose c.tally.faults d.tally.faults
+  missing : ¬ Rose c.tally.missing d.tally.missing
+  too_long : ¬ Rose c.tally.too_long d.tally.too_long
+  calm : Calm s m b
+
+-- a document at fault then tells of none,
+file_counts : (P : CommandError → Type 0) (most : ℕ) (c d : CabinetTold) (s : LedgerStatus) (m b : Told) → NothingCounted c d s m b
+    → HasTaken most s c d → IsSomeAnd (error_of s) P → tells_of_count s ≡ false
+file_counts P most c d (status.Missing x) m b none taken h = absurd (none.missing taken.counts.missing.rose)
+file_counts P most c d (status.TooLong x) m b none taken h = absurd (none.too_long taken.counts.too_long.rose)
+file_counts P most c d status.Cabinet m b none taken h = absurd (none.faults taken.counts.faults.rose)
+file_counts P most c d status.InternalFlash m b none taken h = absurd h
+file_counts P most c d status.ExternalFlash m b none taken h = absurd h
+file_counts P most c d status.Display m b none taken h = absurd h
+file_counts P most c d s m b none taken h = refl
+
+-- and neither does a ledger that was not laid or opened
+formed_counts : (m b : Told) (e : LedgerError) → Calm (ledger_status e) m b → FailsToFormat m b e → tells_of_count (ledger_status e) ≡ false
+formed_counts m b ledger.Memory calm h = refl
+formed_counts m b (ledger.Flash d) calm h = absurd (calm (port_of d) refl h.0.faults.rose)
+formed_counts m b (ledger.Foreign d) calm h = refl
+formed_counts m b ledger.NoImage calm h = refl
+formed_counts m b (ledger.Busy d) calm h = refl
+
+opened_counts : (t : TablesData) (m b : Told) (e : LedgerError) → Calm (ledger_status e) m b → FailsToOpen t m b e → tells_of_count (ledger_status e) ≡ false
+opened_counts t m b ledger.Memory calm h = refl
+opened_counts t m b (ledger.Flash d) calm h = absurd (calm (port_of d) refl h.0.faults.rose)
+opened_counts t m b (ledger.Foreign d) calm h = refl
+opened_counts t m b ledger.NoImage calm h = refl
+opened_counts t m b (ledger.Busy d) calm h = refl
+
+refused_counts : (k : ℕ) → tells_of_count (refused_status k) ≡ false
+refused_counts zero = refl
+refused_counts (suc k) = refl
+
+abre_counts : (name : List ℕ) (c d : CabinetTold) (m b : Told) (s : LedgerStatus) → NothingCounted c d s m b → AbreEnds name c d m b s → tells_of_count s ≡ false
+abre_counts name c d m b s none (begin_refused why taken un) = file_counts (IsFaultOf c.files name doc.Tables) 1 c d s m b none taken why
+abre_counts name c d m b _ none (begin_no_memory taken un) = refl
+abre_counts name c d m b _ none (begin_no_cabinet taken un) = absurd (none.faults taken.counts.faults.rose)
+abre_counts name c d m b _ none (not_begun e given taken h) = formed_counts m b e none.calm h.fails
+abre_counts name c d m b _ none (begun_untold between given taken h off) =
+    absurd (none.calm port.Display refl (since port.Display m between b h.fine.faults off.faults.rose))
+abre_counts name c d m b _ none (begun between given taken h shown) = refl
+
+recebe_counts : (names : Recebe) (c d : CabinetTold) (m b : Told) (s : LedgerStatus) → NothingCounted c d s m b → RecebeEnds names c d m b s → tells_of_count s ≡ false
+recebe_counts names c d m b s none (list_refused why taken un) = file_counts (IsFirstFaultOf c.files names.tables doc.List names.list) 2 c d s m b none taken why
+recebe_counts names c d m b _ none (list_no_memory taken un) = refl
+recebe_counts names c d m b _ none (list_no_cabinet taken un) = absurd (none.faults taken.counts.faults.rose)
+recebe_counts names c d m b _ none (not_opened {t} e also taken h) = opened_counts t m b e none.calm h
+recebe_counts names c d m b _ none (cut p also taken h) = absurd (none.calm p refl (since p m h.between b h.opened.fine.faults h.stopped.fault.faults.rose))
+recebe_counts names c d m b s none (report_refused {listed} {name} also h fault taken) =
+    file_counts (IsFaultOf c.files name doc.Report) (length listed + 2) c d s m b none taken fault
+recebe_counts names c d m b _ none (report_no_cabinet also h taken) = absurd (none.faults taken.counts.faults.rose)
+recebe_counts names c d m b _ none (report_no_memory also h taken) = refl
+recebe_counts names c d m b _ none (received {verdicts} also h taken) = refused_counts (refused_count verdicts)
+
+totais_counts : (name : List ℕ) (c d : CabinetTold) (m b : Told) (s : LedgerStatus) → NothingCounted c d s m b → TotaisEnds name c d m b s → tells_of_count s ≡ false
+totais_counts name c d m b s none (total_refused why taken un) = file_counts (IsFaultOf c.files name doc.Tables) 1 c d s m b none taken why
+totais_counts name c d m b _ none (total_no_memory taken un) = refl
+totais_counts name c d m b _ none (total_no_cabinet taken un) = absurd (none.faults taken.counts.faults.rose)
+totais_counts name c d m b _ none (none_opened {t} e also taken h) = opened_counts t m b e none.calm h
+totais_counts name c d m b _ none (no_lines also taken opened) = refl
+totais_counts name c d m b _ none (totals_untold between also taken opened off safe) =
+    absurd (none.calm port.Display refl (since port.Display m between b opened.fine.faults off.faults.rose))
+totais_counts name c d m b _ none (totals_told between also taken opened shown safe) = refl
+
+command_counts : (k : Option Command) (c d : CabinetTold) (m b : Told) (s : LedgerStatus) → NothingCounted c d s m b → CommandEnds k c d m b s → tells_of_count s ≡ false
+command_counts None c d m b s none ends = ap tells_of_count ends.usage
+command_counts (Some (ToBegin tables)) c d m b s none ends = abre_counts tables c d m b s none ends
+command_counts (Some (ToReceive names)) c d m b s none ends = recebe_counts names c d m b s none ends
+command_counts (Some (ToTotal tables)) c d m b s none ends = totais_counts tables c d m b s none ends
+
+pub tells_of_risen_counts : TellsOfRisenCounts
+tells_of_risen_counts words c d m n s failed missing too_long ends =
+    command_counts (command_of words) c d m ends.between s
+    (record { faults = failed.cabinet; missing = missing; too_long = too_long; calm = calm_before s m ends.between n failed.ports ends.told }) ends.command

@@ -1,5 +1,5 @@
 -- However a call of recebe or totais ends, what a power cut leaves keeps the ledger and its offers
-use Rattle.std.proofs.Common.{◌≡◌, ◌≢◌, ◌⊎◌, inl, inr, ℕ, zero, suc, ◌+◌, ◌≤◌, List, [], ◌∷◌, ◌++◌, Option, Some, None, option_map, option_to_list, length, take, drop, refl, sym, ap, subst, ◌∙◌, arith, append_assoc, append-nil}
+use Rattle.std.proofs.Common.{◌≡◌, ◌≢◌, ◌⊎◌, inl, inr, ℕ, zero, suc, ◌+◌, ◌≤◌, List, [], ◌∷◌, ◌++◌, Option, Some, None, IsSomeAnd, option_map, option_to_list, length, take, drop, refl, sym, ap, subst, ◌∙◌, arith, append_assoc, append-nil}
 use Rattle.std.proofs.lemmas.Bool.{cases_lt}
 use Rattle.std.proofs.lemmas.List.{length-append, length-map, length-take-le, take-append-drop, take-append-le, take_all}
 use Rattle.std.specs.List.{concat}
@@ -9,7 +9,7 @@ use Rattle.urna_outside.specs.Flash.{Flashes, IsImage, Op, Show, after, shown_by
 use Rattle.urna_outside.specs.ShownLines.{HasShown, IsCutOff}
 use Rattle.urna_outside.specs.Shows.{AreShows}
 use Rattle.urna_outside.specs.Stop.{AtEachStop, IsLeft, IsStop, Left}
-use Rattle.urna_outside.specs.Told.{Does, Runs, Told}
+use Rattle.urna_outside.specs.Told.{Does, Runs, Told, port_of}
 use Rattle.urna_outside.specs.Traced.{IsTraced}
 use Rattle.urna_outside.specs.declared.device.Dev.{Dev}
 use Rattle.urna_outside.specs.declared.device.Dev.TheVariants as dev
@@ -43,12 +43,14 @@ use Rattle.intake_ledger.specs.declared.ledger.LedgerError.{LedgerError}
 use Rattle.intake_ledger.specs.declared.ledger.LedgerError.TheVariants as ledger
 use Rattle.intake_ledger.proofs.Committing.{stored}
 use Rattle.intake_ledger.proofs.Found.{one_is_held}
-use Rattle.command_parts.specs.Documents.{AreTaken, HasTables, IsListed}
+use Rattle.command_parts.specs.Documents.{AreTaken, HasTables, IsFault as IsFaultOf, IsListed}
 use Rattle.command_parts.specs.FaultLines.{Tells, fault_line}
+use Rattle.command_parts.specs.declared.error.CommandError.{CommandError}
+use Rattle.command_parts.specs.declared.error.Doc.TheVariants as doc
 use Rattle.command_parts.proofs.Once.{same_names, same_tables}
 use Rattle.ledger_commands.specs.Command.{Command, Recebe}
 use Rattle.ledger_commands.specs.Ending.{CommandEnds}
-use Rattle.ledger_commands.specs.Errors.{fault_text, ledger_status, port_status}
+use Rattle.ledger_commands.specs.Errors.{error_of, fault_text, ledger_status, port_status}
 use Rattle.ledger_commands.specs.Headline.{HoldsOffers, IsAfterOffers, KeepOffers, KeepsOffers, LedgerIsKept, OffersAreKept, TakesIn, fault_told, verdicts_begun}
 use Rattle.ledger_commands.specs.Lines.{ledger_lines}
 use Rattle.ledger_commands.specs.Opening.{IsOpened, opening}
@@ -97,6 +99,13 @@ offered_first t l _ _ _ _ (one_more {files} {verdicts} {pieces} {m} {k} {file} {
           (sym (take-append-le j files (file ∷ []) few)) (sym (take-append-le j verdicts (v ∷ []) (omega (arith, verdicts_many, few)))) (sym (take-append-le j pieces (piece ∷ []) (omega (arith, pieces_many, few))))
           (offered_first t l m files verdicts pieces before j)
     ]
+
+-- as many names as files
+taken_many : (files : Option Files) (names : List (List ℕ)) (reports : List File) → AreTaken files names reports → length names ≡ length reports
+taken_many files [] [] taken = refl
+taken_many files [] (report ∷ reports) taken = absurd taken
+taken_many files (name ∷ names) [] taken = absurd taken
+taken_many files (name ∷ names) (report ∷ reports) taken = ap suc (taken_many files names reports taken.1)
 
 taken_first : (files : Option Files) (names : List (List ℕ)) (reports : List File) → AreTaken files names reports → (j : ℕ) → AreTaken files (take j names) (take j reports)
 taken_first files [] [] taken zero = tt
@@ -152,6 +161,20 @@ module _ (files : Option Files) (t : TablesData) (l last : LedgerData) (listed l
 
   full_all : AreFull (opening l ++ pieces)
   full_all = (omega arith, full_pieces t l last are.reports verdicts pieces are.offered)
+
+  -- where the whole text was shown, each verdict was begun
+  pub all_begun : (shown behind : List ℕ) → shown ≡ text_in (opening l ++ pieces) ++ behind → verdicts_begun l pieces (length shown) ≡ length pieces
+  all_begun shown behind is =
+      let lines = opening l ++ pieces in
+      let begun = ap (λ (x : List ℕ). lines_reached (lines_in lines) (length x)) is in
+      let nothing_more = ap (λ (x : List (Piece LedgerData)). lines_reached (lines_in x) (length (text_in lines ++ behind))) (sym (append-nil lines)) in
+      omega (arith, begun, nothing_more, lines_behind lines [] behind full_all)
+
+  -- and where no report is left, they are as many as the listed ones
+  pub all_taken : left ≡ [] → length pieces ≡ length listed
+  all_taken none =
+      let all : listed ≡ are.names = are.all ∙ ap (λ (x : List (List ℕ)). are.names ++ x) none ∙ append-nil are.names in
+      omega (arith, ap (λ (x : List (List ℕ)). length x) all, taken_many files are.names are.reports are.taken, as_many_lines t l last are.reports verdicts pieces are.offered)
 
   lines_few : (n : ℕ) → lines_reached (lines_in (opening l ++ pieces)) n ≤ 1 + length verdicts
   lines_few n =
@@ -342,6 +365,20 @@ module _ (files : Option Files) (t : TablesData) (l : LedgerData) (listed : List
               (so x (HeldAlone (ledgers t) x.internal) holds.internal, so x (HeldAlone (ledgers t) x.external) holds.external);
         }
 
+-- where some reports were refused, or none, no port failed,
+pub not_refused_port : (p : Port) (refused : ℕ) → port_status p ≢ refused_status refused
+not_refused_port port.Internal zero same = absurd (cc)
+not_refused_port port.Internal (suc refused) same = absurd (cc)
+not_refused_port port.External zero same = absurd (cc)
+not_refused_port port.External (suc refused) same = absurd (cc)
+not_refused_port port.Display zero same = absurd (cc)
+not_refused_port port.Display (suc refused) same = absurd (cc)
+
+-- and there is no error
+not_refused_fault : (P : CommandError → Type 0) (s : LedgerStatus) → IsSomeAnd (error_of s) P → (refused : ℕ) → s ≢ refused_status refused
+not_refused_fault P s h zero same = subst (λ (x : LedgerStatus). IsSomeAnd (error_of x) P) same h
+not_refused_fault P s h (suc refused) same = subst (λ (x : LedgerStatus). IsSomeAnd (error_of x) P) same h
+
 -- ---- how the calls end, over flashes that hold the ledger
 
 module _ (t : TablesData) (tables : IsTables t) (l : LedgerData) (start : Flashes) (found : AreFound t l start) (m b n : Told) (ops : List Op) (traced : IsTraced m n start (both_synced ++ ops)) where
@@ -373,17 +410,26 @@ module _ (t : TablesData) (tables : IsTables t) (l : LedgerData) (start : Flashe
       subst (λ (j : LedgerData). AtEachStop (after both_synced start) behind (λ x. HeldByBoth (ledgers t) x.internal x.external j × KeepFrames body_size start x)) (one_ledger k at.0) at.1 in
       subst Kept (behind_is m n start ops traced xs behind does is) (kept behind (silent_in _ behind opens.slots.within) heals)
 
-  -- the ledger was not opened: over these flashes a flash failed
+  -- the ledger was not opened: over these flashes it was a flash that failed
+  failed_flash : (e : LedgerError) → FailsToOpen t m b e → Tells (fault_text (ledger_status e)) b n → (d : Dev) × (e ≡ ledger.Flash d)
+  failed_flash ledger.Memory un tells = absurd (untouched t l m n start ops traced b None un tells)
+  failed_flash (ledger.Flash d) fails same = (d, refl)
+  failed_flash (ledger.Foreign dev.Internal) fails tells = absurd (fails.1 start traced.flashes (found.framed dev.Internal))
+  failed_flash (ledger.Foreign dev.External) fails tells = absurd ((fails.1 start traced.flashes).1 (found.framed dev.External))
+  failed_flash ledger.NoImage fails tells =
+      absurd (hold_or_none (ledgers t) (bodies_of_both body_size start.internal.content start.external.content) l (fails.1 start traced.flashes).none found.held)
+  failed_flash (ledger.Busy d) fails tells = absurd fails
+
+  kept_by_flash : (Kept : List Op → Type 0) → ((xs : List Op) → Silent xs → AtEachStop (after both_synced start) xs Heals → Kept xs)
+      → (d : Dev) → FailsToOpen t m b (ledger.Flash d) → Tells (fault_text (ledger_status (ledger.Flash d))) b n → Kept ops
+  kept_by_flash Kept kept dev.Internal fails same = flash_failed Kept kept (subst (λ (y : Told). Runs (FromSyncs (λ xs. (xs ≡ []) ⊎ ((k : LedgerData) × Opens t k m xs))) m y) (sym same) fails.1)
+  kept_by_flash Kept kept dev.External fails same = flash_failed Kept kept (subst (λ (y : Told). Runs (FromSyncs (λ xs. (xs ≡ []) ⊎ ((k : LedgerData) × Opens t k m xs))) m y) (sym same) fails.1)
+
   not_opened_kept : (Kept : List Op → Type 0) → ((xs : List Op) → Silent xs → AtEachStop (after both_synced start) xs Heals → Kept xs)
       → (e : LedgerError) → FailsToOpen t m b e → Tells (fault_text (ledger_status e)) b n → Kept ops
-  not_opened_kept Kept kept ledger.Memory un tells = absurd (untouched t l m n start ops traced b None un tells)
-  not_opened_kept Kept kept (ledger.Flash dev.Internal) fails same = flash_failed Kept kept (subst (λ (y : Told). Runs (FromSyncs (λ xs. (xs ≡ []) ⊎ ((k : LedgerData) × Opens t k m xs))) m y) (sym same) fails.1)
-  not_opened_kept Kept kept (ledger.Flash dev.External) fails same = flash_failed Kept kept (subst (λ (y : Told). Runs (FromSyncs (λ xs. (xs ≡ []) ⊎ ((k : LedgerData) × Opens t k m xs))) m y) (sym same) fails.1)
-  not_opened_kept Kept kept (ledger.Foreign dev.Internal) fails tells = absurd (fails.1 start traced.flashes (found.framed dev.Internal))
-  not_opened_kept Kept kept (ledger.Foreign dev.External) fails tells = absurd ((fails.1 start traced.flashes).1 (found.framed dev.External))
-  not_opened_kept Kept kept ledger.NoImage fails tells =
-      absurd (hold_or_none (ledgers t) (bodies_of_both body_size start.internal.content start.external.content) l (fails.1 start traced.flashes).none found.held)
-  not_opened_kept Kept kept (ledger.Busy d) fails tells = absurd fails
+  not_opened_kept Kept kept e fails tells =
+      let (d, is) = failed_flash e fails tells in
+      kept_by_flash Kept kept d (subst (FailsToOpen t m b) is fails) (subst (λ (x : LedgerError). Tells (fault_text (ledger_status x)) b n) is tells)
 
   -- ---- recebe
 
@@ -391,10 +437,10 @@ module _ (t : TablesData) (tables : IsTables t) (l : LedgerData) (start : Flashe
     abbrev AreKept : LedgerStatus → LedgerData → Type 0
     AreKept answer k = TakesIn files t k listed answer start ops
 
-    -- where all was put out, each verdict was told
-    all_told : (a : Told) (k : LedgerData) (pieces : List (Piece LedgerData)) → IsOpened t k m a → HasPut (kept_ledger t) k (opening k ++ pieces) a b → AreFull (opening k ++ pieces)
-        → (text : Option (List ℕ)) → Tells text b n → verdicts_begun k pieces (length (shown_by ops)) ≡ length pieces
-    all_told a k pieces opened put full text tells =
+    -- where all was put out, the text was shown
+    all_told : (a : Told) (k : LedgerData) (pieces : List (Piece LedgerData)) → IsOpened t k m a → HasPut (kept_ledger t) k (opening k ++ pieces) a b
+        → (text : Option (List ℕ)) → Tells text b n → (behind : List ℕ) × (shown_by ops ≡ text_in (opening k ++ pieces) ++ behind)
+    all_told a k pieces opened put text tells =
         let all = opening k ++ pieces in
         let heal = opened.ran.2.0 in
         let fault = tells_does text b n tells in
@@ -404,18 +450,18 @@ module _ (t : TablesData) (tables : IsTables t) (l : LedgerData) (start : Flashe
         (does-append opened.ran.0 later m a n opened.ran.1 (does-append put.ops fault.0 a b n put.does fault.1))
         (ap (λ (x : List Op). x ++ later) opened.ran.2.1 ∙ append_assoc both_synced heal later) in
         let silent : shown_by heal ≡ [] = (silent_in _ heal opened.ran.2.2.slots.within heal (stop_whole heal)).1 in
-        let shown : shown_by ops ≡ text_in all ++ shown_by fault.0 =
-        ap shown_by (sym row) ∙ shown_by-append heal later ∙ ap (λ (x : List ℕ). x ++ shown_by later) silent ∙ shown_by-append put.ops fault.0
-        ∙ ap (λ (x : List ℕ). x ++ shown_by fault.0) (text_of_lines put.ops (lines_in all) put.shown) in
-        let begun = ap (λ (x : List ℕ). lines_reached (lines_in all) (length x)) shown in
-        let nothing_more = ap (λ (x : List (Piece LedgerData)). lines_reached (lines_in x) (length (text_in all ++ shown_by fault.0))) (sym (append-nil all)) in
-        omega (arith, begun, nothing_more, lines_behind all [] (shown_by fault.0) full)
+        (
+          shown_by fault.0,
+          ap shown_by (sym row) ∙ shown_by-append heal later ∙ ap (λ (x : List ℕ). x ++ shown_by later) silent ∙ shown_by-append put.ops fault.0
+              ∙ ap (λ (x : List ℕ). x ++ shown_by fault.0) (text_of_lines put.ops (lines_in all) put.shown),
+        )
 
     found_first : (k : LedgerData) (a : Told) → IsOpened t k m a → k ≡ l
     found_first k a opened = one_ledger k (opened.ran.2.2.stops start traced.flashes).0
 
-    received_kept : (answer : LedgerStatus) (left : List (List ℕ)) (verdicts : List Verdict) → HasReceived files t listed left verdicts m b → Tells (fault_text answer) b n → AreKept answer l
-    received_kept answer left verdicts h tells =
+    received_kept : (answer : LedgerStatus) (left : List (List ℕ)) (verdicts : List Verdict) → HasReceived files t listed left verdicts m b → Tells (fault_text answer) b n
+        → ((refused : ℕ) → answer ≡ refused_status refused → left ≡ []) → AreKept answer l
+    received_kept answer left verdicts h tells all_read =
         let all = opening h.first ++ h.pieces in
         let lines = option_to_list (option_map fault_line (fault_text answer)) in
         let full = full_all files t h.first h.last listed left verdicts h.pieces h.are in
@@ -427,7 +473,8 @@ module _ (t : TablesData) (tables : IsTables t) (l : LedgerData) (start : Flashe
           pieces = h.pieces;
           last = h.last;
           are = h.are;
-          told = λ none. all_told h.between h.first h.pieces h.opened h.put full (fault_text answer) tells;
+          told = λ none. all_told h.between h.first h.pieces h.opened h.put (fault_text answer) tells;
+          all = all_read;
           kept = keeps files t h.first listed answer start left verdicts h.pieces h.last h.are lines refl ops (split t h.first m n start ops traced h.between (all ++ quiet lines) h.opened played);
         })
 
@@ -445,18 +492,22 @@ module _ (t : TablesData) (tables : IsTables t) (l : LedgerData) (start : Flashe
           last = h.last;
           are = h.are;
           told = λ none. absurd (none p refl);
+          all = λ refused same. absurd (not_refused_port p refused same);
           kept = keeps files t h.first listed (port_status p) start left verdicts h.pieces h.last h.are lines refl ops (split t h.first m n start ops traced h.between (all ++ quiet lines) h.opened played);
         })
 
     unopened_kept : (e : LedgerError) → FailsToOpen t m b e → Tells (fault_text (ledger_status e)) b n → AreKept (ledger_status e) l
     unopened_kept e fails tells =
+        let (d, is) = failed_flash e fails tells in
+        let by_port : ledger_status e ≡ port_status (port_of d) = ap ledger_status is in
         record {
           unread = listed;
           verdicts = [];
           pieces = [];
           last = l;
           are = none_taken files t l listed (ledger_status e) start;
-          told = λ none. let few = few_reached (lines_in (opening l ++ [])) (length (shown_by ops)) in omega (arith, few);
+          told = λ none. absurd (none (port_of d) by_port);
+          all = λ refused same. absurd (not_refused_port (port_of d) refused (sym by_port ∙ same));
           kept = not_opened_kept (λ xs. KeepOffers files t l listed [] (ledger_status e) start xs) (only_opened files t l listed (ledger_status e) start) e fails tells;
         }
 
@@ -537,10 +588,10 @@ module _ (files : Files) (c : CabinetTold) (there : c.files ≡ Some files) (t :
     Kept answer = AreKept t tables l start found m b n ops traced (Some files) listed answer l
 
     held_kept : (answer : LedgerStatus) (u : TablesData) (others left : List (List ℕ)) (verdicts : List Verdict) → IsListed c.files names.tables names.list u others
-        → HasReceived c.files u others left verdicts m b → Tells (fault_text answer) b n → Kept answer
-    held_kept answer u others left verdicts also h tells =
+        → HasReceived c.files u others left verdicts m b → Tells (fault_text answer) b n → ((refused : ℕ) → answer ≡ refused_status refused → left ≡ []) → Kept answer
+    held_kept answer u others left verdicts also h tells all_read =
         received_kept t tables l start found m b n ops traced (Some files) listed answer left verdicts
-        (of_listed names listed u others (λ x y. HasReceived (Some files) x y left verdicts m b) given also (subst (λ (o : Option Files). HasReceived o u others left verdicts m b) there h)) tells
+        (of_listed names listed u others (λ x y. HasReceived (Some files) x y left verdicts m b) given also (subst (λ (o : Option Files). HasReceived o u others left verdicts m b) there h)) tells all_read
 
     recebe_kept : (answer : LedgerStatus) → RecebeEnds names c d m b answer → Tells (fault_text answer) b n → Kept answer
     recebe_kept answer (list_refused why taken un) tells = absurd (untouched t l m n start ops traced b (fault_text answer) un tells)
@@ -551,10 +602,14 @@ module _ (files : Files) (c : CabinetTold) (there : c.files ≡ Some files) (t :
     recebe_kept _ (cut {t = u} {listed = others} {left} {verdicts} p also taken h) tells =
         stopped_kept t tables l start found m b n ops traced (Some files) listed p left verdicts
         (of_listed names listed u others (λ x y. HasReceivedTo (Some files) x y left verdicts p m b) given also (subst (λ (o : Option Files). HasReceivedTo o u others left verdicts p m b) there h)) tells
-    recebe_kept answer (report_refused {t = u} {listed = others} {left} {name} {verdicts} also h fault taken) tells = held_kept answer u others (name ∷ left) verdicts also h tells
-    recebe_kept _ (report_no_cabinet {t = u} {listed = others} {left} {name} {verdicts} also h taken) tells = held_kept status.Cabinet u others (name ∷ left) verdicts also h tells
-    recebe_kept _ (report_no_memory {t = u} {listed = others} {left} {name} {verdicts} also h taken) tells = held_kept status.Memory u others (name ∷ left) verdicts also h tells
-    recebe_kept _ (received {t = u} {listed = others} {verdicts} also h taken) tells = held_kept (refused_status (refused_count verdicts)) u others [] verdicts also h tells
+    recebe_kept answer (report_refused {t = u} {listed = others} {left} {name} {verdicts} also h fault taken) tells =
+        held_kept answer u others (name ∷ left) verdicts also h tells (λ refused same. absurd (not_refused_fault (IsFaultOf c.files name doc.Report) answer fault refused same))
+    recebe_kept _ (report_no_cabinet {t = u} {listed = others} {left} {name} {verdicts} also h taken) tells =
+        held_kept status.Cabinet u others (name ∷ left) verdicts also h tells (λ refused same. absurd (not_refused_fault (λ e. Unit {0}) status.Cabinet tt refused same))
+    recebe_kept _ (report_no_memory {t = u} {listed = others} {left} {name} {verdicts} also h taken) tells =
+        held_kept status.Memory u others (name ∷ left) verdicts also h tells (λ refused same. absurd (not_refused_fault (λ e. Unit {0}) status.Memory tt refused same))
+    recebe_kept _ (received {t = u} {listed = others} {verdicts} also h taken) tells =
+        held_kept (refused_status (refused_count verdicts)) u others [] verdicts also h tells (λ refused same. refl)
 
   module _ (name : List ℕ) (given : HasTables (Some files) name t) (d : CabinetTold) (l : LedgerData) (start : Flashes) (found : AreFound t l start)
       (m b n : Told) (ops : List Op) (traced : IsTraced m n start (both_synced ++ ops)) where

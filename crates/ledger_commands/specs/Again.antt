@@ -10,10 +10,12 @@ use Rattle.election_tables.specs.TablesData.{IsTables, TablesData}
 use Rattle.election_tables.specs.declared.tables.panels.Panel.{Panel}
 use Rattle.poll_report.specs.declared.report.Report.{Report}
 use Rattle.section_intake.specs.Accepted.{AreOffered, File}
-use Rattle.section_intake.specs.Sums.{AreReportsOf}
+use Rattle.section_intake.specs.Laws.{AreShort}
+use Rattle.section_intake.specs.Sums.{AreReportsOf, nominal_sum}
 use Rattle.section_intake.specs.declared.verdict.Verdict.{Verdict}
+use Rattle.totals.specs.Contest.{contest_for, entries_in}
 use Rattle.totals.specs.Lines.{section_line}
-use Rattle.totals.specs.Totals.{AreTotals}
+use Rattle.totals.specs.Totals.{AreTotals, TellResult}
 use Rattle.flash_store.specs.Held.{KeepFrames}
 use Rattle.flash_store.specs.Pieces.{Piece, text_in}
 use Rattle.intake_ledger.specs.Kept.{AreDevices, AreFound}
@@ -29,7 +31,7 @@ use Rattle.ledger_commands.specs.Errors.{port_status}
 use Rattle.ledger_commands.specs.Headline.{IsAfterOffers, fault_told, verdicts_begun}
 use Rattle.ledger_commands.specs.Lines.{panel_lines}
 use Rattle.ledger_commands.specs.Opening.{opening}
-use Rattle.ledger_commands.specs.Recebe.{AreTakenIn}
+use Rattle.ledger_commands.specs.Recebe.{AreTakenIn, refused_status}
 use Rattle.ledger_commands.specs.declared.status.LedgerStatus.{LedgerStatus}
 use Rattle.ledger_commands.specs.declared.status.LedgerStatus.TheVariants as status
 
@@ -64,7 +66,8 @@ pub record IsReceiptOf (t : TablesData) (x : Call) (listed : List (List ℕ)) : 
   pub given : IsListed (Some x.files) names.tables names.list t listed
 
 -- A recebe leads from the ledger l to the one behind the first of the listed reports: as many as verdicts the display had begun to show, or
--- where the call was interrupted one more. What was shown is a front of the opening line, the verdicts and the line of a fault.
+-- where the call was interrupted one more; at Done and where some were refused all of them. What was shown is a front of the opening line, the
+-- verdicts and the line of a fault.
 pub record ReceivesOn (t : TablesData) (x : Call) (listed : List (List ℕ)) (l m : LedgerData) : Type 0 where
   pub unread : List (List ℕ)
   pub verdicts : List Verdict
@@ -77,6 +80,8 @@ pub record ReceivesOn (t : TablesData) (x : Call) (listed : List (List ℕ)) (l 
   pub number : ℕ
   pub after : IsAfterOffers (Some x.files) t l listed number m
   pub told : IsToldOrOneMore port_status x.status (verdicts_begun l pieces (length x.shown)) number
+  pub ended : (s : LedgerStatus) → x.status ≡ Some s → answer ≡ s
+  pub all : (refused : ℕ) → x.status ≡ Some (refused_status refused) → number ≡ length listed
 
 -- So each call leads on: a recebe that showed something does so; one that showed nothing, and any other call leaves the ledger as it is.
 pub data LeadsTo (t : TablesData) (x : Call) : LedgerData → LedgerData → Type 0 where
@@ -148,14 +153,18 @@ BeginMakesReady =
 -- first.
 abbrev pub LedHasSums : Type 0
 LedHasSums =
-    (t : TablesData) (calls : List Call) (l : LedgerData) (verdicts : List Verdict) (accepted : List File) → IsTables t
-    → (led : LeadTo t (empty_ledger t) calls l) → AreOffered t (reports_led led) verdicts accepted → HasSumsOf t accepted l
+    (t : TablesData) (calls : List Call) (l : LedgerData) → IsTables t → (led : LeadTo t (empty_ledger t) calls l)
+    → AreShort (reports_led led)
+    × ((verdicts : List Verdict) (accepted : List File) → AreOffered t (reports_led led) verdicts accepted → HasSumsOf t accepted l)
 
--- These lines tell of these panels, the first of which has this number: the lines of the ledger, and behind those of each panel others.
-abbrev pub TellAlso : TablesData → LedgerData → ℕ → List Panel → List (List ℕ) → Type 0
-TellAlso t l first [] lines = lines ≡ []
-TellAlso t l first (p ∷ panels) lines =
-    (result : List (List ℕ)) × (others : List (List ℕ)) × TellAlso t l (first + 1) panels others × (lines ≡ (panel_lines t l first p ++ result) ++ others)
+-- These lines tell of these panels, the first of which has this number: the lines of the ledger, and behind those of each panel what comes of
+-- it by law, of these reports.
+abbrev pub TellAlso : TablesData → List Report → LedgerData → ℕ → List Panel → List (List ℕ) → Type 0
+TellAlso t reports l first [] lines = lines ≡ []
+TellAlso t reports l first (p ∷ panels) lines =
+    (result : List (List ℕ)) × (others : List (List ℕ))
+    × TellResult p.office.kind t (contest_for t reports first p) (entries_in reports first p) (λ number. nominal_sum first number reports) result
+    × TellAlso t reports l (first + 1) panels others × (lines ≡ (panel_lines t l first p ++ result) ++ others)
 
 -- The lines that tell the totals over the reports of these accepted files are those that tell the ledger, and behind those of each office what
 -- comes of it by law.
@@ -163,4 +172,4 @@ abbrev pub TotalsTellLedger : Type 0
 TotalsTellLedger =
     (t : TablesData) (calls : List Call) (l : LedgerData) (verdicts : List Verdict) (accepted : List File) (reports : List Report) (lines : List (List ℕ)) → IsTables t
     → (led : LeadTo t (empty_ledger t) calls l) → AreOffered t (reports_led led) verdicts accepted → AreReportsOf accepted reports → AreTotals t reports lines
-    → (panels : List (List ℕ)) × TellAlso t l 0 t.panels panels × (lines ≡ section_line (accepted_in l) (length t.sections) ∷ panels)
+    → (panels : List (List ℕ)) × TellAlso t reports l 0 t.panels panels × (lines ≡ section_line (accepted_in l) (length t.sections) ∷ panels)

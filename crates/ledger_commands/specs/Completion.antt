@@ -1,8 +1,8 @@
 -- Calls that have what they need and meet no fault: they do all their steps, or memory was wanted
-use Rattle.std.specs.Prelude.{◌≡◌, ◌⊎◌, ℕ, List, Option, Some}
+use Rattle.std.specs.Prelude.{◌≡◌, ◌⊎◌, ℕ, Bool, true, false, List, Option, Some}
 use Rattle.urna_outside.specs.Cabinet.{CabinetTold, Files}
 use Rattle.urna_outside.specs.Flash.{Flashes}
-use Rattle.urna_outside.specs.Told.{Told}
+use Rattle.urna_outside.specs.Told.{Rose, Told}
 use Rattle.election_tables.specs.TablesData.{TablesData}
 use Rattle.section_intake.specs.Accepted.{File}
 use Rattle.section_intake.specs.declared.verdict.Verdict.{Verdict}
@@ -78,3 +78,29 @@ abbrev pub CompletesWhereItCan : Type 0
 CompletesWhereItCan = (words : List (List ℕ)) (command : Command) (c d : CabinetTold) (m n : Told) (s : LedgerStatus) (files : Files) (flashes : Flashes)
     → command_of words ≡ Some command → c.files ≡ Some files → m.flashes ≡ Some flashes → NothingFailed c d m n → Ends words c d m n s
     → CanDo command files flashes → Completes command files flashes s
+
+-- ---- over any cabinet and machine
+
+-- the status tells of a fault of the cabinet or of a port, of a name that was not found, or of a file found too long
+abbrev pub tells_of_count : LedgerStatus → Bool
+tells_of_count status.Cabinet = true
+tells_of_count (status.Missing d) = true
+tells_of_count (status.TooLong d) = true
+tells_of_count status.InternalFlash = true
+tells_of_count status.ExternalFlash = true
+tells_of_count status.Display = true
+tells_of_count status.Done = false
+tells_of_count status.Memory = false
+tells_of_count status.Usage = false
+tells_of_count status.TablesNotToml = false
+tells_of_count (status.TablesRule k) = false
+tells_of_count (status.Line k) = false
+tells_of_count (status.SomeRefused k) = false
+tells_of_count (status.Foreign d) = false
+tells_of_count status.NoImage = false
+tells_of_count (status.Busy d) = false
+
+-- Where no count rose in a call, also not that of names not found or of files found too long, the status tells of none.
+abbrev pub TellsOfRisenCounts : Type 0
+TellsOfRisenCounts = (words : List (List ℕ)) (c d : CabinetTold) (m n : Told) (s : LedgerStatus) → NothingFailed c d m n
+    → ¬ Rose c.tally.missing d.tally.missing → ¬ Rose c.tally.too_long d.tally.too_long → Ends words c d m n s → tells_of_count s ≡ false

@@ -1,4 +1,4 @@
--- The headline: whatever moment the power goes in a call, each report whose line began to be shown is in the ledger, and at most one more
+-- The headline: whatever moment the power goes in a call, the ledger is behind each report whose line began to be shown, and behind at most one more
 use Rattle.std.specs.Prelude.{◌≡◌, ◌≢◌, ◌⊎◌, ℕ, ◌+◌, ◌-◌, ◌≤◌, List, [], ◌++◌, Option, Some, length, option_map}
 use Rattle.std.specs.List.{concat}
 use Rattle.std.specs.Option.{option_to_list}
@@ -23,7 +23,7 @@ use Rattle.ledger_commands.specs.Command.{Recebe, ToReceive, ToTotal, command_of
 use Rattle.ledger_commands.specs.Ending.{Ends}
 use Rattle.ledger_commands.specs.Errors.{fault_text, port_status}
 use Rattle.ledger_commands.specs.Opening.{opening}
-use Rattle.ledger_commands.specs.Recebe.{AreTakenIn}
+use Rattle.ledger_commands.specs.Recebe.{AreTakenIn, refused_status}
 use Rattle.ledger_commands.specs.declared.status.LedgerStatus.{LedgerStatus}
 
 -- ---- what is left of the offers
@@ -40,8 +40,8 @@ pub record IsAfterOffers (files : Option Files) (t : TablesData) (l : LedgerData
 abbrev pub verdicts_begun : LedgerData → List (Piece LedgerData) → ℕ → ℕ
 verdicts_begun l pieces n = lines_reached (lines_in (opening l ++ pieces)) n - 1
 
--- What is held is the ledger behind the first of the listed reports, from l on: as many as verdicts are begun by the first n bytes of a call
--- that puts out these pieces, or one more of its reports.
+-- What is held is the ledger behind the first `reached` of the listed reports, from l on. So many verdicts are begun by the first n bytes of a
+-- call that puts out these pieces, or one fewer; and there are no more than the pieces tell.
 pub record HoldsOffers (files : Option Files) (t : TablesData) (l : LedgerData) (listed : List (List ℕ)) (pieces : List (Piece LedgerData)) (n : ℕ) (held : LedgerData → Type 0)
     : Type 0 where
   pub ledger : LedgerData
@@ -86,15 +86,16 @@ pub record RecebeTraced (words : List (List ℕ)) (names : Recebe) (c d : Cabine
   pub given : IsListed (Some files) names.tables names.list t listed
   pub traced : IsTraced m n start (both_synced ++ ops)
 
--- The first of the listed reports were taken in over the ledger l and put out; where no port failed, each of them was told. At each stop
--- behind the two opening syncs the offers are kept.
+-- The first of the listed reports were offered over the ledger l, and at Done and where some were refused all of them. Where no port failed,
+-- their text was put out whole, and perhaps the line of a fault behind it. At each stop behind the two opening syncs the offers are kept.
 pub record TakesIn (files : Option Files) (t : TablesData) (l : LedgerData) (listed : List (List ℕ)) (answer : LedgerStatus) (start : Flashes) (ops : List Op) : Type 0 where
   pub unread : List (List ℕ)
   pub verdicts : List Verdict
   pub pieces : List (Piece LedgerData)
   pub last : LedgerData
   pub are : AreTakenIn files t l listed unread verdicts pieces last
-  pub told : ((p : Port) → answer ≢ port_status p) → verdicts_begun l pieces (length (shown_by ops)) ≡ length pieces
+  pub told : ((p : Port) → answer ≢ port_status p) → (behind : List ℕ) × (shown_by ops ≡ text_in (opening l ++ pieces) ++ behind)
+  pub all : (refused : ℕ) → answer ≡ refused_status refused → unread ≡ []
   pub kept : KeepOffers files t l listed pieces answer start ops
 
 -- However a call of recebe ends over flashes that hold the ledger l, it takes reports in, and keeps them wherever the power goes.
