@@ -1,6 +1,6 @@
 """The seat law of docs/RULES.md, "The seats", with fractions: what comes of a contest that is told as the rows of crates/seat_tests tell it.
 
-`other_rows` gives the rows whose outcome is another than the law's, and `other_certificates` those whose certificate or substitutes are.
+`other_rows` gives the rows whose outcome is another than the law's.
 """
 
 import re
@@ -8,7 +8,6 @@ from fractions import Fraction
 
 ROW = re.compile(r'\(\s*(?://[^\n]*\n\s*)?"([^"]*)",\s*"([^"]*)",\s*"([^"]*)",\s*\)')
 TABLE = re.compile(r'\(\s*"([^"]* seats, [^"]*)",\s*"([^"]*)",?\s*\)')
-CERTIFIED = re.compile(r'\(\s*"([^"]* seats, [^"]*)",\s*"(CERT [^"]*)",\s*&\[')
 BIRTH = "19600101"
 
 
@@ -61,17 +60,25 @@ def first_phase(seats, parties):
     return quotient
 
 
+def next_round(parties, quotient):
+    """The phase of the next round, and the parties that compete in it."""
+    compete = [p for p in parties if p.votes >= Fraction(4 * quotient, 5) and p.has_left(Fraction(quotient, 5))]
+    return (2, compete) if compete else (3, [p for p in parties if p.votes >= 1 and p.has_left(0)])
+
+
+def told_averages(compete):
+    return [f"{p.number}:{p.votes}/{p.seats + 1}" for p in compete]
+
+
 def give_rest(seats, parties, quotient):
     """Gives the seats that remain. Of each the phase, the number of the party and the averages that compete come back."""
     rounds = []
     for _ in range(seats - sum(party.seats for party in parties)):
-        phase, compete = 2, [p for p in parties if p.votes >= Fraction(4 * quotient, 5) and p.has_left(Fraction(quotient, 5))]
-        if not compete:
-            phase, compete = 3, [p for p in parties if p.votes >= 1 and p.has_left(0)]
+        phase, compete = next_round(parties, quotient)
         if not compete:
             break
         best = min(compete, key=Party.rank)
-        rounds.append((phase, best.number, [f"{p.number}:{p.votes}/{p.seats + 1}" for p in compete]))
+        rounds.append((phase, best.number, told_averages(compete)))
         best.seats += 1
     return rounds
 
@@ -103,44 +110,6 @@ def averages(contest):
             for divisor in range(party.seats + 1, min(most, party.seats + left) + 1):
                 table.append((-Fraction(party.votes, divisor), -party.votes, party.number, divisor))
     return "".join(f" {-votes}/{divisor}>{number}" for _, votes, number, divisor in sorted(table))
-
-
-def certificate(contest):
-    """The text of the certificate, of the office 13."""
-    seats, parties = contest_of(contest)
-    quotient = first_phase(seats, parties)
-    lines = ["CERT U1", "CARGO 13", f"QUOCIENTE {quotient}"]
-    for p in parties:
-        able = sum(-nominal >= Fraction(quotient, 10) for nominal, _, _ in p.candidates)
-        lines.append(f"PARTIDO {p.number} QP {p.votes // quotient} APTOS {able} VAGAS {p.seats}")
-    for place, (phase, number, compete) in enumerate(give_rest(seats, parties, quotient), 1):
-        lines.append(" ".join([f"RODADA {place} FASE {phase} VENCE {number}", *compete]))
-    lines += [f"VAZIAS {seats - sum(p.seats for p in parties)}", "FIM"]
-    return "".join(line + "\n" for line in lines)
-
-
-def substitutes(contest):
-    """The substitutes of each party with a seat, each as party, rank and number."""
-    seats, parties = contest_of(contest)
-    give_rest(seats, parties, first_phase(seats, parties))
-    told = ((p.number, rank, candidate) for p in parties if p.seats for rank, (_, _, candidate) in enumerate(p.candidates[p.seats :], 1))
-    return "".join(f" {number} {rank} {candidate}" for number, rank, candidate in told)
-
-
-def other_certificates(text):
-    text = re.sub(r"\\\n\s*", "", text)
-    rows = CERTIFIED.findall(text)
-    if not rows:
-        yield "no row of certificates is found"
-    for contest, told in rows:
-        if certificate(contest) != told.replace("\\n", "\n"):
-            yield f"{contest!r}: the certificate is {certificate(contest)!r}"
-    lists = TABLE.findall(text.split("SUBSTITUTES", 1)[1])
-    if not lists:
-        yield "no row of substitutes is found"
-    for contest, told in lists:
-        if substitutes(contest) != told:
-            yield f"{contest!r}: the substitutes are {substitutes(contest)!r}"
 
 
 def other_rows(text):

@@ -1,5 +1,5 @@
 -- The sums of a ledger behind calls, and those that the totals tell of the same reports
-use Rattle.std.proofs.Common.{◌≡◌, inl, inr, ℕ, zero, suc, ◌+◌, ◌<◌, ◌≤◌, ◌^◌, Bool, true, false, not, cond, ◌==◌, ◌&&◌, ◌||◌, List, [], ◌∷◌, ◌++◌, length, map, get_or, slice_get, unwrap_or, Option, Some, None, refl, sym, ap, subst, ◌∙◌, arith, append_assoc, append-nil, length-append}
+use Rattle.std.proofs.Common.{◌≡◌, inl, inr, ℕ, zero, suc, ◌+◌, ◌<◌, ◌≤◌, Bool, true, false, not, cond, ◌==◌, ◌&&◌, ◌||◌, List, [], ◌∷◌, ◌++◌, length, map, get_or, slice_get, unwrap_or, Option, Some, None, refl, sym, ap, subst, ◌∙◌, arith, append_assoc, append-nil, length-append}
 use Rattle.std.specs.Prelude.{nat_eq, slice_index}
 use Rattle.std.specs.List.{AllByRecursion, flat_map, list_any, position, position_or_len, sum_by}
 use Rattle.std.specs.Option.{option_map_or}
@@ -22,7 +22,7 @@ use Rattle.vote_kinds.specs.declared.choice.Choice.TheVariants as choice
 use Rattle.vote_kinds.proofs.LineChoices.{choice_is_one}
 use Rattle.vote_kinds.proofs.Lookups.{line_found}
 use Rattle.vote_record.proofs.Bags.{same_true}
-use Rattle.section_intake.specs.Accepted.{AreOffered, File}
+use Rattle.section_intake.specs.Accepted.{File}
 use Rattle.section_intake.specs.Fits.{Fits}
 use Rattle.section_intake.specs.Laws.{AreShort}
 use Rattle.section_intake.specs.Sums.{all_nominal, all_party, blank_sum, nominal_sum, party_sum}

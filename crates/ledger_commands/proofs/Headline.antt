@@ -449,8 +449,7 @@ module _ (t : TablesData) (tables : IsTables t) (l : LedgerData) (start : Flashe
         behind_is m n start ops traced (opened.ran.0 ++ later) (heal ++ later)
         (does-append opened.ran.0 later m a n opened.ran.1 (does-append put.ops fault.0 a b n put.does fault.1))
         (ap (λ (x : List Op). x ++ later) opened.ran.2.1 ∙ append_assoc both_synced heal later) in
-        let silent : shown_by heal ≡ [] = (silent_in _ heal opened.ran.2.2.slots.within heal (stop_whole heal)).1 in
-        (
+        let silent : shown_by heal ≡ [] = (silent_in _ heal opened.ran.2.2.slots.within heal (stop_whole heal)).1 in (
           shown_by fault.0,
           ap shown_by (sym row) ∙ shown_by-append heal later ∙ ap (λ (x : List ℕ). x ++ shown_by later) silent ∙ shown_by-append put.ops fault.0
               ∙ ap (λ (x : List ℕ). x ++ shown_by fault.0) (text_of_lines put.ops (lines_in all) put.shown),

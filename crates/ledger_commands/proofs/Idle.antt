@@ -12,7 +12,7 @@ use Rattle.election_tables.specs.TablesData.{IsTables, TablesData}
 use Rattle.gate_slot.specs.Slot.{header_size}
 use Rattle.flash_store.specs.Syncs.{IsFrontOfSyncs, IsUntouched, both_synced}
 use Rattle.intake_ledger.specs.Body.{StandsFor}
-use Rattle.intake_ledger.specs.Calls.{FailsToFormat, FailsToOpen, Loads}
+use Rattle.intake_ledger.specs.Calls.{FailsToFormat, FailsToOpen}
 use Rattle.intake_ledger.specs.Header.{device_byte, header, header_zeros, magic}
 use Rattle.intake_ledger.specs.Kept.{AreFound, HasFrameOf, IsBegun, IsInUse, ledgers}
 use Rattle.intake_ledger.specs.Ledger.{LedgerData, accepted_in, panel_choices}

@@ -19,7 +19,8 @@ use Rattle.seat_certificate.specs.declared.certificate.Certificate.{Certificate}
 use Rattle.seat_certificate.specs.declared.certificate.FirstLine.{FirstLine}
 use Rattle.seat_certificate.specs.declared.certificate.Round.{Round}
 use Rattle.seat_certificate.specs.Certificate.{EachIsLawful, IsLawful, award_in, awards_in, competing, first_line, first_lines}
-use Rattle.seat_certificate.specs.Valid.{HasQuotient, IsFirstWrongLine, IsFirstWrongRound, TakesSeatOf, Unbeaten}
+use Rattle.seat_certificate.specs.Blocs.{TakesSeatOf, Unbeaten}
+use Rattle.seat_certificate.specs.Valid.{HasQuotient, IsFirstWrongLine, IsFirstWrongRound}
 use Rattle.seat_certificate.proofs.Outcomes.{first-sum}
 use Rattle.seat_certificate.proofs.Lawful.{takes_from, takes_to}
 use Rattle.seat_certificate.proofs.Members.{in_front, slice_get_some, some_same}

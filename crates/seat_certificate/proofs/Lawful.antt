@@ -11,7 +11,7 @@ use Rattle.seat_remainders.proofs.Awarded.{moved_on}
 use Rattle.seat_remainders.proofs.Lists.{all_of_members, of_member}
 use Rattle.seat_certificate.specs.declared.certificate.Round.{Round}
 use Rattle.seat_certificate.specs.Certificate.{IsLawful, award_in, awards_in, competing}
-use Rattle.seat_certificate.specs.Valid.{TakesSeatOf, Unbeaten}
+use Rattle.seat_certificate.specs.Blocs.{TakesSeatOf, Unbeaten}
 use Rattle.seat_certificate.proofs.Members.{contains_filter, contains_map, filter_member, map_member}
 
 -- no average that competes comes before this one exactly where no eligible bloc beats its bloc

@@ -8,7 +8,7 @@ use Rattle.seat_remainders.specs.Computed.{awards_over, seats_with}
 use Rattle.seat_certificate.specs.declared.certificate.Certificate.{Certificate}
 use Rattle.seat_certificate.specs.declared.certificate.FirstLine.{FirstLine}
 use Rattle.seat_certificate.specs.declared.substitute.Substitute.{Substitute}
-use Rattle.seat_certificate.specs.Certificate.{competing, first_lines}
+use Rattle.seat_certificate.specs.Certificate.{certificate_of, competing, first_lines}
 use Rattle.seat_certificate.specs.Substitutes.{substitutes_in}
 
 abbrev candidate : ℕ → ℕ → Entry
@@ -50,6 +50,9 @@ its_first_round = refl
 
 its_second_round : competing 200 (record { phase = 2; party = 10 } ∷ []) 2 four_parties.parties ≡ over 11 300 2 ∷ []
 its_second_round = refl
+
+its_certificate : certificate_of four_parties (seats_with four_parties 200 (awards_over 200 four_parties.parties 2)) ≡ certificate
+its_certificate = refl
 
 -- three seats, a party, and a federation of the parties 20 and 30
 abbrev federated : Contest

@@ -1,14 +1,13 @@
--- Blocs between two rounds, as the code keeps them: each is counted once, and then only its seats change.
-use Rattle.std.specs.Prelude.{◌≡◌, ℕ, ◌+◌, ◌==◌, Bool, nat_lt, if◌then◌else◌, List, map, filter}
-use Rattle.std.specs.List.{list_any}
-use Rattle.quotients.specs.Average.{AverageData}
+-- Blocs between two rounds, as the code keeps them: each is counted before the first one, and then only its seats change.
+use Rattle.std.specs.Prelude.{◌≡◌, ℕ, ◌+◌, ◌==◌, Bool, false, nat_lt, if◌then◌else◌, List, map, filter}
+use Rattle.std.specs.List.{AllByRecursion, Contains, list_any}
+use Rattle.quotients.specs.Average.{AverageData, comes_before}
 use Rattle.seat_remainders.specs.declared.contest.Contestant.{Contestant}
 use Rattle.seat_remainders.specs.declared.outcome.Award.{Award}
 use Rattle.seat_remainders.specs.Rounds.{seats_after}
 use Rattle.seat_remainders.specs.Standing.{most_by, standing_of}
 use Rattle.seat_certificate.specs.declared.blocs.Bloc.{Bloc}
 use Rattle.seat_certificate.specs.declared.certificate.Round.{Round}
-use Rattle.seat_certificate.specs.Valid.{TakesSeatOf}
 
 -- a bloc after these awards
 abbrev pub bloc_after : ℕ → List Award → Contestant → Bloc
@@ -33,6 +32,14 @@ averages_of phase blocs = map next_average (filter (competes phase) blocs)
 -- the phase of the round that follows
 abbrev pub phase_of : List Bloc → ℕ
 phase_of blocs = if list_any (competes 2) blocs then 2 else 3
+
+-- none of these averages comes before this one
+abbrev pub Unbeaten : List AverageData → AverageData → Type 0
+Unbeaten averages own = AllByRecursion (λ a. comes_before a own ≡ false) averages
+
+-- a bloc has one of these averages, and none of them comes before that
+abbrev pub TakesSeatOf : List AverageData → ℕ → Type 0
+TakesSeatOf averages party = (own : AverageData) × Contains averages own × (own.party ≡ party) × Unbeaten averages own
 
 -- a round is the one that follows: it has their phase, the averages that compete, and the bloc that takes the seat among them
 pub record IsNext (blocs : List Bloc) (r : Round) : Type 0 where

@@ -50,7 +50,8 @@ pub record RoundFits (r : Round) : Type 0 where
   pub averages : AllByRecursion AverageFits r.averages
   pub rise : RiseAbove 0 (map (λ a. a.party) r.averages)
 
--- a certificate of a proportional office that has a text: its numbers are decimals, and its blocs rise
+-- a certificate of a proportional office that has a text: its numbers are decimals, its blocs rise, and it has at most 40 lines of the first
+-- phase and 200 rounds
 pub record HasText (code : ℕ) (c : Certificate) : Type 0 where
   pub office : code_proportional code ≡ true
   pub quotient : IsDecimalNumber c.quotient
@@ -61,7 +62,7 @@ pub record HasText (code : ℕ) (c : Certificate) : Type 0 where
   pub few_rounds : length c.rounds ≤ MOST_ROUNDS
   pub vacant : IsNarrow c.vacant
 
--- a contest of at most 40 blocs, each with a number of two digits
+-- a contest of at most 40 blocs, each with a number of two digits, and fewer than 2^32 candidates, as each list has
 pub record HasFewBlocs (contest : Contest) : Type 0 where
   pub few : length contest.parties ≤ MOST_FIRST_LINES
   pub numbers : AllByRecursion (λ p. IsBloc p.number) contest.parties

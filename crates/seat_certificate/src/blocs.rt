@@ -1,4 +1,4 @@
-//! The blocs of a contest between two rounds (art. 109). Each is counted once; then only its seats change.
+//! The blocs of a contest between two rounds (art. 109). Each is counted before the first one; then only its seats change.
 ghost use Rattle.std.specs.Prelude.{◌≡◌, ◌↔◌, ◌+◌, ◌≤◌, ◌<◌, ◌^◌, [], length, map, not, IfOk, IsTrue};
 ghost use Rattle.std.specs.List.{AllByRecursion, list_any};
 ghost use Rattle.quotients.specs.Order.{parts_of};

@@ -3,9 +3,9 @@ ghost use Rattle.std.specs.Prelude.{◌≡◌, ◌+◌, ◌-◌, ◌≤◌, ◌<
 ghost use Rattle.quotients.specs.Order.{parts_of};
 ghost use Rattle.seat_remainders.specs.Contest.{IsContest};
 ghost use Rattle.seat_remainders.specs.Parties.{first_phase, valid_votes, votes_of};
-ghost use Rattle.seat_certificate.specs.Blocs.{IsNext, blocs_after};
+ghost use Rattle.seat_certificate.specs.Blocs.{IsNext, TakesSeatOf, Unbeaten, blocs_after};
 ghost use Rattle.seat_certificate.specs.Certificate.{EachIsLawful, awards_in, first_line, first_lines};
-ghost use Rattle.seat_certificate.specs.Valid.{IsCertFault, IsFirstWrongLine, IsFirstWrongRound, IsValid, TakesSeatOf, Unbeaten};
+ghost use Rattle.seat_certificate.specs.Valid.{IsCertFault, IsFirstWrongLine, IsFirstWrongRound, IsValid};
 ghost use Rattle.seat_certificate.specs.declared.check.CertFault.{CertFault};
 
 use crate::blocs::{Bloc, Blocs, are_competing, blocs_of, give_seat, next_phase, nobody_left};
@@ -14,8 +14,8 @@ use quotients::{Average, party_quotient, quotient};
 use seat_remainders::{Averages, Contest, Contestant, standing_of, valid_votes};
 
 /// The first fault of a certificate: the electoral quotient; the line of the first phase with this number, counted from 1, where a missing line
-/// and one too many are faults too; the round with this number, counted from 1; or the end, where the seats don't add up or one is vacant
-/// though a bloc competes.
+/// and one too many are faults too; the round with this number, counted from 1, where one for which no seat is left is a fault too; or the
+/// end, where the seats don't add up, as where a round is missing, or one is vacant though a bloc competes.
 #[derive(Clone, Copy, Debug, PartialEq, Eq)]
 pub enum CertFault {
     Quotient,
@@ -25,8 +25,8 @@ pub enum CertFault {
 }
 
 /// Whether a certificate is valid for a contest (docs/RULES.md, "The certificate"), and where it isn't, its first fault. Nobody who made the
-/// certificate is trusted: `distribute` and `certify` take an allocator, which is not given here, so neither can be called, and no memory is
-/// taken.
+/// certificate is trusted: `distribute` and `certify` take an allocator. None is given here, and the lists that are lent don't give theirs
+/// away, so neither can be called, and no memory is taken.
 ///
 /// The caller owes what `distribute` asks for.
 pub fn check_certificate(contest: &Contest, certificate: &Certificate) -> Result<(), CertFault>

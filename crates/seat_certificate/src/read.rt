@@ -1,5 +1,5 @@
 //! The text of a certificate is read.
-ghost use Rattle.std.specs.Prelude.{◌≡◌, ◌≢◌, ◌↔◌, ◌+◌, ◌≤◌, ◌<◌, ◌^◌, ◌==◌, ◌∷◌, [], ℕ, List, length, IfOk, IfSome, MatchOption, Err, None, Ok, Some};
+ghost use Rattle.std.specs.Prelude.{◌≡◌, ◌≢◌, ◌+◌, ◌≤◌, ◌<◌, ◌^◌, ◌∷◌, [], ℕ, List, length, IfOk, IfSome, MatchOption, Err, None, Ok, Some};
 ghost use Rattle.seat_certificate.specs.Reading.{AtVacant, InFirst, InRounds, MatchRead, lines_in, made, next_bloc, last_bloc, next_round, read_by, text_goes};
 ghost use Rattle.seat_certificate.specs.Text.{IsFirstBadLine, Spells};
 ghost use Rattle.seat_certificate.specs.declared.certificate.Certificate.{Certificate};
@@ -189,7 +189,7 @@ fn split_line(text: &[u8]) -> Option<(&[u8], &[u8])>
     cut_at(b'\n', text)
 }
 
-/// So does want of memory.
+/// Want of memory ends the reading.
 impl From<Memory> for CertTextError {
     ghost from_gives = { λ _ e. e ≡ Memory };
 

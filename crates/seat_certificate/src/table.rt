@@ -1,5 +1,6 @@
 //! The one table of the lines of a certificate's text (docs/FORMATS.md, "Certificate"): the word in front of each number, and which numbers
-//! may stand there. The code writes and reads by it, and the definitions cite it (`specs/Text.antt`, `specs/Reading.antt`).
+//! may stand there. The code writes and reads by it, and the definitions cite its words, its marks and the bounds of a party's number
+//! (`specs/Text.antt`, `specs/Reading.antt`).
 
 /// A word and the number behind its space, a decimal from `low` to `high`.
 #[derive(Clone, Copy, Debug, PartialEq, Eq)]

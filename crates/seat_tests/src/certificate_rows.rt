@@ -1,5 +1,5 @@
-//! The rows of the tests of certificates. The certificate of each contest, and the substitutes, follow from the rules of `docs/RULES.md`, "The
-//! seats": `tests/seats.py` works them out with fractions, and knows nothing of this program.
+//! The rows of the tests of certificates. The certificate of each contest, how another text is judged, and the substitutes follow from
+//! `docs/RULES.md`, "The seats" and "The certificate": `tests/certificates.py` works them out with fractions, and knows nothing of this program.
 
 /// A contest as `rows` tells it, the text of its certificate in the words of `docs/FORMATS.md`, and changes of this text: a piece, what
 /// stands in its place, and how the changed text is judged for the contest.
@@ -127,6 +127,12 @@ pub(crate) const NOT_CERTIFIED: &[(&str, &str, &str)] = &[
     (
         "10 seats, 10: 1 1 1 1 1 1 1 1 1 1 1 1 1 1 1",
         "CERT U1\nCARGO 13\nQUOCIENTE 1\nPARTIDO 10 QP 15 APTOS 15 VAGAS 15\nRODADA 1 FASE 3 VENCE 10\nVAZIAS 0\nFIM\n",
+        "round 1",
+    ),
+    // The round would be the next one, if a seat were left to it.
+    (
+        "10 seats, 10: 1 1 1 1 1 1 1 1 1 1 1 1 1 1 1 0",
+        "CERT U1\nCARGO 13\nQUOCIENTE 1\nPARTIDO 10 QP 15 APTOS 15 VAGAS 15\nRODADA 1 FASE 3 VENCE 10 10:15/16\nVAZIAS 0\nFIM\n",
         "round 1",
     ),
 ];

@@ -1,6 +1,6 @@
 use Rattle.std.proofs.Common.{◌≡◌, ◌∙◌}
 use Rattle.quotients.specs.Order.{parts_of}
-use Rattle.seat_certificate.specs.Valid.{Unbeaten}
+use Rattle.seat_certificate.specs.Blocs.{Unbeaten}
 use Rattle.seat_certificate.proofs.Members.{all_at}
 use Rattle.seat_certificate.proofs.check.takes_seat.Goals.{else-party-via-then-party+else-is_unbeaten, else-party-via-else-party}
 use Rattle.seat_certificate.proofs.check.takes_seat.Goals as goal
