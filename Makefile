@@ -14,7 +14,7 @@ list:
 	@echo "make programs     the same of both: part of a demo"
 	@echo "make test         the gate, each proof from nothing, each edit that must be refused, each test and program, and check-house: an hour"
 	@echo "make check-house  names, sessions and lines of the documents and the sources: seconds"
-	@echo "make bench        how long sessions, commits, the reading of tables, the text of a report, its file, a check of it, a recount, the totals of many reports, the seats and a rehearsal take, as ratios to plainer programs, and what changed since the last time: a few minutes after a demo"
+	@echo "make bench        how long sessions, commits, the reading of tables, the text of a report, its file, a check of it, a recount, the totals of many reports, the ledger of them, the seats and a rehearsal take, as ratios to plainer programs, and what changed since the last time: a few minutes after a demo"
 	@echo "make crash-trial  both programs on real files, with a lost flash too, and as many killed sessions and ledgers as TRIALS says, drawn by SEED: a few minutes after a demo"
 	@echo "make hostile      both programs with refused memory, failing calls, odd surroundings, power cuts, exchanged flashes and changed inputs, drawn by SEED, for as long as MINUTES says: ten minutes after a demo"
 
@@ -30,7 +30,7 @@ test:
 check-house:
 	@tests/check-house
 
-bench: urna
+bench: programs
 	bench/run
 
 crash-trial: programs

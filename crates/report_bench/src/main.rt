@@ -1,15 +1,16 @@
 //! Reads, writes or hashes the field text or the file of a report some times, reads the text of a record or counts it against a report,
-//! offers many reports, or gives the seats of a contest, for `make bench`.
+//! offers many reports, to an intake or to a ledger, or gives the seats of a contest, for `make bench`.
 //!
-//! The words are WORK FILE TIMES, `confere` FILE TABLES TIMES, `reconta` REPORT RECORD TIMES, `totaliza` TEXTS TABLES, or `cadeiras` CONTEST
-//! TIMES. `le` reads the text of the file TIMES times, `escreve` reads it once and writes its report TIMES times, and `hash` takes the
-//! SHA-512 of its bytes TIMES times. `junta` joins the parts of the file TIMES times, `parte` joins them once and makes them TIMES times, and
-//! `confere` checks the file by the tables TIMES times. `registro` reads the text of a record TIMES times, and `reconta` reads the file of a
-//! report and the text of a record and compares them as often. It prints a sum over what was made each time. `totaliza` makes the files of
-//! the reports whose texts stand in the lines of TEXTS, hashes them, offers them in order and gives the seats of the first office, and tells
-//! each step as it is done. `cadeiras` gives the 200 seats of the contest whose parties stand in the lines of CONTEST TIMES times, plays its
-//! rounds as often, and sorts as many numbers as its table has averages, and as many pairs of them, as often; it tells each of these works
-//! too.
+//! The words are WORK FILE TIMES, `confere` FILE TABLES TIMES, `reconta` REPORT RECORD TIMES, `totaliza` or `recebe` TEXTS TABLES, or
+//! `cadeiras` CONTEST TIMES. `le` reads the text of the file TIMES times, `escreve` reads it once and writes its report TIMES times, and
+//! `hash` takes the SHA-512 of its bytes TIMES times. `junta` joins the parts of the file TIMES times, `parte` joins them once and makes them
+//! TIMES times, and `confere` checks the file by the tables TIMES times. `registro` reads the text of a record TIMES times, and `reconta`
+//! reads the file of a report and the text of a record and compares them as often. It prints a sum over what was made each time. `totaliza`
+//! makes the files of the reports whose texts stand in the lines of TEXTS, hashes them, offers them in order and gives the seats of the first
+//! office, and tells each step as it is done. `recebe` makes them too, offers them to a ledger over flashes in memory, then does what was
+//! done to the flashes once more, and tells each step. `cadeiras` gives the 200 seats of the contest whose parties stand in the lines of
+//! CONTEST TIMES times, plays its rounds as often, and sorts as many numbers as its table has averages, and as many pairs of them, as often;
+//! it tells each of these works too.
 //!
 //! Its status is 0 where each time or step went well, 1 where one did not, and 3 where the words are others.
 #![tactic(auto)]
@@ -19,12 +20,15 @@ ghost use Rattle.urna_base.specs.Words.{pieces};
 ghost use Rattle.hash_chain.specs.Fault.{AreFields};
 ghost use Rattle.poll_report.specs.Report.{IsReport};
 
+mod bank;
+mod ledgers;
 mod recounts;
 mod reports;
 mod seats;
 
 use election_tables::Tables;
 use hash_chain::{join_parts, make_parts};
+use ledgers::tell_ledger;
 use poll_report::Report;
 use qr_text::{read_fields, write_fields};
 use recounts::{read_records, recount_all};
@@ -235,6 +239,10 @@ fn status(rt: &HostRuntime) -> io::Result<u8> {
         Some(_) => Ok(3),
         None if work.as_str() == "totaliza" => {
             let well = tell_reports(rt, name.as_str(), third.as_str())?;
+            Ok(if well { 0 } else { 1 })
+        }
+        None if work.as_str() == "recebe" => {
+            let well = tell_ledger(rt, name.as_str(), third.as_str())?;
             Ok(if well { 0 } else { 1 })
         }
         None if work.as_str() == "cadeiras" => seats_status(rt, name.as_str(), third.as_str()),

@@ -15,7 +15,7 @@ use std::{fs, io};
 use totals::{contest_of, total_lines};
 
 /// How many offers are told as the first, and as the last.
-const FEW: usize = 100;
+pub(crate) const FEW: usize = 100;
 
 /// The file of the report that a text spells.
 fn file_of(alloc: Global, text: &[u8]) -> Option<Vec<u8>> {
@@ -32,7 +32,7 @@ fn file_of(alloc: Global, text: &[u8]) -> Option<Vec<u8>> {
 }
 
 /// The files of the reports whose texts stand in some lines.
-fn files_of(alloc: Global, texts: &str) -> Option<Vec<Vec<u8>>> {
+pub(crate) fn files_of(alloc: Global, texts: &str) -> Option<Vec<Vec<u8>>> {
     let mut files = Vec::new(alloc);
     for text in texts.lines() {
         files.push(file_of(alloc, text.as_bytes())?).ok()?;
