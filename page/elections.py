@@ -1,0 +1,65 @@
+"""The elections that the page has to begin with, and the names that the tables of an election have."""
+
+import os
+import tomllib
+
+from programs import EXAMPLES, Refused, content
+
+# What a page can be given: the bounds of the program (docs/FORMATS.md, "Limits"), and of a total those of one request.
+MOST_TABLES, MOST_ROLL, MOST_REPORT, MOST_REPORTS = 4_194_304, 16_384, 1_048_576, 4_096
+REHEARSED = "400"
+# The documents of an example in `examples`, and its section.
+EXAMPLE_POLLS = {"dia": ("tabelas.toml", "rol.txt", "1", "42"), "senado": ("senado.toml", "senado-rol.txt", "1", "42")}
+# The tables of an example, and the reports that stand beside them.
+EXAMPLE_TOTALS = {"federacao": ("federacao.toml", ["federacao-42.bu", "federacao-43.bu"]), "dia": ("tabelas.toml", ["secao43.bu"])}
+
+
+def rehearsal(program, folder):
+    """The six files of a rehearsed election, in a folder."""
+    ended = program.run(folder, ["ensaio", REHEARSED])
+    if ended.status != 0:
+        raise Refused(500, f"o ensaio terminou com {ended.status}")
+    return ended
+
+
+def poll(program, folder, name):
+    """The tables, the roll, the zone and the section of an election that is there to begin with."""
+    if name == "ensaio":
+        rehearsal(program, folder)
+        return content(folder, "ensaio.toml"), content(folder, "ensaio.rol"), "1", "1"
+    if name not in EXAMPLE_POLLS:
+        raise Refused(400, "não há esta eleição")
+    tables, roll, zone, section = EXAMPLE_POLLS[name]
+    return content(EXAMPLES, tables), content(EXAMPLES, roll), zone, section
+
+
+def reports(program, folder, name):
+    """The tables and the reports, each with its name, of an election that is there to be totalled."""
+    if name == "ensaio":
+        rehearsal(program, folder)
+        return content(folder, "ensaio.toml"), [("ensaio.bu", content(folder, "ensaio.bu"))]
+    if name not in EXAMPLE_TOTALS:
+        raise Refused(400, "não há esta eleição")
+    tables, names = EXAMPLE_TOTALS[name]
+    return content(EXAMPLES, tables), [(it, content(EXAMPLES, it)) for it in names]
+
+
+def names_in(tables):
+    """What tables call their parties, candidates and federations. These are looked up to be shown, and no line goes by them."""
+    try:
+        read = tomllib.loads(tables.decode())
+        return {
+            "data": read["data"],
+            "turno": read["turno"],
+            "cargos": [{it: office[it] for it in ("codigo", "regra", "cadeiras")} for office in read["cargo"]],
+            "partidos": {str(it["numero"]): it["nome"] for it in read["partido"]},
+            "candidatos": {f"{it['cargo']} {it['numero']}": it["nome"] for it in read["candidato"]},
+            "federacoes": {str(min(it["partidos"])): it["nome"] for it in read.get("federacao", [])},
+        }
+    except (ValueError, KeyError, TypeError, AttributeError, RecursionError):
+        return {}
+
+
+def titles_in(roll):
+    """The titles of a roll, to choose from."""
+    return [it for it in roll.decode(errors="replace").splitlines() if it.isdigit()][:600]

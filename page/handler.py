@@ -1,0 +1,176 @@
+"""What the page's server answers. It is for the browsers of this machine: another host name, or a request that another page sent, is
+refused, and so is what is too large or has another form."""
+
+import http.cookies
+import http.server
+import json
+import os
+
+from programs import Refused, content
+from session import Session
+
+STATIC = os.path.join(os.path.dirname(os.path.abspath(__file__)), "static")
+KINDS = {".html": "text/html", ".css": "text/css", ".js": "text/javascript", ".svg": "image/svg+xml"}
+# The files of the page, under the names by which they are asked for.
+FILES = {f"/{name}": name for name in sorted(os.listdir(STATIC)) if os.path.splitext(name)[1] in KINDS} | {"/": "index.html"}
+# What may be read of a session, and what may be asked of it, with the most bytes of a request.
+READ = {"/api/estado": Session.state, "/api/eleicao": Session.election}
+SMALL, LARGE = 4_096, 33_554_432
+ASKED = {
+    "/api/comeca": (Session.begin, 8_388_608),
+    "/api/tecla": (Session.press, SMALL),
+    "/api/arma": (Session.arm, SMALL),
+    "/api/desarma": (Session.disarm, SMALL),
+    "/api/desliga": (Session.switch_off, SMALL),
+    "/api/liga": (Session.switch_on, SMALL),
+    "/api/troca": (Session.exchange, SMALL),
+    "/api/repoe": (Session.reload, SMALL),
+    "/api/confere": (Session.check, SMALL),
+    "/api/reconta": (Session.recount, SMALL),
+    "/api/totais": (Session.totals, LARGE),
+}
+RESULTS = "/arquivo/"
+HEADERS = {
+    "Cache-Control": "no-store",
+    "Content-Security-Policy": "default-src 'none'; script-src 'self'; style-src 'self'; img-src 'self' data:; connect-src 'self'; "
+    "base-uri 'none'; form-action 'none'; frame-ancestors 'none'",
+    "Cross-Origin-Opener-Policy": "same-origin",
+    "Cross-Origin-Resource-Policy": "same-origin",
+    "Referrer-Policy": "no-referrer",
+    "X-Content-Type-Options": "nosniff",
+}
+
+
+class Handler(http.server.BaseHTTPRequestHandler):
+    server_version, sys_version = "urna", ""
+    protocol_version = "HTTP/1.1"
+    # A browser that sends nothing for so many seconds is let go.
+    timeout = 60
+
+    def log_message(self, *words):
+        """Which presses came when is told nowhere."""
+
+    # ---- who asks
+
+    def hosts(self):
+        port = self.server.server_address[1]
+        return [f"127.0.0.1:{port}", f"localhost:{port}"]
+
+    def want_own(self, must_have_origin):
+        """The request was sent to this machine's own name, and by this page."""
+        hosts, found = self.headers.get_all("Host") or [], self.headers.get_all("Origin") or []
+        if len(hosts) != 1 or hosts[0] not in self.hosts():
+            raise Refused(403, "outro nome de máquina")
+        if (found or must_have_origin) and found != [f"http://{hosts[0]}"]:
+            raise Refused(403, "outra origem")
+        if self.headers.get("Sec-Fetch-Site", "none") not in ("none", "same-origin"):
+            raise Refused(403, "outra origem")
+
+    def cookie_name(self):
+        return f"urna-{self.server.server_address[1]}"
+
+    def session(self):
+        """The session of this browser, if it has one."""
+        try:
+            cookies = http.cookies.SimpleCookie(self.headers.get("Cookie", ""))
+        except http.cookies.CookieError:
+            return None
+        cookie = cookies.get(self.cookie_name())
+        return self.server.sessions.of(cookie.value) if cookie else None
+
+    # ---- what is asked
+
+    def asked(self, most):
+        """The object of a request."""
+        if self.headers.get("Content-Type", "").split(";")[0].strip() != "application/json":
+            raise Refused(415, "o pedido não é JSON")
+        length = self.headers.get_all("Content-Length") or []
+        if self.headers.get("Transfer-Encoding") or len(length) != 1 or not (length[0].isascii() and length[0].isdigit()):
+            raise Refused(411, "o pedido não diz o seu tamanho")
+        if len(length[0]) > 12 or int(length[0]) > most:
+            raise Refused(413, "o pedido é grande demais")
+        try:
+            asked = json.loads(self.rfile.read(int(length[0])))
+        except (ValueError, RecursionError):
+            raise Refused(400, "o pedido não é JSON")
+        if not isinstance(asked, dict):
+            raise Refused(400, "o pedido não é um objeto")
+        return asked
+
+    def done(self, action, *words):
+        """What a session answers."""
+        session = self.session()
+        if not session:
+            raise Refused(401, "sem sessão: recarregar a página")
+        with session.lock:
+            session.open()
+            return action(session, *words)
+
+    def do_GET(self):
+        self.answer(self.got)
+
+    def do_POST(self):
+        self.answer(self.posted)
+
+    def got(self):
+        self.want_own(False)
+        if self.path in READ:
+            return self.send_object(200, self.done(READ[self.path]))
+        if self.path.startswith(RESULTS):
+            name = self.path.removeprefix(RESULTS)
+            data = self.done(Session.result, name)
+            return self.send(200, "application/octet-stream", data, {"Content-Disposition": f'attachment; filename="{name}"'})
+        if self.path not in FILES:
+            raise Refused(404, "não há esta página")
+        name = FILES[self.path]
+        return self.send(200, f"{KINDS[os.path.splitext(name)[1]]}; charset=utf-8", content(STATIC, name), self.welcome())
+
+    def welcome(self):
+        """A browser without a session gets one with the page itself."""
+        if self.path != "/" or self.session():
+            return {}
+        return {"Set-Cookie": f"{self.cookie_name()}={self.server.sessions.new()}; Path=/; HttpOnly; SameSite=Strict"}
+
+    def posted(self):
+        self.want_own(True)
+        if self.path not in ASKED:
+            raise Refused(404, "não há este pedido")
+        action, most = ASKED[self.path]
+        asked = self.asked(most)
+        return self.send_object(200, self.done(action, asked))
+
+    # ---- what is answered
+
+    def answer(self, way):
+        try:
+            way()
+        except Refused as refused:
+            # What of the request was not read is not taken for another one.
+            self.close_connection = True
+            self.send_object(refused.status, {"erro": refused.why})
+
+    def send_object(self, status, told):
+        self.send(status, "application/json; charset=utf-8", json.dumps(told, ensure_ascii=False).encode(), {})
+
+    def send(self, status, kind, data, more):
+        self.send_response(status)
+        for name, value in {**HEADERS, **more, "Content-Type": kind, "Content-Length": str(len(data))}.items():
+            self.send_header(name, value)
+        if self.close_connection:
+            self.send_header("Connection", "close")
+        self.end_headers()
+        if self.command != "HEAD":
+            self.wfile.write(data)
+
+
+class Server(http.server.ThreadingHTTPServer):
+    """On this machine's loopback address alone."""
+
+    daemon_threads = True
+
+    def __init__(self, port, sessions):
+        super().__init__(("127.0.0.1", port), Handler)
+        self.sessions = sessions
+
+    def handle_error(self, request, client_address):
+        """A browser that went away in the middle of an answer is no matter of the others."""

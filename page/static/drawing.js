@@ -1,0 +1,66 @@
+// Pictures in SVG, each with its numbers as text for who can't see it.
+
+import { make, number } from "./parts.js";
+
+const COLOURS = ["#1f5fa8", "#c0392b", "#2e7d32", "#8e5bb5", "#d98200", "#00838f", "#a23b72", "#5d6d1e", "#5c4033", "#37474f"];
+const WIDTH = 420, ROW = 42, FOR_NUMBER = 60;
+
+// One row for each label, its bar in proportion to the greatest value.
+export function bars(rows, title) {
+  const most = Math.max(1, ...rows.map((it) => it.value));
+  const drawn = rows.flatMap((it, at) => {
+    const length = ((WIDTH - FOR_NUMBER) * it.value) / most;
+    const y = at * ROW;
+    return [
+      make("svg:text", { x: 0, y: y + 15, class: "label" }, cut(it.label)),
+      make("svg:rect", { x: 0, y: y + 20, width: Math.max(1, length), height: 15, class: it.marked ? "bar marked" : "bar" }),
+      make("svg:text", { x: length + 6, y: y + 33, class: "label" }, number(it.value)),
+    ];
+  });
+  const said = rows.map((it) => `${it.label}: ${it.value}`).join("; ");
+  return make("svg:svg", { viewBox: `0 0 ${WIDTH} ${Math.max(1, rows.length) * ROW}`, class: "bars", role: "img" }, make("svg:title", {}, title), make("svg:desc", {}, said), ...drawn);
+}
+
+const cut = (label) => (label.length > 46 ? `${label.slice(0, 45)}…` : label);
+
+// How far from the middle each row of a half-circle is, and how large a seat, where it has so many rows.
+function rowsOf(count, rows, outer) {
+  const step = rows === 1 ? outer : (outer * 0.6) / (rows - 1);
+  const radii = Array.from({ length: rows }, (_, at) => outer - at * step);
+  const length = Math.PI * radii.reduce((sum, it) => sum + it, 0);
+  return { radii, size: 0.45 * Math.min(58, step, length / Math.max(1, count - rows)) };
+}
+
+// The places of seats in a half-circle, from the left to the right, in as many rows as leave them largest.
+function places(count) {
+  const outer = Math.min(260, Math.max(60, count * 22));
+  const tried = Array.from({ length: 10 }, (_, at) => rowsOf(count, at + 1, outer));
+  const { radii, size } = tried.reduce((best, it) => (it.size > best.size ? it : best));
+  const all = radii.reduce((sum, it) => sum + it, 0);
+  let left = count;
+  const seats = radii.flatMap((radius, at) => {
+    const here = at === radii.length - 1 ? left : Math.min(left, Math.round((count * radius) / all));
+    left -= here;
+    return Array.from({ length: here }, (_, it) => ({ radius, turn: here === 1 ? 0.5 : it / (here - 1) }));
+  });
+  return { seats: seats.sort((one, other) => one.turn - other.turn || other.radius - one.radius), size, outer };
+}
+
+// The seats by party, the vacant ones hollow.
+export function halfCircle(groups, vacant) {
+  const owners = groups.flatMap((it, at) => Array.from({ length: it.seats }, () => ({ ...it, colour: COLOURS[at % COLOURS.length] })));
+  const all = [...owners, ...Array.from({ length: vacant }, () => null)];
+  const { seats, size, outer } = places(all.length);
+  const drawn = seats.flatMap((it, at) => {
+    const angle = Math.PI * (1 - it.turn);
+    const [x, y] = [it.radius * Math.cos(angle), -it.radius * Math.sin(angle)];
+    const owner = all[at];
+    const kind = owner ? { class: "seat", fill: owner.colour, "data-bloc": owner.number } : { class: "seat vacant" };
+    const circle = make("svg:circle", { cx: x, cy: y, r: size, ...kind });
+    return owner && size >= 11 ? [circle, make("svg:text", { x, y: y + 5, "text-anchor": "middle", class: "on-seat" }, owner.number)] : [circle];
+  });
+  const said = [...groups.filter((it) => it.seats).map((it) => `${it.label}: ${it.seats}`), `vazias: ${vacant}`].join("; ");
+  const box = `${-outer - 40} ${-outer - 34} ${2 * outer + 80} ${outer + 68}`;
+  const picture = make("svg:svg", { viewBox: box, class: "half", role: "img" }, make("svg:title", {}, "As vagas por partido"), make("svg:desc", {}, said), ...drawn);
+  return make("figure", {}, picture, make("figcaption", {}, said));
+}

@@ -1,0 +1,87 @@
+// The page: its views, and the state of the session, which each of them shows after every request.
+
+import { ask, encoded, find, read } from "./parts.js";
+import * as boletim from "./boletim.js";
+import * as tomada from "./tomada.js";
+import * as totais from "./totais.js";
+import * as urna from "./urna.js";
+import { inWords } from "./words.js";
+
+const VIEWS = ["urna", "tomada", "boletim", "totais"];
+const page = { state: { carregada: false }, names: {}, titles: [] };
+
+function show(state) {
+  page.state = state;
+  for (const view of [urna, tomada, boletim]) {
+    view.show(page);
+  }
+}
+
+// One request after the other, in the order in which they were asked for.
+let last = Promise.resolve();
+function change(what, words) {
+  last = last.then(() => ask(what, words)).then((told) => (show(told), told)).catch(() => null);
+  return last;
+}
+
+function go() {
+  const asked = location.hash.slice(1);
+  const view = VIEWS.includes(asked) ? asked : "urna";
+  document.body.dataset.view = view;
+  for (const it of document.querySelectorAll("[data-views]")) {
+    it.hidden = !it.dataset.views.split(" ").includes(view);
+  }
+  for (const it of document.querySelectorAll("nav a")) {
+    it.toggleAttribute("aria-current", it.hash === `#${view}`);
+  }
+}
+
+function named(told) {
+  page.names = told.nomes;
+  page.titles = told.titulos;
+  urna.name(page);
+}
+
+async function begin(words) {
+  const told = await change("comeca", words);
+  if (told) {
+    named(told);
+    show(told);
+    const line = told.carga.linhas[0] || "";
+    find("carga").replaceChildren(...urna.told(line, told.carga.numero));
+  }
+}
+
+async function beginOwn(form) {
+  const [tables, roll] = [form.elements.tabelas.files[0], form.elements.rol.files[0]];
+  if (!tables || !roll) {
+    find("carga").textContent = "faltam os arquivos das tabelas e do rol";
+    return;
+  }
+  const [zone, section] = [form.elements.zona.value, form.elements.secao.value].map(Number);
+  await begin({ tabelas: await encoded(tables), rol: await encoded(roll), zona: zone, secao: section });
+}
+
+find("comeca").addEventListener("submit", (event) => {
+  event.preventDefault();
+  const choice = event.target.elements.exemplo.value;
+  return choice === "propria" ? beginOwn(event.target) : begin({ exemplo: choice });
+});
+find("comeca").elements.exemplo.addEventListener("change", (event) => {
+  find("comeca").querySelector(".own").hidden = event.target.value !== "propria";
+});
+addEventListener("hashchange", go);
+go();
+for (const view of [urna, tomada, boletim, totais]) {
+  view.start(page, change);
+}
+
+const state = await read("estado");
+if (state.carregada) {
+  named(await read("eleicao"));
+  show(state);
+  find("carga").textContent = inWords(state.inicio.linhas[0] || "");
+} else {
+  await begin({ exemplo: "dia" });
+}
+document.body.dataset.ready = "yes";

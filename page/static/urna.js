@@ -1,0 +1,215 @@
+// The two terminals, and the two flashes.
+
+import { OFFICES, find, make, number, office } from "./parts.js";
+import { inWords, ofNumber } from "./words.js";
+
+const KEYS = ["1", "2", "3", "4", "5", "6", "7", "8", "9", "0"];
+const COLOURED = [["B", "BRANCO", "branco"], ["R", "CORRIGE", "corrige"], ["C", "CONFIRMA", "confirma"]];
+const CLERK = ["LIBERA", "CANCELA", "SUSPENDE"];
+const KEYBOARD = { b: "B", B: "B", Backspace: "R", Enter: "C" };
+
+// A line of the program, and what it says in words.
+export function told(line, status) {
+  const words = line ? inWords(line) : ofNumber(status);
+  return [line ? make("code", {}, line) : "", words ? ` ${words}` : ""];
+}
+
+// What the lines of a visit leave on both terminals.
+export function visitOf(lines) {
+  let visit = { at: "nobody" };
+  for (const line of lines) {
+    const [word, ...rest] = line.split(" ");
+    if (word === "ELEITOR") {
+      visit = { at: "identified", title: rest[0] };
+    } else if (word === "LIBERADO") {
+      visit = { ...visit, at: "voting" };
+    } else if (word === "VOTO") {
+      visit = { ...visit, at: "voting", vote: rest[0], code: rest[2], field: "VAZIA", kind: "", name: "" };
+    } else if (word === "TELA") {
+      visit = { ...visit, field: rest[0], kind: rest[1] || "", name: rest.slice(2).join(" ") };
+    } else if (word === "FIM") {
+      visit = { at: "end" };
+    } else if (["SUSPENSO", "CANCELADO", "ABERTA", "ENCERRADA"].includes(word)) {
+      visit = { at: "nobody" };
+    }
+  }
+  return visit;
+}
+
+const KINDS = { CANDIDATO: "", LEGENDA: "VOTO DE LEGENDA", NULO: "VOTO NULO" };
+
+function boxes(digits, length) {
+  const found = [];
+  for (let at = 0; at < Math.max(length, digits.length); at += 1) {
+    found.push(make("span", { class: at === digits.length ? "digit next" : "digit" }, digits[at] || " "));
+  }
+  const spoken = digits ? `número ${digits.split("").join(" ")}` : "nenhum número";
+  return make("p", { class: "digits" }, make("span", { class: "spoken" }, spoken), make("span", { "aria-hidden": "true" }, ...found));
+}
+
+function labelled(label, value) {
+  return value ? make("p", { class: "labelled" }, make("span", {}, `${label}: `), make("strong", {}, value)) : null;
+}
+
+// What a vote will count as, where CONFIRMA would take it.
+function countsAs(visit) {
+  return visit.field === "BRANCO" ? "VOTO EM BRANCO" : KINDS[visit.kind] || "";
+}
+
+function voting(visit, names) {
+  const typed = /^\d+$/.test(visit.field) ? visit.field : "";
+  const parties = names.partidos || {};
+  const isNamed = ["CANDIDATO", "LEGENDA"].includes(visit.kind);
+  const confirmable = visit.field === "BRANCO" || visit.kind;
+  return [
+    make("p", { class: "small" }, "SEU VOTO PARA"),
+    make("p", { class: "office" }, `${office(visit.code)}${visit.code === "5" ? ` · ${visit.vote}º voto da cédula` : ""}`),
+    visit.field === "BRANCO" ? null : boxes(typed, (OFFICES[visit.code] || ["", 2])[1]),
+    labelled("Nome", visit.kind === "CANDIDATO" ? visit.name : ""),
+    labelled("Partido", isNamed ? parties[typed.slice(0, 2)] || visit.name : ""),
+    countsAs(visit) ? make("p", { class: "counts" }, countsAs(visit)) : null,
+    confirmable ? make("p", { class: "foot" }, "Aperte CONFIRMA para confirmar este voto, ou CORRIGE para reiniciá-lo") : null,
+  ];
+}
+
+function screen(page) {
+  const visit = visitOf(page.state.visita || []);
+  const says = (...lines) => lines.map((it) => make("p", { class: "wait" }, it));
+  if (!page.state.carregada) {
+    return ["none", says("A urna não foi carregada")];
+  }
+  if (!page.state.ligada) {
+    return ["off", [make("p", { class: "spoken" }, "sem energia")]];
+  }
+  if (visit.at === "end") {
+    return ["end", [make("p", { class: "fim" }, "FIM"), make("p", { class: "small" }, "VOTOU")]];
+  }
+  if (visit.at === "voting" && visit.code) {
+    return ["voting", voting(visit, page.names)];
+  }
+  const line = page.state.inicio.linhas[0] || "";
+  return ["wait", says(visit.at === "identified" ? "Eleitor identificado" : "Aguarde o mesário", inWords(line))];
+}
+
+const STEPS = {
+  nobody: "Um título do rol, e TITULO.",
+  identified: "LIBERA chama o primeiro voto; CANCELA desfaz a identificação.",
+  voting: "O eleitor vota. SUSPENDE, se ele vai embora antes de acabar.",
+  end: "O voto está guardado. O próximo: um título do rol, e TITULO; ou ENCERRA.",
+};
+
+function step(state) {
+  if (!state.carregada) {
+    return "Falta carregar a urna.";
+  }
+  if (!state.ligada) {
+    return "A urna está desligada: 2. Tirar da tomada, Ligar.";
+  }
+  const line = state.inicio.linhas[0] || "";
+  if (line.startsWith("URNA PRONTA")) {
+    return "Primeiro ABRE, com o momento da abertura.";
+  }
+  return line.startsWith("URNA LACRADA") ? "Lacrada: o boletim está em 3. Boletim." : STEPS[visitOf(state.visita).at];
+}
+
+// Count lines are long, and have a view of their own.
+function reply(clerk) {
+  if (!clerk) {
+    return [];
+  }
+  const lines = clerk.linhas.filter((it) => !/^(ZERESIMA|BOLETIM|CARGO|VOTO|BRANCO|NULO|TOTAL|\d+) ?/.test(it));
+  const shown = lines.length ? lines : [""];
+  return [make("p", { class: "pressed" }, clerk.tecla.slice(2)), ...shown.map((it) => make("p", {}, ...told(it, clerk.numero)))];
+}
+
+function gate(it) {
+  const isOpen = it.byte === "A5";
+  return make("li", {}, `porta no byte ${number(it.lugar)}: `, make("code", {}, it.byte), isOpen ? " aberta" : " fechada");
+}
+
+export function memory(it) {
+  return make(
+    "div",
+    { class: it.numero === 0 ? "flash" : "flash bad", "data-memoria": it.nome },
+    make("h3", {}, it.nome === "interna" ? "Interna" : "Externa"),
+    make("p", {}, "sozinha guarda: ", ...told(it.linha, it.numero)),
+    make("ul", {}, ...it.portas.map(gate)),
+  );
+}
+
+export function show(page) {
+  const [kind, inside] = screen(page);
+  find("tela").className = `screen ${kind}`;
+  find("tela").replaceChildren(...inside.filter((it) => it));
+  find("passo").textContent = step(page.state);
+  find("resposta").replaceChildren(...reply(page.state.mesario));
+  find("memorias").replaceChildren(...(page.state.memorias || []).map(memory));
+  find("linhas").textContent = (page.state.visita || []).join("\n");
+  const isOff = !page.state.carregada || !page.state.ligada;
+  for (const it of document.querySelectorAll(".machine button")) {
+    it.disabled = isOff;
+  }
+}
+
+// The names of another election.
+export function name(page) {
+  const day = String(page.names.data || "20261004");
+  find("momentos").elements.abre.value = `${day}080000`;
+  find("momentos").elements.encerra.value = `${day}170000`;
+  find("titulo").elements.titulo.value = page.titles[0] || "";
+  find("titulos").replaceChildren(...page.titles.map((it) => make("option", { value: it })));
+}
+
+function key(label, press, kind) {
+  return make("button", { type: "button", "data-press": press, class: `key ${kind}` }, label);
+}
+
+// The title after the one that was called, so that a clerk in training goes through the roll.
+function nextTitle(page) {
+  const field = find("titulo").elements.titulo;
+  const at = page.titles.indexOf(field.value);
+  field.value = page.titles[at + 1] || field.value;
+}
+
+export function start(page, change) {
+  const press = (line) => change("tecla", { tecla: line });
+  const vote = async (it) => {
+    const answer = await press(`E ${it}`);
+    if (answer && answer.linhas.includes("FIM")) {
+      nextTitle(page);
+    }
+  };
+  find("teclado").append(...KEYS.map((it) => key(it, it, it === "0" ? "digitkey zero" : "digitkey")));
+  find("teclado").append(...COLOURED.map(([it, label, kind]) => key(label, it, kind)));
+  find("teclado").addEventListener("click", (event) => {
+    const pressed = event.target.closest("[data-press]");
+    if (pressed) {
+      vote(pressed.dataset.press);
+      // A click of the mouse leaves the keyboard with the whole terminal.
+      if (event.detail > 0) {
+        find("terminal").focus({ preventScroll: true });
+      }
+    }
+  });
+  document.addEventListener("keydown", (event) => {
+    const isShown = ["urna", "tomada"].includes(document.body.dataset.view);
+    const own = event.target === document.body || find("terminal").contains(event.target);
+    const onButton = event.target.tagName === "BUTTON" && event.key === "Enter";
+    const meant = /^\d$/.test(event.key) ? event.key : KEYBOARD[event.key];
+    if (isShown && own && meant && !onButton && !event.ctrlKey && !event.altKey && !event.metaKey) {
+      event.preventDefault();
+      vote(meant);
+    }
+  });
+  find("mesario").append(...CLERK.map((it) => make("button", { type: "button", value: it }, it)));
+  find("mesario").addEventListener("click", (event) => event.target.value && press(`M ${event.target.value}`));
+  find("titulo").addEventListener("submit", (event) => {
+    event.preventDefault();
+    press(`M TITULO ${event.target.elements.titulo.value}`);
+  });
+  find("momentos").addEventListener("submit", (event) => {
+    event.preventDefault();
+    const word = (event.submitter && event.submitter.value) || "ABRE";
+    press(`M ${word} ${event.target.elements[word.toLowerCase()].value}`);
+  });
+}

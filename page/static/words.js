@@ -1,0 +1,75 @@
+// The program's lines in words. What they say is the program's; docs/MANUAL.md has all of them.
+
+import { moment, number } from "./parts.js";
+
+const REFUSED = {
+  1: "a votação ainda não foi aberta: falta ABRE",
+  2: "a votação já foi aberta",
+  3: "a urna está lacrada: ninguém mais vota",
+  4: "este título não está no rol desta seção",
+  5: "este eleitor já votou, e não vota outra vez",
+  6: "há alguém identificado ou votando",
+  7: "ninguém está identificado: falta TITULO",
+  8: "ninguém está votando: nada a suspender",
+  9: "o encerramento é anterior à abertura",
+};
+
+const FLASH = { INTERNA: "interna", EXTERNA: "externa" };
+
+const FAULTS = [
+  [/^ERRO LINHA \d+$/, () => "a tecla não tem a forma: um título tem 12 algarismos, um momento 14"],
+  [/^ERRO OUTRA CARGA (\w+)$/, (f) => `a memória ${FLASH[f]} não tem a carga desta eleição`],
+  [/^ERRO SEM IMAGEM$/, () => "nenhuma das duas guarda uma votação"],
+  [/^ERRO SEM IMAGEM (\w+)$/, (f) => `a memória ${FLASH[f]}, de que a outra ia ser carregada, não guarda nenhuma votação`],
+  [/^ERRO EM USO (\w+)$/, (f) => `a memória ${FLASH[f]} está em uso, e não é apagada`],
+  [/^ERRO TABELAS/, () => "o arquivo não tem as tabelas de uma eleição"],
+  [/^ERRO ROL/, () => "o rol não tem a forma: um título de 12 algarismos em cada linha, em ordem crescente"],
+  [/^ERRO SECAO$/, () => "as tabelas não têm esta seção, ou ela tem outro número de eleitores que o rol"],
+];
+
+const LINES = [
+  [/^URNA PRONTA 0$/, () => "pronta: ninguém votou, e falta abrir"],
+  [/^URNA ABERTA (\d+)$/, (n) => `aberta: ${came(n)}`],
+  [/^URNA LACRADA (\d+)$/, (n) => `lacrada: ${came(n)}`],
+  [/^CARGA (\d+) (\d+) (\d+)$/, (z, s, n) => `as duas memórias estão carregadas para a seção ${s} da zona ${z}, de ${number(n)} eleitores`],
+  [/^REPOSTA (\w+) (\d+) (\d+) (\d+)$/, (f, z, s, n) => `a memória ${FLASH[f]} guarda outra vez a votação da seção ${s} da zona ${z}: ${came(n)}`],
+  [/^ABERTA (\d+)$/, (m) => `a votação está aberta desde ${moment(m)}`],
+  [/^ENCERRADA (\d+) (\d+)$/, (m, n) => `a votação está lacrada desde ${moment(m)}: ${came(n)}`],
+  [/^ELEITOR (\d+)$/, (t) => `o título ${t} está identificado: falta LIBERA`],
+  [/^LIBERADO$/, () => "a urna está liberada: o eleitor vota"],
+  [/^CANCELADO$/, () => "a identificação foi desfeita"],
+  [/^SUSPENSO$/, () => "a vez foi suspensa: nada foi contado, e o eleitor pode voltar"],
+  [/^FIM$/, () => "este voto está nas duas memórias"],
+  [/^RECUSA (\d)$/, (k) => `recusado: ${REFUSED[k]}`],
+  [/^ACEITO (\d+) (\d+)$/, (z, s) => `inteiro, e da seção ${s} da zona ${z}`],
+  [/^REPETIDO (\d+) (\d+)$/, (z, s) => `o mesmo boletim outra vez, da seção ${s} da zona ${z}: não conta de novo`],
+  [/^CONFLITO (\d+) (\d+)$/, (z, s) => `outro boletim da seção ${s} da zona ${z}, que já tem um: não conta`],
+  [/^PARTE \w+ (\d+)$/, (i) => `a parte ${i} é a primeira que não está como foi escrita`],
+  [/^CAMPO (\d+)$/, (k) => `o campo ${k} é o primeiro que não pode estar ali`],
+  [/^SOMA (\d+) (\d+) (\d+)$/, (k, n, m) => `no campo ${k} está a soma ${m}, e o que é somado dá ${n}`],
+  [/^ESTRANHO$/, () => "é um boletim, mas não desta eleição"],
+  [/^CONFERE$/, () => "o registro e o boletim dizem o mesmo"],
+  [/^DIFERE /, () => "o registro e o boletim não dizem o mesmo"],
+  ...FAULTS,
+];
+
+function came(n) {
+  return n === "0" ? "ninguém votou ainda" : n === "1" ? "1 veio" : `${number(n)} vieram`;
+}
+
+// What a line says, in words; nothing where it has none.
+export function inWords(line) {
+  for (const [form, say] of LINES) {
+    const found = form.exec(line);
+    if (found) {
+      return say(...found.slice(1));
+    }
+  }
+  return "";
+}
+
+// Where a command shows no line its number is all that it says.
+const NUMBERS = { 1: "faltou memória ao computador", 20: "um arquivo não pôde ser lido ou gravado", 21: "a memória interna falhou",
+  22: "a memória externa falhou", 23: "a tela falhou", "-9": "o programa foi parado" };
+
+export const ofNumber = (status) => NUMBERS[status] || `o programa terminou com o número ${status}`;
