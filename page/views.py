@@ -1,0 +1,284 @@
+"""The page in a browser: a whole day by clicks and by keys, the power pulled, a flash replaced, the report, the totals, and a hostile name."""
+
+import os
+import re
+
+from client import fields
+from commands import want
+from elections import names_in
+from programs import EXAMPLES, content
+
+# Keys of the keyboard that have no character.
+ENTER, BACKSPACE = "\ue007", "\ue003"
+PHONE = 390
+HOSTILE = '<script>hacked=1</script><img src=x onerror=hacked=1>'
+
+
+class Page:
+    """The page in one browser."""
+
+    def __init__(self, browser, address, pictures):
+        self.browser, self.address, self.pictures = browser, address, pictures
+        browser.go(address)
+        browser.wait("body[data-ready]", bool, "the page does not begin")
+
+    def reply(self, form, what):
+        return self.browser.wait("#resposta", lambda text: re.search(form, text), what)
+
+    def screen(self, form, what):
+        return self.browser.wait("#tela", lambda text: re.search(form, text), what)
+
+    def view(self, name):
+        self.browser.click(f'nav a[href="#{name}"]')
+
+    def clerk(self, word, form):
+        button = "#titulo button" if word == "TITULO" else f'.clerk button[value="{word}"]'
+        self.browser.click(button)
+        self.reply(form, word)
+
+    def title(self, voter):
+        self.browser.clear("#titulo input")
+        self.browser.give("#titulo input", f"{10_000_000_000 + voter:012}")
+
+    def identify(self, voter):
+        self.title(voter)
+        self.clerk("TITULO", "ELEITOR")
+        self.clerk("LIBERA", "LIBERADO")
+        self.screen("SEU VOTO PARA", "the first vote is not called")
+
+    def click_keys(self, keys):
+        for it in keys:
+            self.browser.click(f'[data-press="{it}"]')
+
+    def picture(self, name):
+        """A picture of the view, and one at a phone's width, where nothing may lie beside the paper."""
+        self.browser.picture(os.path.join(self.pictures, f"{name}.png"))
+        wide = self.browser.picture(os.path.join(self.pictures, f"{name}-celular.png"), PHONE)
+        want(wide <= PHONE, f"{name}: at a phone's width the page is {wide} wide")
+
+    def texts(self, selector):
+        return self.browser.run("return [...document.querySelectorAll(arguments[0])].map((it) => it.textContent)", selector)
+
+    def file(self, name):
+        return self.browser.run("return fetch(arguments[0]).then((it) => it.text())", f"/arquivo/{name}")
+
+
+def begin(page, choice):
+    page.view("urna")
+    page.browser.run("const it = document.querySelector('#comeca select'); it.value = arguments[0]; it.dispatchEvent(new Event('change'))", choice)
+    page.browser.click("#comeca button")
+    page.browser.wait("#carga", lambda text: "CARGA" in text, "the machine is not loaded")
+
+
+def opened(page):
+    """A key before the opening is refused, and the zero report is of zeros."""
+    page.clerk("TITULO", "RECUSA 1")
+    page.clerk("ABRE", "ABERTA 20261004080000")
+    page.clerk("ABRE", "RECUSA 2")
+    page.clerk("LIBERA", "RECUSA 7")
+
+
+def by_clicks(page):
+    page.identify(1)
+    page.click_keys("1300")
+    page.screen("VOTO DE LEGENDA", "a vote for the party is not told")
+    page.click_keys("1")
+    page.screen("ANA", "the candidate is not told")
+    page.picture("urna")
+    page.click_keys("C1R99")
+    page.screen("VOTO NULO", "a null vote is not told")
+    page.click_keys("R45C")
+    page.screen("FIM", "the first voter sees no FIM")
+    page.picture("fim")
+
+
+def by_keys(page):
+    page.title(2)
+    page.browser.press(ENTER)
+    page.reply("ELEITOR", "a title by keys")
+    page.clerk("LIBERA", "LIBERADO")
+    page.browser.run("document.querySelector('#terminal').focus()")
+    page.browser.press("b")
+    page.screen("BRANCO", "the key for blank")
+    # CONFIRMA with one digit, which is not taken, changes nothing.
+    page.browser.press(ENTER, "1", ENTER)
+    page.screen("Prefeito", "the second office is not called")
+    page.browser.press(BACKSPACE, "1", "3", ENTER)
+    page.screen("FIM", "the second voter sees no FIM")
+
+
+def suspended(page):
+    """One voter goes away and comes again; one confirmed a vote before."""
+    page.identify(3)
+    page.click_keys("13")
+    page.clerk("SUSPENDE", "SUSPENSO")
+    page.identify(3)
+    page.click_keys("45CBC")
+    page.screen("FIM", "the third voter sees no FIM")
+    page.title(1)
+    page.clerk("TITULO", "RECUSA 5")
+    page.title(4)
+    page.clerk("TITULO", "ELEITOR")
+    page.clerk("CANCELA", "CANCELADO")
+    page.identify(4)
+    page.click_keys("13001C")
+    page.screen("Prefeito", "the second vote is not called")
+    page.clerk("SUSPENDE", "FIM")
+    want(all("URNA ABERTA 4" in it for it in page.texts("#memorias .flash")), "each flash alone does not hold the four voters")
+
+
+def sealed(page):
+    """The paper has the counts of the file."""
+    page.clerk("ENCERRA", "ENCERRADA 20261004170000 4")
+    page.view("boletim")
+    for command, answer in (("confere", "ACEITO 1 42"), ("reconta", "CONFERE")):
+        page.browser.click(f"#{command}")
+        page.browser.wait("#conferido", lambda text: answer in text, command)
+    page.picture("boletim")
+    first, council, mayor = fields(page.file("urna.bu"))
+    counts = dict(zip(*[iter(page.texts("[data-paper=boletim] .count span"))] * 2))
+    want(first["COMP"] == "4" and counts["TOTAL"] == "4", f"not four voters: {counts}")
+    told = council["13001"], council["LEGP"], council["BRAN"], mayor["45"], mayor["13"], mayor["BRAN"], mayor["NULO"]
+    want(told == ("2", "1", "1", "1", "1", "1", "1"), f"the file has other votes: {told}")
+    shown = [counts[it] for it in ("13001 ANA", "45 PB", "45 DAVI", "13 CARLA")]
+    want(shown == ["2", "1", "1", "1"], f"the paper has other votes: {shown}")
+    zeros = page.texts("[data-paper=zeresima] .count span:last-child")
+    want(zeros and set(zeros) == {"0"}, f"the zero report: {zeros}")
+
+
+def day(page):
+    """A whole day by clicks and by keys"""
+    begin(page, "dia")
+    for part in (opened, by_clicks, by_keys, suspended, sealed):
+        part(page)
+
+
+def pulled(page):
+    """The power pulled by clicks, and a flash replaced"""
+    begin(page, "dia")
+    page.clerk("ABRE", "ABERTA")
+    page.view("tomada")
+    page.identify(1)
+    page.click_keys("13001C45")
+    page.screen("DAVI", "the candidate is not told")
+    page.browser.click("#qual option:nth-child(12)")
+    page.browser.click("#arma")
+    page.browser.wait("#energia", lambda text: "operação 11" in text, "it is not armed")
+    page.click_keys("C")
+    page.browser.wait("#energia", lambda text: "Desligada" in text, "the power is not pulled")
+    page.browser.click("#liga")
+    page.browser.wait("#corte", lambda text: "Ao ligar" in text and "operação 11 de 29" in text, "what is held is not told")
+    want("URNA ABERTA 1" in page.browser.text("#corte") and "RECUSA 5" in page.browser.text("#corte"), "the voter is not counted")
+    page.picture("tomada")
+    page.browser.click("#desliga")
+    page.browser.wait("#energia", lambda text: "Desligada" in text, "it is not switched off")
+    page.browser.click("[data-troca=interna]")
+    page.browser.wait('[data-memoria="interna"]', lambda text: "ERRO OUTRA CARGA INTERNA" in text, "the blank flash")
+    page.picture("troca")
+    page.browser.click("[data-repoe=interna]")
+    page.browser.wait("#reposta", lambda text: "REPOSTA INTERNA 1 42 1" in text, "repoe")
+    page.browser.click("#liga")
+    page.browser.wait("#energia", lambda text: "Ligada" in text, "it does not start")
+
+
+def pairs_in(text):
+    """What a picture says of itself: each label with its number."""
+    return [(label.strip(), int(value)) for label, _, value in (it.rpartition(":") for it in text.split(";") if it.strip())]
+
+
+def want_totals(page, lines, names):
+    """The numbers of the page are those of the lines."""
+    page.browser.run("document.querySelector('#totalizado details').open = true")
+    want(page.browser.run("return document.querySelector('#totalizado pre').textContent") == "\n".join(lines), "other lines are shown")
+    code, candidates, blocs, seats = "", {}, {}, {}
+    for line in lines:
+        word, *rest = line.split(" ")
+        code = rest[0] if word == "CARGO" else code
+        if word == "CANDIDATO" and rest[2] != "0":
+            candidates.setdefault(code, []).append((f"{rest[0]} {names['candidatos'][f'{code} {rest[0]}']}", int(rest[2])))
+        if word in ("PARTIDO", "FEDERACAO") and (rest[2], rest[6]) != ("0", "0"):
+            blocs.setdefault(code, []).append(int(rest[2]))
+            seats.update({rest[0]: int(rest[6])} if rest[6] != "0" else {})
+    for code, voted in candidates.items():
+        pictures = [pairs_in(it) for it in page.texts(f'[data-cargo="{code}"] .bars desc')]
+        want(pictures[-1] == voted, f"office {code}: the bars have {pictures[-1][:5]} and not {voted[:5]}")
+        want(code not in blocs or [value for _, value in pictures[0]] == blocs[code], f"office {code}: the parties' bars: {pictures[0]}")
+    drawn = page.browser.run("return [...document.querySelectorAll('circle[data-bloc]')].map((it) => it.dataset.bloc)")
+    want({it: drawn.count(it) for it in drawn} == seats, f"the seats are {drawn} and not {seats}")
+    vacant = sum(int(it.split()[2]) for it in lines if it.startswith("VAGAS VAZIAS"))
+    want(page.browser.run("return document.querySelectorAll('circle.vacant').length") == vacant, "other seats are vacant")
+    rounds = [it.split() for it in lines if it.startswith("SOBRA")]
+    shown = [page.texts(f".contest tbody tr td:nth-child({at})") for at in (1, 2)]
+    for it in rounds:
+        want(it[1] in shown[0] and it[3] in shown[1], f"the round {it} is not told")
+
+
+def rehearsed(page, program, work):
+    """The totals of the rehearsal, of a federation, and of files that are chosen, as `totaliza` tells them"""
+    page.view("totais")
+    program.run(work, ["ensaio", "400"])
+    with open(os.path.join(work, "lista"), "w") as file:
+        file.write("ensaio.bu\n")
+    page.browser.click('#exemplos [value="ensaio"]')
+    page.browser.wait("#totalizado", lambda text: "C10100" in text, "the rehearsal is not totalled")
+    want_totals(page, program.run(work, ["totaliza", "ensaio.toml", "lista"]).lines, names_in(content(work, "ensaio.toml")))
+    page.picture("totais")
+    page.browser.click('#exemplos [value="federacao"]')
+    page.browser.wait("#totalizado", lambda text: "FRENTE" in text, "the federation is not totalled")
+    lines = program.run(EXAMPLES, ["totaliza", "federacao.toml", "federacao-lista.txt"]).lines
+    want_totals(page, lines, names_in(content(EXAMPLES, "federacao.toml")))
+    page.picture("federacao")
+    page.browser.give("#soma [name=arquivos]", "\n".join(os.path.join(EXAMPLES, it) for it in ("tabelas.toml", "secao43.bu", "federacao-42.bu")))
+    page.browser.click("#soma button")
+    page.browser.wait("#totalizado", lambda text: "ESTRANHO" in text, "the chosen files are not totalled")
+    with open(os.path.join(work, "lista"), "w") as file:
+        file.write("".join(os.path.join(EXAMPLES, it) + "\n" for it in ("secao43.bu", "federacao-42.bu")))
+    lines = program.run(work, ["totaliza", os.path.join(EXAMPLES, "tabelas.toml"), "lista"]).lines
+    want_totals(page, lines, names_in(content(EXAMPLES, "tabelas.toml")))
+
+
+def hostile(page, work):
+    """A name that is markup is shown as text"""
+    tables = content(EXAMPLES, "tabelas.toml").decode().replace('"ANA"', f"'{HOSTILE}'").replace('"PA"', f"'{HOSTILE}'")
+    with open(os.path.join(work, "<b>tabelas.toml"), "w") as file:
+        file.write(tables)
+    page.view("urna")
+    page.browser.run("const it = document.querySelector('#comeca select'); it.value = 'propria'; it.dispatchEvent(new Event('change'))")
+    page.browser.give("#comeca [name=tabelas]", os.path.join(work, "<b>tabelas.toml"))
+    page.browser.give("#comeca [name=rol]", os.path.join(EXAMPLES, "rol.txt"))
+    page.browser.click("#comeca button")
+    page.browser.wait("#carga", lambda text: "CARGA 1 42 4" in text, "the tables are not loaded")
+    page.clerk("ABRE", "ABERTA")
+    page.identify(1)
+    page.click_keys("13001")
+    page.screen(re.escape(HOSTILE), "the name is not shown as text")
+    page.picture("nome")
+    page.click_keys("C45C")
+    page.screen("FIM", "no FIM")
+    page.clerk("ENCERRA", "ENCERRADA")
+    page.view("boletim")
+    want(any(HOSTILE in it for it in page.texts(".paper span")), "the name is not on the paper")
+    page.view("totais")
+    page.browser.click("#soma [name=desta]")
+    page.browser.run("document.querySelector('#soma [name=arquivos]').value = ''; document.querySelector('#soma [name=arquivos]').dispatchEvent(new Event('change'))")
+    page.browser.click("#soma button")
+    page.browser.wait("#totalizado", lambda text: "ACEITO 1 42" in text and "hacked" in text, "the report is not totalled")
+    found = page.browser.run("return [typeof hacked, document.querySelectorAll('main script, main img, main b').length]")
+    want(found == ["undefined", 0], f"a name became markup: {found}")
+
+
+def tried(new, program, address, pictures, work):
+    page = Page(new(), address, pictures)
+    for part, words in ((day, ()), (pulled, ()), (rehearsed, (program, work)), (hostile, (work,))):
+        part(page, *words)
+        yield part.__doc__
+    other = Page(new(), address, pictures)
+    begin(other, "dia")
+    other.clerk("LIBERA", "RECUSA 1")
+    page.view("urna")
+    page.clerk("LIBERA", "RECUSA 3")
+    yield "Two browsers have two sessions"
+    for it in (page, other):
+        complaints = [line for line in it.browser.log() if "favicon" not in line]
+        want(not complaints, f"the browser complains: {complaints[:3]}")
+    yield "The browser complains of nothing"
