@@ -66,7 +66,7 @@ class Machine:
         self.zero, self.count, self.clerk, self.looked_at = [], [], None, (None, None)
         ended = self.run(["carga", TABLES, ROLL, zone, section])
         if ended.status == 0:
-            self.is_loaded, self.is_on = True, True
+            self.is_loaded, self.is_on, self.loaded = True, True, ended
             self.size = len(content(self.folder, FLASHES[0]))
             self.frames = [content(self.folder, name)[:HEADER].ljust(self.size, b"\0") for name in FLASHES]
             self.opening = self.vota([])
@@ -87,7 +87,7 @@ class Machine:
         self.want_on()
         if not 0 < len(line) <= LONGEST_PRESS or not line.isascii() or not line.isprintable():
             raise Refused(400, "não é uma tecla")
-        if len(self.visit) >= MOST_PRESSES:
+        if len(self.visit) >= MOST_PRESSES and begins(line, "E"):
             raise Refused(409, "são teclas demais em uma só vez: o mesário deve suspendê-la")
         presses = [*self.visit, line]
         if self.armed and self.pull(presses):
@@ -281,6 +281,7 @@ class Machine:
         return {
             "carregada": True,
             "ligada": self.is_on,
+            "carga": self.loaded.told(),
             "inicio": self.opening.told(),
             "visita": self.shown,
             "mesario": self.clerk,

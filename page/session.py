@@ -88,7 +88,7 @@ class Session:
             zone, section = str(given(asked, "zona", NUMBER)), str(given(asked, "secao", NUMBER))
         ended = self.machine.load(tables, roll, zone, section)
         self.tables, self.names, self.titles = tables, elections.names_in(tables), elections.titles_in(roll)
-        return {"carga": ended.told(), **self.election(), **self.state()}
+        return {**self.election(), **self.state(), "carga": ended.told()}
 
     def press(self, asked):
         lines = self.machine.press(given(asked, "tecla", TEXT))

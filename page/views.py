@@ -146,10 +146,23 @@ def sealed(page):
     want(zeros and set(zeros) == {"0"}, f"the zero report: {zeros}")
 
 
+def printed(page):
+    """What is printed is one column of paper, and nothing else."""
+    page.browser.run("window.printed = 0; window.print = () => { window.printed += 1; }")
+    page.browser.click(".sheet:last-child button")
+    want(page.browser.run("return [window.printed, document.body.dataset.print].join()") == "1,boletim", "the report is not printed")
+    page.browser.command("Emulation.setEmulatedMedia", {"media": "print"})
+    seen = "return [...document.querySelectorAll('h1, .sheet button, .paper')].filter((it) => it.checkVisibility({ visibilityProperty: true })).map((it) => it.dataset.paper)"
+    want(page.browser.run(seen) == ["boletim"], f"more than the report is printed: {page.browser.run(seen)}")
+    page.picture("papel")
+    page.browser.command("Emulation.setEmulatedMedia", {"media": ""})
+    page.browser.run("dispatchEvent(new Event('afterprint'))")
+
+
 def day(page):
     """A whole day by clicks and by keys"""
     begin(page, "dia")
-    for part in (opened, by_clicks, by_keys, suspended, sealed):
+    for part in (opened, by_clicks, by_keys, suspended, sealed, printed):
         part(page)
 
 
@@ -207,6 +220,7 @@ def want_totals(page, lines, names):
     want({it: drawn.count(it) for it in drawn} == seats, f"the seats are {drawn} and not {seats}")
     vacant = sum(int(it.split()[2]) for it in lines if it.startswith("VAGAS VAZIAS"))
     want(page.browser.run("return document.querySelectorAll('circle.vacant').length") == vacant, "other seats are vacant")
+    page.browser.run("document.querySelector('#totalizado details').open = false")
     rounds = [it.split() for it in lines if it.startswith("SOBRA")]
     shown = [page.texts(f".contest tbody tr td:nth-child({at})") for at in (1, 2)]
     for it in rounds:
@@ -214,7 +228,7 @@ def want_totals(page, lines, names):
 
 
 def rehearsed(page, program, work):
-    """The totals of the rehearsal, of a federation, and of files that are chosen, as `totaliza` tells them"""
+    """The totals of the rehearsal, of a federation, and of files that are chosen and dropped, as `totaliza` tells them"""
     page.view("totais")
     program.run(work, ["ensaio", "400"])
     with open(os.path.join(work, "lista"), "w") as file:
@@ -228,13 +242,33 @@ def rehearsed(page, program, work):
     lines = program.run(EXAMPLES, ["totaliza", "federacao.toml", "federacao-lista.txt"]).lines
     want_totals(page, lines, names_in(content(EXAMPLES, "federacao.toml")))
     page.picture("federacao")
-    page.browser.give("#soma [name=arquivos]", "\n".join(os.path.join(EXAMPLES, it) for it in ("tabelas.toml", "secao43.bu", "federacao-42.bu")))
+    names = ["tabelas.toml", "secao43.bu", "federacao-42.bu"]
+    lines = chosen_lines(program, work, names)
+    page.browser.give("#soma [name=arquivos]", "\n".join(os.path.join(EXAMPLES, it) for it in names))
     page.browser.click("#soma button")
     page.browser.wait("#totalizado", lambda text: "ESTRANHO" in text, "the chosen files are not totalled")
+    want_totals(page, lines, names_in(content(EXAMPLES, names[0])))
+    drop(page, [(it, content(EXAMPLES, it).decode()) for it in names[:2]])
+    page.browser.click("#soma button")
+    page.browser.wait("#totalizado", lambda text: "secao43.bu" in text and "ESTRANHO" not in text, "the dropped files are not totalled")
+    want_totals(page, chosen_lines(program, work, names[:2]), names_in(content(EXAMPLES, names[0])))
+
+
+def chosen_lines(program, work, names):
+    """What `totaliza` tells of these examples, of which the first is the tables."""
     with open(os.path.join(work, "lista"), "w") as file:
-        file.write("".join(os.path.join(EXAMPLES, it) + "\n" for it in ("secao43.bu", "federacao-42.bu")))
-    lines = program.run(work, ["totaliza", os.path.join(EXAMPLES, "tabelas.toml"), "lista"]).lines
-    want_totals(page, lines, names_in(content(EXAMPLES, "tabelas.toml")))
+        file.write("".join(os.path.join(EXAMPLES, it) + "\n" for it in names[1:]))
+    return program.run(work, ["totaliza", os.path.join(EXAMPLES, names[0]), "lista"]).lines
+
+
+def drop(page, files):
+    """Files dropped on the page."""
+    page.browser.run(
+        "const held = new DataTransfer();"
+        "for (const [name, text] of arguments[0]) { held.items.add(new File([text], name)); }"
+        "document.querySelector('#solta').dispatchEvent(new DragEvent('drop', { dataTransfer: held, cancelable: true, bubbles: true }))",
+        files,
+    )
 
 
 def hostile(page, work):

@@ -27,8 +27,15 @@ function printed(line, code, names) {
   return word === "ENCERRADA" ? make("p", {}, `Encerrada em ${moment(value)}. Compareceram ${number(more)}`) : counted(line, code, names);
 }
 
+// Of which section the paper is: that of the load.
+function section(state) {
+  const [, zone, place, voters] = state.carga.linhas[0].split(" ");
+  return make("p", {}, `Zona ${zone}, seção ${place}, ${number(voters)} eleitores`);
+}
+
 // One column of paper, and a button that prints it alone.
-function paper(kind, lines, names) {
+function paper(kind, lines, page) {
+  const names = page.names;
   let code = "";
   const inside = lines.map((line) => {
     code = line.startsWith("CARGO ") ? line.split(" ")[1] : code;
@@ -39,6 +46,7 @@ function paper(kind, lines, names) {
     document.body.dataset.print = kind;
     window.print();
   });
+  inside.splice(1, 0, section(page.state));
   return make("div", { class: "sheet" }, print, make("article", { class: "paper", "data-paper": kind, tabindex: "0" }, ...inside));
 }
 
@@ -47,10 +55,10 @@ export function show(page) {
   const [zero, count] = [state.zeresima || [], state.contagem || []];
   const papers = [];
   if (zero.length) {
-    papers.push(paper("zeresima", zero, page.names));
+    papers.push(paper("zeresima", zero, page));
   }
   if (count.length) {
-    papers.push(paper("boletim", [...count.slice(1, 2), count[0], ...count.slice(2)], page.names));
+    papers.push(paper("boletim", [...count.slice(1, 2), count[0], ...count.slice(2)], page));
   }
   find("papeis").replaceChildren(...papers);
   find("sem-boletim").hidden = papers.length > 0 || Boolean(state.lacrada);

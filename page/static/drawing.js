@@ -61,6 +61,6 @@ export function halfCircle(groups, vacant) {
   });
   const said = [...groups.filter((it) => it.seats).map((it) => `${it.label}: ${it.seats}`), `vazias: ${vacant}`].join("; ");
   const box = `${-outer - 40} ${-outer - 34} ${2 * outer + 80} ${outer + 68}`;
-  const picture = make("svg:svg", { viewBox: box, class: "half", role: "img" }, make("svg:title", {}, "As vagas por partido"), make("svg:desc", {}, said), ...drawn);
+  const picture = make("svg:svg", { viewBox: box, width: 2 * outer + 80, class: "half", role: "img" }, make("svg:title", {}, "As vagas por partido"), make("svg:desc", {}, said), ...drawn);
   return make("figure", {}, picture, make("figcaption", {}, said));
 }

@@ -87,18 +87,22 @@ function seats(contest, names) {
   ];
 }
 
-const ARTICLES = { 2: "art. 109, I, II e § 2º: a maior média, entre os que têm 80% do quociente e candidato com 20%",
-  3: "art. 109, III: a maior média, entre todos os partidos com votos e candidato sem vaga" };
+const PHASES = {
+  2: ["art. 109, I, II e § 2º", "A fase 2 é da maior média, entre os partidos com 80% do quociente e um candidato ainda sem vaga com 20%."],
+  3: ["art. 109, III", "A fase 3 é da maior média, entre todos os partidos com votos e um candidato ainda sem vaga."],
+};
 
 // The rounds of the remaining seats. What else a lawyer is to be shown of a contest, as its certificate, comes behind them.
 function rounds(contest, names) {
   if (!contest.blocs.length) {
     return [];
   }
-  const rows = contest.rounds.map((it) => [it.round, it.phase, blocName(names, it), ARTICLES[it.phase] || ""]);
+  const rows = contest.rounds.map((it) => [it.round, it.phase, blocName(names, it), (PHASES[it.phase] || [""])[0]]);
+  const said = Object.keys(PHASES).filter((phase) => contest.rounds.some((it) => it.phase === phase)).map((phase) => make("p", { class: "hint" }, PHASES[phase][1]));
   return [
     make("h4", {}, "As sobras, vaga por vaga"),
     rows.length ? table(["sobra", "fase", "a vaga vai para", "Código Eleitoral"], rows, "As rodadas") : make("p", {}, "Nenhuma vaga sobrou."),
+    ...said,
     make("p", {}, contest.vacant ? `${number(contest.vacant)} ${contest.vacant === 1 ? "vaga fica vazia" : "vagas ficam vazias"}.` : "Nenhuma vaga fica vazia."),
   ];
 }
