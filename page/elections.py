@@ -1,6 +1,5 @@
 """The elections that the page has to begin with, and the names that the tables of an election have."""
 
-import os
 import tomllib
 
 from programs import EXAMPLES, Refused, content

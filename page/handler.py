@@ -148,6 +148,11 @@ class Handler(http.server.BaseHTTPRequestHandler):
             # What of the request was not read is not taken for another one.
             self.close_connection = True
             self.send_object(refused.status, {"erro": refused.why})
+        except ConnectionError:
+            self.close_connection = True
+        except OSError:
+            self.close_connection = True
+            self.send_object(500, {"erro": "um arquivo da sessão não pôde ser lido ou gravado"})
 
     def send_object(self, status, told):
         self.send(status, "application/json; charset=utf-8", json.dumps(told, ensure_ascii=False).encode(), {})
@@ -159,8 +164,7 @@ class Handler(http.server.BaseHTTPRequestHandler):
         if self.close_connection:
             self.send_header("Connection", "close")
         self.end_headers()
-        if self.command != "HEAD":
-            self.wfile.write(data)
+        self.wfile.write(data)
 
 
 class Server(http.server.ThreadingHTTPServer):

@@ -258,11 +258,12 @@ class Machine:
 
     # ---- the results
 
-    def has_results(self):
-        return all(os.path.exists(os.path.join(self.folder, it)) for it in (REPORT, RECORD))
+    def is_sealed(self):
+        """Whether the files of results were written."""
+        return self.is_loaded and all(os.path.exists(os.path.join(self.folder, it)) for it in (REPORT, RECORD))
 
     def result(self, name):
-        if name not in (REPORT, RECORD) or not self.is_loaded or not self.has_results():
+        if name not in (REPORT, RECORD) or not self.is_sealed():
             raise Refused(404, "a votação não está lacrada")
         return content(self.folder, name)
 
@@ -291,5 +292,5 @@ class Machine:
             "memorias": self.memories(),
             "zeresima": self.zero,
             "contagem": self.count,
-            "lacrada": self.has_results(),
+            "lacrada": self.is_sealed(),
         }

@@ -1,4 +1,4 @@
-"""The power pulled at each operation of one commit, by requests: whoever saw FIM is in the count, once, and whoever did not is asked for by
+"""The power pulled at each operation of one commit, by requests: whoever saw FIM begin is in the count, once, and whoever did not is asked for by
 the program itself."""
 
 from client import Client, fields
@@ -38,11 +38,13 @@ def voter_at(client, number):
     client.press(*ballot(2))
     client.ask("arma", operacao=number)
     cut = want_cut(client.press("E C"), number, what)
-    saw = "FIM" in cut["linhas"]
+    # The last operation is the line itself, of which a part was shown.
+    saw = any("FIM".startswith(it) for it in cut["linhas"] if it)
+    want(saw == (number == len(cut["operacoes"])), f"{what}: the screen showed {cut['linhas']}")
     told = client.ask("liga")
     came, again = told["inicio"]["linhas"], told["corte"]["volta"]
     want((came, again) in ((["URNA ABERTA 1"], f"ELEITOR {title(2)[-12:]}"), (["URNA ABERTA 2"], "RECUSA 5")), f"{what}: {came}, {again}")
-    want(again == "RECUSA 5" or not saw, f"{what}: whoever saw FIM is not counted")
+    want(again == "RECUSA 5" or not saw, f"{what}: whoever saw FIM begin is not counted")
     if again != "RECUSA 5":
         client.press(*ballot(2))
         want(client.press("E C")["linhas"] == ["FIM"], f"{what}: the voter could not come again")
@@ -82,6 +84,20 @@ def moments(port):
     return 6
 
 
+def drawn(port):
+    """The power pulled at drawn operations"""
+    for _ in range(5):
+        client = begun(port)
+        client.press(*ballot(2))
+        client.ask("arma", operacao=None)
+        told = client.press("E C")
+        want_cut(told, told["corte"]["parou"], "a drawn operation")
+        client.ask("liga")
+        client.press(*ballot(3))
+        want(client.press("E C")["linhas"] == ["FIM"], "behind a drawn operation the poll does not go on")
+    return 5
+
+
 def exchanged(port):
     """Each flash lost and replaced, the other one lost behind it"""
     client = begun(port)
@@ -99,5 +115,5 @@ def exchanged(port):
 
 
 def tried(port):
-    for part in (voters, moments, exchanged):
+    for part in (voters, moments, drawn, exchanged):
         yield f"{part.__doc__}: {part(port)}"

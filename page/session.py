@@ -11,7 +11,7 @@ import threading
 
 import elections
 import totals
-from machine import WORDS, Machine
+from machine import REPORT, WORDS, Machine
 from programs import Refused
 
 MOST_SESSIONS = 32
@@ -129,11 +129,13 @@ class Session:
         return {"resposta": self.machine.recount().told()}
 
     def totals(self, asked):
-        """The totals of an example, or of the files that are given; of these under the tables of the machine, where no others are."""
+        """The totals of an example, of the example day with the report of this machine, or of the files that are given; of these under the tables of the machine, where no others are."""
         folder = self.path("totais")
         if "exemplo" in asked:
             totals.anew(folder)
             tables, reports = elections.reports(self.program, folder, given(asked, "exemplo", TEXT))
+            if asked["exemplo"] == "dia" and self.machine.is_sealed():
+                reports = [(REPORT, self.machine.result(REPORT)), *reports]
             return totals.tell(self.program, folder, tables, reports)
         tables = file_given(asked, "tabelas", elections.MOST_TABLES) if asked.get("tabelas") is not None else self.tables
         if tables is None:

@@ -159,10 +159,17 @@ def printed(page):
     page.browser.run("dispatchEvent(new Event('afterprint'))")
 
 
+def totalled(page):
+    """With the other section of the example, the report of this day."""
+    page.view("totais")
+    page.browser.click('#exemplos [value="dia"]')
+    page.browser.wait("#totalizado", lambda text: "ACEITO 1 42" in text and "2 de 2 seções" in text, "the day is not totalled")
+
+
 def day(page):
     """A whole day by clicks and by keys"""
     begin(page, "dia")
-    for part in (opened, by_clicks, by_keys, suspended, sealed, printed):
+    for part in (opened, by_clicks, by_keys, suspended, sealed, printed, totalled):
         part(page)
 
 
