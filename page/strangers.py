@@ -20,8 +20,10 @@ def strangers(port):
     client = Client(port)
     client.ask("comeca", exemplo="dia")
     for host in ("urna.example", f"urna.example:{port}", "127.0.0.1", f"127.0.0.1:{port + 1}", ""):
-        want_refused(client, f"host {host!r}", [400, 403], Host=host)
-        want_refused(client, f"the page for host {host!r}", [400, 403], way="GET", path="/", body=None, Host=host)
+        # So asks a page whose name was made to lead to this machine.
+        want_refused(client, f"host {host!r}", [400, 403], Host=host, Origin=f"http://{host}")
+        for path in ("/", "/api/estado"):
+            want_refused(client, f"{path} for host {host!r}", [400, 403], way="GET", path=path, body=None, Host=host, Origin=None)
     for origin in ("http://urna.example", "null", f"https://127.0.0.1:{port}", f"http://127.0.0.1:{port + 1}", f"http://localhost:{port}", None):
         want_refused(client, f"origin {origin!r}", [403], Origin=origin)
     want_refused(client, "a request of another site", [403], Sec_Fetch_Site="cross-site")
