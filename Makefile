@@ -34,7 +34,9 @@ page: urna
 	@page/serve "$(URNA)" $(PORT)
 
 check-page:
-	@page/check && $(MAKE) --silent urna && page/check "$(URNA)"
+	@page/check
+	@$(MAKE) --silent urna
+	page/check "$(URNA)"
 
 test:
 	.ci/run
