@@ -14,7 +14,7 @@ import time
 BROWSERS, DRIVERS = ("chromium", "chromium-browser", "google-chrome"), ("chromedriver",)
 # The name by which WebDriver calls an element.
 ELEMENT = "element-6066-11e4-a52e-4f735466cecf"
-LONGEST = 30
+LONGEST = 60
 
 
 def there():
@@ -67,8 +67,10 @@ class Driver:
     def new(self, width=1280, height=1000):
         """A browser with a profile of its own."""
         profile = os.path.join(self.folder, f"profile-{len(self.browsers)}")
-        words = ["--headless=new", "--no-sandbox", "--disable-gpu", "--disable-dev-shm-usage", "--no-first-run", "--hide-scrollbars"]
+        words = ["--headless=new", "--disable-gpu", "--disable-dev-shm-usage", "--no-first-run", "--hide-scrollbars"]
         words += [f"--user-data-dir={profile}", f"--window-size={width},{height}"]
+        # Its own sandbox refuses the user of a container.
+        words += ["--no-sandbox"] if os.geteuid() == 0 else []
         options = {"binary": self.browser, "args": words}
         asked = {"capabilities": {"alwaysMatch": {"browserName": "chrome", "goog:chromeOptions": options, "goog:loggingPrefs": {"browser": "ALL"}}}}
         self.browsers.append(Browser(self, self.ask("POST", "/session", asked)["sessionId"], width))
