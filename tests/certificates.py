@@ -7,7 +7,7 @@ are judged otherwise.
 import re
 from fractions import Fraction
 
-from seats import TABLE, Party, contest_of, first_phase, give_rest, next_round, told_averages
+from seats import Party, contest_of, first_phase, give_rest, next_round, other_lists, told_averages
 
 DECIMAL = r"(0|[1-9]\d{0,17})"
 OFFICE = re.compile(f"CARGO {DECIMAL}")
@@ -135,9 +135,4 @@ def other_certificates(text):
     for contest, told, answer in JUDGED.findall(text):
         if judged(contest, told) != answer:
             yield f"{contest!r}: {told!r} is {judged(contest, told)}"
-    lists = TABLE.findall(text.split("SUBSTITUTES", 1)[1])
-    if not lists:
-        yield "no row of substitutes is found"
-    for contest, told in lists:
-        if substitutes(contest) != told:
-            yield f"{contest!r}: the substitutes are {substitutes(contest)!r}"
+    yield from other_lists(text.split("SUBSTITUTES", 1)[1], "substitutes", substitutes)

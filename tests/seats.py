@@ -112,6 +112,16 @@ def averages(contest):
     return "".join(f" {-votes}/{divisor}>{number}" for _, votes, number, divisor in sorted(table))
 
 
+def other_lists(text, name, list_of):
+    """The rows of a contest and a list whose list is another."""
+    rows = TABLE.findall(text)
+    if not rows:
+        yield f"no row of {name} is found"
+    for contest, told in rows:
+        if list_of(contest) != told:
+            yield f"{contest!r}: the {name} are {list_of(contest)!r}"
+
+
 def other_rows(text):
     contests = re.sub(r"\\\n\s*", "", text.split("MAJORITIES", 1)[0])
     rows = ROW.findall(contests)
@@ -120,9 +130,4 @@ def other_rows(text):
     for name, contest, told in rows:
         if outcome(contest) != told:
             yield f"{name!r}: the law gives {outcome(contest)!r}"
-    tables = TABLE.findall(text.split("AVERAGES", 1)[1])
-    if not tables:
-        yield "no row of averages is found"
-    for contest, told in tables:
-        if averages(contest) != told:
-            yield f"{contest!r}: the averages are {averages(contest)!r}"
+    yield from other_lists(text.split("AVERAGES", 1)[1], "averages", averages)
