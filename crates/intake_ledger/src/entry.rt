@@ -1,10 +1,11 @@
 //! A report is entered in the body of a ledger, in its place: the number, a bit, a hash and sums. Nothing else is written, so that few
 //! pages of the body change.
 ghost use Rattle.std.specs.Prelude.{◌≡◌, ◌≢◌, ℕ, ◌+◌, ◌<◌, ◌≤◌, ◌^◌, ◌/◌, length, true, false};
+ghost use Rattle.std.specs.List.Sorted.{IsStrictlyIncreasing};
 ghost use Rattle.urna_outside.specs.Confined.{IsInRange};
 ghost use Rattle.urna_outside.specs.Flash.{overwrite};
 ghost use Rattle.election_tables.specs.TablesData.{IsTables};
-ghost use Rattle.poll_report.specs.Report.{IsReport, greatest_count, total_of, votes_of};
+ghost use Rattle.poll_report.specs.Report.{IsReport, greatest_count, numbers_of};
 ghost use Rattle.section_intake.specs.Sums.{votes_for};
 ghost use Rattle.intake_ledger.specs.Body.{StandsFor, is_body, is_marked, number_in, sum_in, sum_offset};
 ghost use Rattle.intake_ledger.specs.Entry.{HasAdded, HasSection, KeepsBytes};
@@ -94,8 +95,11 @@ fn add_report(into: &mut [u8], choices: &[(u32, Choice)], report: &Report)
     requires room { (place : ℕ) → place < length choices.now → sum_in into.old place + greatest_count < 2 ^ 64 }
     ensures { HasAdded choices.now report.now (length choices.now) into.old into.new }
 {
+    // As the choices of a panel rise by number, and the counts of a report too, one walk over the counts finds them all.
+    let mut at = 0;
     for (place, (panel, choice)) in choices.iter().enumerate() {
-        add_votes(into, place as u32, votes_in(report, *panel, *choice));
+        let votes = votes_in(report, *panel, *choice, &mut at);
+        add_votes(into, place as u32, votes);
     }
 }
 
@@ -115,42 +119,49 @@ fn add_votes(into: &mut [u8], place: u32, votes: u32)
     );
 }
 
-/// The votes of a panel's choice in a report; none where the report has no such panel.
-fn votes_in(report: &Report, panel: u32, choice: Choice) -> u32
+/// The votes of a panel's choice in a report; none where the report has no such panel. A number is looked for from a place on.
+fn votes_in(report: &Report, panel: u32, choice: Choice, at: &mut usize) -> u32
     requires { IsReport report.now }
     ensures votes { result ≡ votes_in (panel, choice) report.now }
     ensures few { result ≤ greatest_count }
 {
     if panel < report.offices.len() {
-        votes_of_choice(report.offices.get(panel), choice)
+        votes_of_choice(report.offices.get(panel), choice, at)
     } else {
         0
     }
 }
 
-/// The votes of a choice in an office's counts.
-fn votes_of_choice(office: &OfficeCount, choice: Choice) -> u32
-    requires { total_of office.now ≤ greatest_count }
+/// The votes of a choice in an office's counts, where a number is looked for from a place on.
+fn votes_of_choice(office: &OfficeCount, choice: Choice, at: &mut usize) -> u32
+    requires candidates { IsStrictlyIncreasing (numbers_of office.now.nominal) }
+    requires parties { IsStrictlyIncreasing (numbers_of office.now.parties) }
     ensures { result ≡ votes_of_choice choice office.now }
 {
     match choice {
-        Choice::Nominal(number) => votes_for(office.nominal.as_slice(), number),
-        Choice::Party(number) => votes_for(office.parties.as_slice(), u32::from(number)),
+        Choice::Nominal(number) => votes_for(office.nominal.as_slice(), number, at),
+        Choice::Party(number) => votes_for(office.parties.as_slice(), u32::from(number), at),
         Choice::Blank => office.blank,
         Choice::Null => office.null_votes,
     }
 }
 
-/// The votes of a number.
-fn votes_for(counts: &[Count], number: u32) -> u32
-    requires { votes_of counts.now ≤ greatest_count }
+/// The votes of a number. It is looked for from a place on, that of the number before it, or from the first one, where that is too far. The
+/// place is a guess, on which no answer rests.
+fn votes_for(counts: &[Count], number: u32, at: &mut usize) -> u32
+    requires { IsStrictlyIncreasing (numbers_of counts.now) }
     ensures { result ≡ votes_for number counts.now }
 {
-    let mut votes = 0;
-    for count in counts {
-        if count.number == number {
-            votes += count.votes;
-        }
+    // the place is that of another list of counts
+    if *at >= counts.len() || number < counts[*at].number {
+        *at = 0;
     }
-    votes
+    while *at + 1 < counts.len() && counts[*at + 1].number <= number {
+        *at += 1;
+    }
+    if *at < counts.len() && counts[*at].number == number {
+        counts[*at].votes
+    } else {
+        0
+    }
 }

@@ -12,7 +12,7 @@ add_votes-requires-clause-room c =
     let within : place < length c.args.choices.now = omega (arith, c.loop-place-test.true) in
     let few : place < most_sums = omega (arith, within, c.requires.few) in
     let same = sum_next c.args.choices.now c.args.report.now place c.args.into.now c.loop-place.into c.requires.size few c.loop-place.invariant in
-    omega (arith, same, c.requires.room place within, c.votes_in.ensures.few)
+    omega (arith, same, c.requires.room place within, c.votes_in-votes.ensures.few)
 
 pub loop-place-preserved : goal.loop-place-preserved
 loop-place-preserved c =
@@ -21,4 +21,4 @@ loop-place-preserved c =
     let few : place < most_sums = omega (arith, within, c.requires.few) in
     added_more c.args.choices.now c.args.report.now place c.args.into.now c.loop-place.into c.requires.size few c.loop-place.invariant
     (get_or c.args.choices.now place (0, choice.Nominal 0)) c.add_votes.new.into (slice_get-get_or c.args.choices.now place (0, choice.Nominal 0) within)
-    (c.add_votes.ensures.sum ∙ ap (λ (n : ℕ). sum_in c.loop-place.into place + n) c.votes_in.ensures.votes) c.add_votes.ensures.kept
+    (c.add_votes.ensures.sum ∙ ap (λ (n : ℕ). sum_in c.loop-place.into place + n) c.votes_in-votes.ensures.votes) c.add_votes.ensures.kept
