@@ -9,7 +9,7 @@ LEDGER = $(CURDIR)/crates/ledger_app/out/ledger_app
 # The minutes are those of four idle processors. A proof that was made before and where nothing has changed takes seconds.
 list:
 	@echo "make try          the example day, compiled without a proof: a minute"
-	@echo "make demo         both programs proved and built, a rehearsal of 400 voters, the example day, that day with a flash lost in the middle of it, the totals of an election with a federation, an election with two senators, and the ledger of a counting centre, killed in the middle, on real files in out/demo: 20 minutes from nothing, then seconds"
+	@echo "make demo         both programs proved and built, a rehearsal of 400 voters, the example day, that day with a flash lost in the middle of it, the totals of an election with a federation, the seats of both elections certified, an election with two senators, and the ledger of a counting centre, killed in the middle, on real files in out/demo: 20 minutes from nothing, then seconds"
 	@echo "make page         urna, and a page over it for the browser of this machine: both terminals, the power pulled, the report, the totals; at PORT, where it is said: at once after a demo"
 	@echo "make check-page   that page tried in Chromium without a window, whose pictures stay in out/page; status 2 where Chromium or its driver is not there: a minute after a demo"
 	@echo "make urna         urna, proved and built, and beside it, in urna_app.txt, of which commit and with which kit: part of a demo"
@@ -21,7 +21,7 @@ list:
 	@echo "make check-house  names, sessions and lines of the documents and the sources: seconds"
 	@echo "make bench        how long sessions, commits, the reading of tables, the text of a report, its file, a check of it, a recount, the totals of many reports, the ledger of them, the seats and a rehearsal take, as ratios to plainer programs, and what changed since the last time: a few minutes after a demo"
 	@echo "make crash-trial  both programs on real files, with a lost flash too, and as many killed sessions and ledgers as TRIALS says, drawn by SEED: a few minutes after a demo"
-	@echo "make hostile      both programs with refused memory, failing calls, odd surroundings, power cuts, exchanged flashes and changed inputs, drawn by SEED, for as long as MINUTES says: ten minutes after a demo"
+	@echo "make hostile      both programs with refused memory, failing calls, odd surroundings, power cuts, exchanged flashes, changed inputs and changed certificates of drawn elections, drawn by SEED, for as long as MINUTES says: ten minutes after a demo"
 
 try:
 	@examples/try

@@ -2,8 +2,8 @@
 programs in one folder, and runs of `abre` and `recebe` that are killed, or in which a call fails, and go on.
 
 Behind each of these both flashes, and each alone, hold the ledger with the first of the listed reports: as many as verdicts had begun to be
-shown, or one more (tests/takings.py). At last a report of each section is there once, and the sums are those that `totaliza`, a command of
-urna, tells of the accepted reports."""
+shown, or one more (tests/takings.py). At last a report of each section is there once, the sums are those that `totaliza`, a command of urna,
+tells of the accepted reports, and the seats of councillor over them are certified as a model does it (tests/contests.py)."""
 
 import os
 import random
@@ -11,14 +11,17 @@ import signal
 import tempfile
 import time
 
+import contests
 from commands import (
     ABRE,
     CARGA,
+    CERTIFICA,
     EMITE,
     RECEBE,
     REPOE,
     TOTAIS,
     TOTALIZA,
+    VERIFICA,
     VOTA,
     answer,
     content,
@@ -98,14 +101,24 @@ def statuses(work, urna, program):
     want(content("external.flash") == CENTRE.flashes({0: report})[1], "a refused command wrote on a flash")
 
 
+def want_certified(urna, files, what):
+    """The seats of councillor over a list are certified as the model does it, and the certificate is valid where there is one."""
+    model = contests.run(CERTIFICA, files)
+    want_run(ended(urna, CERTIFICA), model.code, model.shown, f"{what}, certifica")
+    for name in model.made:
+        want(content(name).decode() == model.files[name], f"{what}: certifica put another certificate")
+        want_run(ended(urna, [*VERIFICA[:-1], name]), 0, "CERTIFICADO VALIDO 13\n", f"{what}, verifica")
+
+
 def want_totals(urna, program, centre, ledger, what):
-    """The sums are those of the writer, and those that `totaliza` tells of the accepted reports."""
+    """The sums are those of the writer, and those that `totaliza` tells of the accepted reports, over which the seats are certified."""
     sums = ended(program, TOTAIS)
     want_run(sums, 0, centre.totals(ledger).decode(), f"{what}, totais")
     write_list(ledger_list(ledger), centre)
     status, totals = ended(urna, TOTALIZA)
     same = lines_of_sums(totals.encode()) == sums[1].encode().splitlines()
     want(status == 0 and same, f"{what}: totaliza ended with {status}, or tells other sums than totais")
+    want_certified(urna, centre.documents(ledger_list(ledger)), what)
 
 
 def days(work, urna, program):

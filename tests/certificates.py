@@ -1,4 +1,5 @@
-"""Certificates of seats and substitutes by docs/RULES.md, "The certificate", and docs/FORMATS.md, "Certificate", of contests as tests/seats.py reads them.
+"""Certificates of seats and substitutes by docs/RULES.md, "The certificate", and docs/FORMATS.md, "Certificate", of contests as tests/seats.py has them:
+the seats, and the parties.
 
 `other_certificates` gives the rows of crates/seat_tests whose certificate or substitutes are others, and those changes of a certificate that
 are judged otherwise.
@@ -29,11 +30,14 @@ def line_of(party, quotient):
     return party.number, party.votes // quotient, able, party.seats
 
 
-def certificate(contest):
-    """The text of the certificate, of the office 13."""
-    seats, parties = contest_of(contest)
+def comes_to_seats(seats, parties):
+    return first_phase(seats, parties) > 0 and sum(p.seats for p in parties) <= seats
+
+
+def certificate(code, seats, parties):
+    """The text of the certificate of an office, whose contest comes to seats."""
     quotient = first_phase(seats, parties)
-    lines = ["CERT U1", "CARGO 13", f"QUOCIENTE {quotient}"]
+    lines = ["CERT U1", f"CARGO {code}", f"QUOCIENTE {quotient}"]
     for party in parties:
         lines.append("PARTIDO {} QP {} APTOS {} VAGAS {}".format(*line_of(party, quotient)))
     for place, (phase, number, compete) in enumerate(give_rest(seats, parties, quotient), 1):
@@ -42,12 +46,15 @@ def certificate(contest):
     return "".join(line + "\n" for line in lines)
 
 
-def substitutes(contest):
+def substitutes(seats, parties):
     """The substitutes of each party with a seat, each as party, rank and number."""
-    seats, parties = contest_of(contest)
     give_rest(seats, parties, first_phase(seats, parties))
-    told = ((p.number, rank, candidate) for p in parties if p.seats for rank, (_, _, candidate) in enumerate(p.candidates[p.seats :], 1))
-    return "".join(f" {number} {rank} {candidate}" for number, rank, candidate in told)
+    return [(p.number, rank, candidate) for p in parties if p.seats for rank, (_, _, candidate) in enumerate(p.candidates[p.seats :], 1)]
+
+
+def substitute_words(contest):
+    """The same of a row."""
+    return "".join(f" {number} {rank} {candidate}" for number, rank, candidate in substitutes(*contest_of(contest)))
 
 
 def are_rising(numbers):
@@ -55,7 +62,7 @@ def are_rising(numbers):
 
 
 def read(text):
-    """The quotient of a text, its lines of the first phase, its rounds and the vacant seats; or the number of its first bad line."""
+    """The office's code of a text, its quotient, its lines of the first phase, its rounds and the vacant seats; or the number of its first bad line."""
     *lines, behind = text.split("\n")
     first, rounds = [], []
 
@@ -90,13 +97,12 @@ def read(text):
         return place + 2
     if lines[place + 2 :] or behind:
         return place + 3
-    return int(quotient[1]), first, rounds, int(vacant[1])
+    return int(office[1]), int(quotient[1]), first, rounds, int(vacant[1])
 
 
-def fault_of(contest, told):
+def fault_of(seats, parties, told):
     """What is wrong in a certificate first, each line looked at after those before it; or valid."""
-    quotient, first, rounds, vacant = told
-    seats, parties = contest_of(contest)
+    _, quotient, first, rounds, vacant = told
     if quotient != first_phase(seats, parties) or quotient == 0:
         return "quotient"
     law = [line_of(party, quotient) for party in parties]
@@ -115,9 +121,12 @@ def fault_of(contest, told):
     return "end" if vacant != left or vacant and next_round(parties, quotient)[1] else "valid"
 
 
-def judged(contest, text):
+def judged(code, seats, parties, text):
+    """How a text is judged for the contest of the office of this code: a line that may not stand there, the first fault, or valid."""
     told = read(text)
-    return f"line {told}" if isinstance(told, int) else fault_of(contest, told)
+    if isinstance(told, int) or told[0] != code:
+        return f"line {told if isinstance(told, int) else 2}"
+    return fault_of(seats, parties, told)
 
 
 def other_certificates(text):
@@ -126,13 +135,15 @@ def other_certificates(text):
     if not rows:
         yield "no row of certificates is found"
     for contest, told, changes in rows:
-        if certificate(contest) != told:
-            yield f"{contest!r}: the certificate is {certificate(contest)!r}"
+        found = certificate(13, *contest_of(contest))
+        if found != told:
+            yield f"{contest!r}: the certificate is {found!r}"
         for piece, other, answer in [("CERT", "CERT", "valid"), *CHANGE.findall(changes)]:
-            found = judged(contest, told.replace(piece, other, 1))
+            found = judged(13, *contest_of(contest), told.replace(piece, other, 1))
             if piece not in told or found != answer:
                 yield f"{contest!r}: with {other!r} in the place of {piece!r} it is {found}"
     for contest, told, answer in JUDGED.findall(text):
-        if judged(contest, told) != answer:
-            yield f"{contest!r}: {told!r} is {judged(contest, told)}"
-    yield from other_lists(text.split("SUBSTITUTES", 1)[1], "substitutes", substitutes)
+        found = judged(13, *contest_of(contest), told)
+        if found != answer:
+            yield f"{contest!r}: {told!r} is {found}"
+    yield from other_lists(text.split("SUBSTITUTES", 1)[1], "substitutes", substitute_words)

@@ -1,15 +1,16 @@
 """Inputs that are cut at each length, or of which each byte is another: a command of either program ends with a status that docs/FORMATS.md
-has, no changed report is accepted, and of a changed record what a reader of its own tells."""
+has, no changed report is accepted, and of a changed record or certificate what a reader of its own tells."""
 
 import itertools
 import random
 import re
 
+import contests
 import ledgers
 import memory
 import recounts
 import takings
-from commands import ABRE, CARGA, RECEBE, TOTAIS, VOTA, want
+from commands import ABRE, CARGA, RECEBE, TOTAIS, VERIFICA, VOTA, want
 from held import with_flashes
 from polls import FLASHES, Day
 
@@ -80,6 +81,11 @@ def try_record(runs, files, what):
     ended = runs.run(files, memory.RECONTA)
     shown, _, status = recounts.answer(files["a.bu"].decode(), files["a.rdv"]).partition(" = ")
     want((ended.status, ended.shown) == (int(status or 0), f"{shown}\n".encode()), f"{what}, reconta: {ended.told()}, not {shown}")
+
+
+def try_certificate(runs, files, what):
+    ended, told = runs.run(files, VERIFICA), contests.run(VERIFICA, files)
+    want((ended.status, ended.shown.decode()) == (told.code, told.shown), f"{what}, verifica: {ended.told()}, not {told.shown!r}")
 
 
 def verdict_on(name, is_first):
@@ -201,6 +207,7 @@ def inputs():
         ("a.bu", {**listed, "list": b"a.bu\n"}, try_report),
         ("list", listed, try_list),
         ("a.rdv", listed, try_record),
+        ("c.cer", memory.certified_reports(), try_certificate),
         ("tables", loaded, try_load),
         ("roll", loaded, try_load),
         ("keys", {**loaded, "keys": KEYS}, try_keys),

@@ -10,6 +10,7 @@ CARGA = ["carga", "tables", "roll", "1", "42"]
 VOTA = ["vota", "tables", "roll", "keys", "o"]
 EMITE = ["emite", "tables", "roll", "p"]
 TOTALIZA = ["totaliza", "tables", "list"]
+CERTIFICA, VERIFICA = ["certifica", "tables", "list", "13", "o"], ["verifica", "tables", "list", "13", "c.cer"]
 # The word of each flash, and the command that loads it from the other one.
 WORD = ("INTERNA", "EXTERNA")
 REPOE = [["repoe", "tables", "roll", word.lower()] for word in WORD]

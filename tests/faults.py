@@ -8,7 +8,7 @@ from typing import NamedTuple
 import ledgers
 import memory
 import takings
-from commands import ABRE, CARGA, EMITE, RECEBE, TOTAIS, VOTA, want
+from commands import ABRE, CARGA, CERTIFICA, EMITE, RECEBE, TOTAIS, VERIFICA, VOTA, want
 from held import allowed, flashes_in, want_held, with_flashes
 from polls import FLASHES, LENGTH, Day
 from runs import Ended
@@ -29,8 +29,8 @@ FAULTS = {
     "dup": [EMFILE],
 }
 # The documents of all commands, and the results, which a put replaces. The reports of a counting centre are r1, r2, ..
-DOCUMENTS = ("tables", "roll", "keys", "list", "a.bu", "b.bu", "c.bu", *(f"r{number}" for number in range(1, 10)))
-RESULTS = ("o.bu", "o.rdv", "p.bu", "p.rdv", *memory.REHEARSED)
+DOCUMENTS = ("tables", "roll", "keys", "list", "a.bu", "b.bu", "c.bu", "c.cer", *(f"r{number}" for number in range(1, 10)))
+RESULTS = ("o.bu", "o.rdv", "o.cer", "p.bu", "p.rdv", *memory.REHEARSED)
 # The commands that may write on a flash and put no file, and those of them that make flashes anew.
 NO_RESULTS = ("carga", "abre", "recebe", "totais")
 MAKING = ("carga", "abre")
@@ -120,7 +120,7 @@ def drawn_counting(runs, draw):
 
 
 def drawn_case(runs, draw):
-    kind = draw.choice(["session"] * 5 + ["load", "load", "emite", "ensaio", "listed"] + ["counting"] * 4 + ["opening"])
+    kind = draw.choice(["session"] * 5 + ["load", "load", "emite", "ensaio", "listed", "certified"] + ["counting"] * 4 + ["opening"])
     if kind in ("counting", "opening"):
         return (drawn_counting if kind == "counting" else drawn_opening)(runs, draw)
     if kind == "session":
@@ -133,6 +133,9 @@ def drawn_case(runs, draw):
         return case(runs, EMITE, {**files, **dict.fromkeys(draw.choice([(), ("p.bu", "p.rdv")]), b"old")})
     if kind == "ensaio":
         return case(runs, memory.ENSAIO, dict.fromkeys(draw.choice([(), memory.REHEARSED]), b"old"))
+    if kind == "certified":
+        old = dict.fromkeys(draw.choice([(), ("o.cer",)]), b"old")
+        return case(runs, draw.choice((CERTIFICA, CERTIFICA, VERIFICA)), {**memory.certified_reports(), **old})
     return case(runs, draw.choice((memory.TOTALIZA, memory.CONFERE, memory.RECONTA)), memory.listed_reports())
 
 
@@ -153,7 +156,7 @@ def statuses(case, other, how):
         if other.name in (name, f"{name}.new"):
             return {status}
     if other.name in (".", "folder"):
-        return {"ensaio": {20}}.get(case.words[0], {21, 22} if case.words[0] in NO_RESULTS else {20, 21, 22})
+        return {"ensaio": {20}, "certifica": {20}}.get(case.words[0], {21, 22} if case.words[0] in NO_RESULTS else {20, 21, 22})
     if other.kind == "open" and other.name in DOCUMENTS and how in (ENOENT, ENOMEM):
         return {12} if how == ENOENT else {1}
     # A result that is gone, or that this user may not open, is no flash, and is replaced.

@@ -53,21 +53,30 @@ def result_lines(blocs, contestants, places, votes):
     return [*lines, f"VAGAS VAZIAS {places - first - len(rounds)}"]
 
 
+def people_of(tables, code):
+    """The candidates for an office, rising, each with the day of birth."""
+    return sorted((it["numero"], it["nascimento"]) for it in tables["candidato"] if it["cargo"] == code)
+
+
+def contestants(tables, code, sums):
+    """The contestants for an office: each bloc, rising, with its party votes and its candidates."""
+    found, people = [], people_of(tables, code)
+    for number, _, them in blocs_of(tables):
+        own = [(sums[code, n], birth, n) for n, birth in people if int(str(n)[:2]) in them]
+        found.append(seats.Party(number, sum(sums[code, party] for party in them), own))
+    return found
+
+
 def office_lines(tables, office, sums):
     """The lines of an office that is decided in proportion."""
     code, parties = office["codigo"], [party["numero"] for party in tables["partido"]]
-    people = sorted((it["numero"], it["nascimento"]) for it in tables["candidato"] if it["cargo"] == code)
-    votes = {number: sums[code, number] for number, _ in people}
+    votes = {number: sums[code, number] for number, _ in people_of(tables, code)}
     nominal, legend = sum(votes.values()), sum(sums[code, party] for party in parties)
     blank, null = sums[code, "BRAN"], sums[code, "NULO"]
-    contestants, blocs = [], blocs_of(tables)
-    for number, _, them in blocs:
-        own = [(votes[n], birth, n) for n, birth in people if int(str(n)[:2]) in them]
-        contestants.append(seats.Party(number, sum(sums[code, party] for party in them), own))
     valid = f"VALIDOS {nominal + legend} NOMINAIS {nominal} LEGENDA {legend}"
     lines = [f"CARGO {code} {valid} BRANCOS {blank} NULOS {null} TOTAL {nominal + legend + blank + null}"]
-    lines += [f"CANDIDATO {number} VOTOS {votes[number]}" for number, _ in people]
-    return lines + result_lines(blocs, contestants, office["cadeiras"], votes)
+    lines += [f"CANDIDATO {number} VOTOS {count}" for number, count in votes.items()]
+    return lines + result_lines(blocs_of(tables), contestants(tables, code, sums), office["cadeiras"], votes)
 
 
 def totals(text, reports):

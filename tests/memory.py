@@ -8,7 +8,7 @@ from errno import ENOMEM
 import ledgers
 import polls
 import takings
-from commands import ABRE, CARGA, EMITE, RECEBE, REPOE, TOTAIS, TOTALIZA, VOTA, want
+from commands import ABRE, CARGA, CERTIFICA, EMITE, RECEBE, REPOE, TOTAIS, TOTALIZA, VERIFICA, VOTA, want
 from parts import parts_file
 from polls import FLASHES, LENGTH
 
@@ -33,6 +33,16 @@ WORKED_LINES = b"""1 ACEITO 1 42
 7 ACEITO 2 1
 8 REPETIDO 1 42
 SECOES 2 DE 2
+"""
+# The certificate of the seats of councillor over its reports.
+WORKED_CERTIFICATE = b"""CERT U1
+CARGO 13
+QUOCIENTE 1
+PARTIDO 13 QP 1 APTOS 1 VAGAS 1
+PARTIDO 45 QP 3 APTOS 0 VAGAS 0
+RODADA 1 FASE 3 VENCE 45 45:3/1
+VAZIAS 3
+FIM
 """
 
 
@@ -64,6 +74,20 @@ def listed_reports():
     return {**polls.three_ballots([]), "a.bu": report, "b.bu": report, "c.bu": changed, "list": b"a.bu\nb.bu\nc.bu\n", "a.rdv": polls.THREE_BALLOTS_RECORD.encode()}
 
 
+def certified_reports():
+    """The tables of the worked list, the report of the first section, the same with another digit, and that of the second one, the list of the three,
+    and the certificate."""
+    worked = worked_list()
+    files = {name: worked[other] for name, other in (("tables", "tables"), ("a.bu", "b"), ("b.bu", "digit"), ("c.bu", "other"))}
+    return {**files, "list": b"a.bu\nb.bu\nc.bu\n", "c.cer": WORKED_CERTIFICATE}
+
+
+def certifying():
+    """The commands of certificates with their files, what each shows, and what it puts."""
+    yield CERTIFICA, certified_reports(), b"CERTIFICADO 13\n", {"o.cer": WORKED_CERTIFICATE}
+    yield VERIFICA, certified_reports(), b"CERTIFICADO VALIDO 13\n", {}
+
+
 def life(runs):
     """The commands of the poll of one vote, each with the files that it begins with."""
     files = polls.one_vote()
@@ -91,6 +115,7 @@ def cases(runs):
     day = polls.Day(3)
     opened = {**day.documents(day.keys(3)), **dict(zip(FLASHES, day.flashes(1, 3)))}
     found = [(TOTALIZA, listed), (ENSAIO, {}), (CONFERE, listed), (RECONTA, listed), (VOTA, sealed), (VOTA, opened), (CARGA, day.documents(""))]
+    found += [(words, files) for words, files, _, _ in certifying()]
     return found + [(words, {**opened, name: bytes(LENGTH)}) for words, name in zip(REPOE, FLASHES)]
 
 
@@ -183,8 +208,8 @@ def each_in_copies(runs, words, files, usual, how):
 
 
 def in_turn(runs):
-    """Each allocation of the poll of one vote, of the commands of a counting centre, of the totals of the worked list, and of a rehearsal
-    over old files."""
+    """Each allocation of the poll of one vote, of the commands of a counting centre, of the totals of the worked list, of its certificate, and of
+    a rehearsal over old files."""
     for words, files in life(runs):
         usual = runs.run(files, words)
         want(usual.status == 0, f"{words[0]} {usual.told()}")
@@ -200,6 +225,10 @@ def in_turn(runs):
     usual = runs.run(files, TOTALIZA)
     want(usual.status == 6 and usual.shown.startswith(WORKED_LINES), f"totaliza of the worked list {usual.told()}")
     yield from each(runs, TOTALIZA, files, usual)
+    for words, files, shown, put in certifying():
+        usual = runs.run(files, words)
+        want((usual.status, usual.shown, usual.files) == (0, shown, {**files, **put}), f"{words[0]} {usual.told()}")
+        yield from each(runs, words, files, usual)
     files = dict.fromkeys(REHEARSED, b"old")
     usual = runs.run(files, ENSAIO, tells=True)
     want(usual.status == 0 and usual.shown.startswith(b"ENSAIO 1\nCOMP 1\n"), f"ensaio {usual.told()}")

@@ -12,7 +12,7 @@ import faults
 import ledgers
 import memory
 import takings
-from commands import ABRE, CARGA, EMITE, RECEBE, REPOE, TOTAIS, VOTA, WORD, want
+from commands import ABRE, CARGA, CERTIFICA, EMITE, RECEBE, REPOE, TOTAIS, VERIFICA, VOTA, WORD, want
 from cuts import mixed_slots
 from held import flashes_in, held, with_flashes
 from polls import FLASHES, LENGTH, Day
@@ -174,7 +174,7 @@ def want_shown_part(runs, case, ended, what):
         return
     want(ended.status == 23 and case.usual.shown.startswith(ended.shown), f"{what}: {ended.told()}")
     faults.want_over(runs, case, ended, what)
-    if case.words[0] in ("carga", "emite", "ensaio", "abre"):
+    if case.words[0] in ("carga", "emite", "ensaio", "certifica", "abre"):
         want(ended.files == case.usual.files, f"{what}: left other files")
 
 
@@ -289,6 +289,8 @@ def read_only_cases(runs, draw):
     yield memory.listed_reports(), memory.ENSAIO, 20
     yield memory.listed_reports(), memory.CONFERE, 0
     yield memory.listed_reports(), memory.RECONTA, 0
+    yield memory.certified_reports(), CERTIFICA, 20
+    yield memory.certified_reports(), VERIFICA, 0
     centre = takings.drawn_centre(draw)
     ledger = takings.drawn_history(centre, draw)[-1]
     listed = takings.drawn_list(centre, draw, ledger)

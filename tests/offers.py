@@ -5,6 +5,7 @@
 bytes that the script sets, up to the next flashes that are known.
 """
 
+import contextlib
 import copy
 import hashlib
 import re
@@ -20,7 +21,7 @@ SHUT, OPEN, TORN = 0x5A, 0xA5, None
 # What stands in a torn gate: what was put, or a byte; the last is that of the kept flashes, which are at rest.
 WAYS = (("whole", None), ("00", 0), ("5A", SHUT), ("A5", OPEN), ("later", OPEN))
 NO_FAULTS = {"room": [1500000], "fails": [], "takes": []}
-LIMITS = {"TABELAS": 4194304, "LISTA": 1048576, "BOLETIM": 1048576}
+LIMITS = {"TABELAS": 4194304, "LISTA": 1048576, "BOLETIM": 1048576, "CERTIFICADO": 1048576}
 
 
 class End(Exception):
@@ -51,7 +52,7 @@ def fault_of(text):
 
 class Tables:
     def __init__(self, text):
-        it = tomllib.loads(text)
+        it = self.document = tomllib.loads(text)
         self.hash = hashlib.sha256(text.encode()).digest()
         self.head = f" PROC:{it['processo']} DTPL:{it['data']} TURN:{it['turno']} "
         self.sections = [f" ZONA:{one['zona']} SECA:{one['secao']} APTO:{one['eleitores']} " for one in it["secao"]]
@@ -210,19 +211,20 @@ class Run:
         self.start, self.left, self.files = flashes, copy.deepcopy(flashes), files
         self.room, self.fails, self.takes = faults["room"][0], faults["fails"], faults["takes"]
         self.done, self.shown, self.taken, self.code = [], "", 0, 0
-        forms = {"abre": (self.abre, 2), "recebe": (self.recebe, 3), "totais": (self.totais, 2)}
         try:
-            if len(words) < 2 or words[0] not in forms or len(words) != forms[words[0]][1]:
-                self.refuse("ERRO USO", 2)
-            forms[words[0]][0](*words[1:])
+            self.run(words)
         except End as end:
             self.code = end.args[0]
 
+    def run(self, words):
+        forms = {"abre": (self.abre, 2), "recebe": (self.recebe, 3), "totais": (self.totais, 2)}
+        if len(words) < 2 or words[0] not in forms or len(words) != forms[words[0]][1]:
+            self.refuse("ERRO USO", 2)
+        forms[words[0]][0](*words[1:])
+
     def do(self, size, dev, what, slot, value):
-        """A step, or the half of it where it finds no room. Of the calls that fail by their number the first two are syncs, and no other is asked for."""
-        if len(self.done) in self.fails:
-            raise End(21 + dev)
-        if size > self.room:
+        """A step, or the half of it where it finds no room, or where the call of its number fails; no read comes before a call that fails so."""
+        if len(self.done) in self.fails or size > self.room:
             if what == "show":
                 self.shown += value[: min(size // 2, self.room)]
             elif size > 1:
@@ -246,13 +248,19 @@ class Run:
         self.do(len(line) + 1, None, "show", None, line + "\n")
 
     def refuse(self, line, code):
-        self.show(line)
+        """A fault of the display leaves the number as it is."""
+        with contextlib.suppress(End):
+            self.show(line)
         raise End(code)
 
-    def take(self, name, word):
+    def call(self):
+        """A call of the cabinet, which fails where its number is to fail."""
         self.taken += 1
         if self.taken - 1 in self.takes:
             raise End(20)
+
+    def take(self, name, word):
+        self.call()
         if name not in self.files:
             self.refuse(f"ERRO FALTA {word}", 12)
         if len(self.files[name]) > LIMITS[word]:
@@ -269,6 +277,12 @@ class Run:
         if len(set(parties)) < len(parties):
             self.refuse("ERRO TABELAS REGRA 8", 3)
         return tables
+
+    def names(self, name):
+        names = self.take(name, "LISTA").splitlines()
+        if "" in names:
+            self.refuse(f"ERRO LINHA {names.index('') + 1}", 4)
+        return names
 
     def opened(self, tables):
         """The ledger that the flashes hold."""
@@ -294,9 +308,7 @@ class Run:
 
     def recebe(self, name, listed):
         tables = self.tables(name)
-        names = self.take(listed, "LISTA").splitlines()
-        if "" in names:
-            self.refuse(f"ERRO LINHA {names.index('') + 1}", 4)
+        names = self.names(listed)
         ledger = self.opened(tables)
         self.show(f"LIVRO {len(ledger.hashes)}")
         for number, it in enumerate(names, 1):
@@ -373,6 +385,10 @@ class Play:
         self.words, self.flashes = words, self.last and self.last.left
         return self.last and self.last.answer()
 
+    def anew(self, files):
+        """The last command over other files."""
+        return Run(self.words, self.last.start, files, self.faults).answer()
+
     def step(self, line):
         """What must come under a line; `None` where the model doesn't say."""
         word, *rest = line.split(" ")
@@ -400,7 +416,7 @@ class Play:
         elif word in ("again", "anew") and self.last:
             changed = scripts.edited(self.files[rest[0]], line.split(" ", 2)[2])
             changed = hashed(changed) if word == "anew" else changed
-            return Run(self.words, self.last.start, {**self.files, rest[0]: changed}, self.faults).answer()
+            return self.anew({**self.files, rest[0]: changed})
         elif word == "operations" and self.last:
             return [str(len(self.last.done))]
         elif word == "like" and self.flashes:
@@ -414,12 +430,17 @@ class Play:
         return None
 
 
-def other_answers():
-    play, count = Play(), 0
-    for number, line, came in scripts.steps_of("ledger"):
+def others(script, play):
+    """The lines of a script under which another answer stands than that of a model that plays it."""
+    count = 0
+    for number, line, came in scripts.steps_of(script):
         wanted = None if line.startswith("#") else play.step(line)
         count += wanted is not None
         if wanted is not None and came != wanted:
             yield f"{scripts.CRATE}/stdout:{number}: another answer than that under `{line}`"
     if not count:
-        yield f"{scripts.CRATE}/stdout: the script ledger has no answer"
+        yield f"{scripts.CRATE}/stdout: the script {script} has no answer"
+
+
+def other_answers():
+    yield from others("ledger", Play())

@@ -164,21 +164,21 @@ def runs(answers):
             first = at + 1
 
 
-def turned(report, record, at):
+def turned(answer, text, at):
     """The answers where a byte is changed in each bit, of which only those that are others than the one before are told."""
     told, before = "", None
     for bit in (1 << k for k in range(8)):
-        one = answer(report, record[:at] + bytes([record[at] ^ bit]) + record[at + 1 :])
+        one = answer(text[:at] + bytes([text[at] ^ bit]) + text[at + 1 :])
         if one != before:
             told += one if before is None else f" | from {bit} on {one}"
         before = one
     return told
 
 
-def answers(report, record):
-    """What `answers` prints of a record: cut at each length, and then changed in each bit."""
-    places = range(len(record))
-    return [*runs([answer(report, record[:at]) for at in places]), *runs([turned(report, record, at) for at in places])]
+def answers(answer, text):
+    """What `answers` prints of a text: cut at each length, and then changed in each bit."""
+    places = range(len(text))
+    return [*runs([answer(text[:at]) for at in places]), *runs([turned(answer, text, at) for at in places])]
 
 
 def other_answers():
@@ -189,7 +189,7 @@ def other_answers():
         report, record = (files[it] for it in words[1:])
         record = record.encode()
         count += 1
-        wanted = answers(report, record) if line.startswith("answers ") else answer(report, record).split(" = ")
+        wanted = answers(lambda it: answer(report, it), record) if line.startswith("answers ") else answer(report, record).split(" = ")
         found = [it.removeprefix("= ") for it in came]
         if found != wanted:
             yield f"{scripts.CRATE}/stdout:{number}: another answer than that under `{line}`"

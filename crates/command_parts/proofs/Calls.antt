@@ -12,7 +12,9 @@ use Rattle.election_tables.specs.declared.roll.RollError.{RollError}
 use Rattle.election_tables.specs.declared.roll.RollError.TheVariants as roll
 use Rattle.record_audit.specs.declared.fault.RecordError.{RecordError}
 use Rattle.record_audit.specs.declared.fault.RecordError.TheVariants as unread
-use Rattle.command_parts.specs.Errors.{record_error, roll_error, tables_error, take_error}
+use Rattle.seat_certificate.specs.declared.read.CertTextError.{CertTextError}
+use Rattle.seat_certificate.specs.declared.read.CertTextError.TheVariants as uncertain
+use Rattle.command_parts.specs.Errors.{certificate_error, record_error, roll_error, tables_error, take_error}
 use Rattle.command_parts.specs.Taking.{HasTaken, CountsFor, calls_made}
 use Rattle.command_parts.specs.declared.error.CommandError.{CommandError}
 use Rattle.command_parts.specs.declared.error.Doc.{Doc}
@@ -67,6 +69,10 @@ counts_tables (tables.Rule k) old new same = same
 pub counts_record : (e : RecordError) (old new : Tally) → new ≡ old → CountsFor (Some (record_error e)) old new
 counts_record unread.Memory old new same = same
 counts_record (unread.Line k) old new same = same
+
+pub counts_certificate : (e : CertTextError) (old new : Tally) → new ≡ old → CountsFor (Some (certificate_error e)) old new
+counts_certificate uncertain.Memory old new same = same
+counts_certificate (uncertain.Line k) old new same = same
 
 pub counts_roll : (e : RollError) (old new : Tally) → new ≡ old → CountsFor (Some (roll_error e)) old new
 counts_roll roll.Memory old new same = same

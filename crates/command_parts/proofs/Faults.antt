@@ -14,8 +14,11 @@ use Rattle.election_tables.specs.declared.tables.TablesError.TheVariants as unre
 use Rattle.record_audit.specs.Fault.{IsLineFault}
 use Rattle.record_audit.specs.declared.fault.RecordError.{RecordError}
 use Rattle.record_audit.specs.declared.fault.RecordError.TheVariants as unread
-use Rattle.command_parts.specs.Documents.{IsTaken, IsFault, limit_of, lacks, longer, bad, no_document, rule, count, record_line, roll_line}
-use Rattle.command_parts.specs.Errors.{record_error, take_error, tables_error, roll_error}
+use Rattle.seat_certificate.specs.Text.{IsFirstBadLine}
+use Rattle.seat_certificate.specs.declared.read.CertTextError.{CertTextError}
+use Rattle.seat_certificate.specs.declared.read.CertTextError.TheVariants as uncertain
+use Rattle.command_parts.specs.Documents.{IsTaken, IsFault, limit_of, lacks, longer, bad, certificate_line, no_document, rule, count, record_line, roll_line}
+use Rattle.command_parts.specs.Errors.{certificate_error, record_error, take_error, tables_error, roll_error}
 use Rattle.command_parts.specs.declared.error.Doc.{Doc}
 use Rattle.command_parts.specs.declared.error.Doc.TheVariants as doc
 use Rattle.command_parts.specs.declared.error.CommandError.TheVariants as error
@@ -43,3 +46,8 @@ pub no_record : (files : Option Files) (name bytes : List ℕ) (e : RecordError)
     → ((k : ℕ) → e ≡ unread.Line k → IsLineFault bytes k) → record_error e ≢ error.Memory → IsFault files name doc.Record (record_error e)
 no_record files name bytes unread.Memory taken lined memory = absurd (memory refl)
 no_record files name bytes (unread.Line k) taken lined memory = bad taken (record_line (lined k refl))
+
+pub no_certificate : (files : Option Files) (name bytes : List ℕ) (e : CertTextError) → IsTaken files doc.Certificate name bytes
+    → ((k : ℕ) → e ≡ uncertain.Line k → IsFirstBadLine bytes k) → certificate_error e ≢ error.Memory → IsFault files name doc.Certificate (certificate_error e)
+no_certificate files name bytes uncertain.Memory taken lined memory = absurd (memory refl)
+no_certificate files name bytes (uncertain.Line k) taken lined memory = bad taken (certificate_line (lined k refl))

@@ -15,7 +15,9 @@ use Rattle.key_script.proofs.ScriptLaws.{events_or_bad}
 use Rattle.key_script.specs.declared.keys.Event.{Event}
 use Rattle.record_audit.specs.Fault.{IsLineFault}
 use Rattle.record_audit.specs.declared.text.RecordText.{RecordText}
-use Rattle.command_parts.specs.Documents.{IsTaken, IsBad, IsFault, IsFirstFault, HasTables, HasRoll, HasKeys, HasNames, HasRecord, IsListed, first_tables, first_other, limit_of, lacks, longer, bad, no_document, rule, count, record_line, roll_line, line, name_line}
+use Rattle.seat_certificate.specs.Text.{IsFirstBadLine, Spells}
+use Rattle.seat_certificate.specs.declared.certificate.Certificate.{Certificate}
+use Rattle.command_parts.specs.Documents.{IsTaken, IsBad, IsFault, IsFirstFault, HasCertificate, HasTables, HasRoll, HasKeys, HasNames, HasRecord, IsListed, first_tables, first_other, limit_of, lacks, longer, bad, certificate_line, no_document, rule, count, record_line, roll_line, line, name_line}
 use Rattle.command_parts.specs.declared.error.Doc.{Doc}
 use Rattle.command_parts.specs.declared.error.Doc.TheVariants as doc
 use Rattle.command_parts.specs.declared.error.CommandError.{CommandError}
@@ -23,6 +25,7 @@ use Rattle.command_parts.specs.declared.error.CommandError.TheVariants as error
 use Rattle.election_tables.proofs.Determined.{roll_determined, tables_determined}
 use Rattle.election_tables.proofs.Reading.{one_document}
 use Rattle.record_audit.proofs.Spellings.{never_both, one_fault as one_line}
+use Rattle.seat_certificate.proofs.TextLaws.{not_both, one_bad, spells_one}
 
 -- The documents of the same bytes
 
@@ -70,6 +73,9 @@ bad_names bytes s t (name_line {k} h) (name_line {k = n} i) = let same : k ≡ n
 bad_record : (bytes : List ℕ) (s t : CommandError) → IsBad doc.Record bytes s → IsBad doc.Record bytes t → s ≡ t
 bad_record bytes s t (record_line {k} h) (record_line {k = n} i) = ap error.RecordLine (one_line bytes k n h i)
 
+bad_certificate : (bytes : List ℕ) (s t : CommandError) → IsBad doc.Certificate bytes s → IsBad doc.Certificate bytes t → s ≡ t
+bad_certificate bytes s t (certificate_line {k} h) (certificate_line {k = n} i) = ap error.CertificateLine (one_bad bytes k n h i)
+
 -- the bytes of a report are tried by their verdict alone
 no_bad_report : (d : Doc) (bytes : List ℕ) (s : CommandError) → IsBad d bytes s → d ≡ doc.Report → ⊥
 no_bad_report d bytes s (no_document h) e = absurd (cc)
@@ -79,6 +85,7 @@ no_bad_report d bytes s (roll_line h) e = absurd (cc)
 no_bad_report d bytes s (line h) e = absurd (cc)
 no_bad_report d bytes s (name_line h) e = absurd (cc)
 no_bad_report d bytes s (record_line h) e = absurd (cc)
+no_bad_report d bytes s (certificate_line h) e = absurd (cc)
 
 report_not_bad : (bytes : List ℕ) (s : CommandError) → IsBad doc.Report bytes s → ⊥
 report_not_bad bytes s h = no_bad_report doc.Report bytes s h refl
@@ -90,6 +97,7 @@ bad_once doc.Keys bytes s t h i = bad_keys bytes s t h i
 bad_once doc.Report bytes s t h i = absurd (report_not_bad bytes s h)
 bad_once doc.List bytes s t h i = bad_names bytes s t h i
 bad_once doc.Record bytes s t h i = bad_record bytes s t h i
+bad_once doc.Certificate bytes s t h i = bad_certificate bytes s t h i
 
 -- A file of a name
 
@@ -141,6 +149,7 @@ is_of_file error.RollCount = true
 is_of_file (error.RollLine k) = true
 is_of_file (error.Line k) = true
 is_of_file (error.RecordLine k) = true
+is_of_file (error.CertificateLine k) = true
 is_of_file (error.TooLong d) = true
 is_of_file (error.Missing d) = true
 is_of_file error.Memory = false
@@ -158,6 +167,7 @@ bad_is d bytes _ (roll_line h) = refl
 bad_is d bytes _ (line h) = refl
 bad_is d bytes _ (name_line h) = refl
 bad_is d bytes _ (record_line h) = refl
+bad_is d bytes _ (certificate_line h) = refl
 
 pub fault_is : (files : Option Files) (name : List ℕ) (d : Doc) (e : CommandError) → IsFault files name d e → is_of_file e ≡ true
 fault_is files name d _ (lacks h) = refl
@@ -244,6 +254,21 @@ record_not_fault files name s r (lacks h) has = lacks_not_taken files doc.Record
 record_not_fault files name s r (longer h) has = longer_not_taken files doc.Record name has.bytes h has.taken
 record_not_fault files name s r (bad {bytes} taken (record_line {k} h)) has =
     never_both has.bytes k r (subst (λ (b : List ℕ). IsLineFault b k) (same_bytes files doc.Record name bytes has.bytes taken has.taken) h) has.read
+
+pub certificate_not_fault : (files : Files) (name : List ℕ) (s : CommandError) (code : ℕ) (c : Certificate) → IsFault (Some files) name doc.Certificate s
+    → HasCertificate (Some files) name code c → ⊥
+certificate_not_fault files name s code c (lacks h) has = lacks_not_taken files doc.Certificate name has.bytes h has.taken
+certificate_not_fault files name s code c (longer h) has = longer_not_taken files doc.Certificate name has.bytes h has.taken
+certificate_not_fault files name s code c (bad {bytes} taken (certificate_line {k} h)) has =
+    let same = same_bytes files doc.Certificate name bytes has.bytes taken has.taken in
+    not_both has.bytes code c k has.read (subst (λ (b : List ℕ). IsFirstBadLine b k) same h)
+
+-- a name's file holds the same certificate of the same office
+pub same_certificate : (files : Files) (name : List ℕ) (m n : ℕ) (c d : Certificate) → HasCertificate (Some files) name m c → HasCertificate (Some files) name n d
+    → (m ≡ n) × (c ≡ d)
+same_certificate files name m n c d h i =
+    let same = same_bytes files doc.Certificate name h.bytes i.bytes h.taken i.taken in
+    spells_one i.bytes m n c d (subst (λ (b : List ℕ). Spells b m c) same h.read) i.read
 
 -- a name's file holds the same tables, and the same roll
 pub same_tables : (files : Files) (name : List ℕ) (t u : TablesData) → HasTables (Some files) name t → HasTables (Some files) name u → t ≡ u

@@ -13,6 +13,8 @@ use Rattle.poll_report.specs.declared.report.Report.{Report}
 use Rattle.record_audit.specs.Fault.{IsLineFault}
 use Rattle.record_audit.specs.Spelling.{Spells}
 use Rattle.record_audit.specs.declared.text.RecordText.{RecordText}
+use Rattle.seat_certificate.specs.Text.{IsFirstBadLine, Spells as SpellsCertificate}
+use Rattle.seat_certificate.specs.declared.certificate.Certificate.{Certificate}
 use Rattle.section_intake.specs.Accepted.{File}
 use Rattle.section_intake.specs.Verdict.{IsReportFile, most_report_bytes}
 use Rattle.command_parts.specs.declared.error.CommandError.{CommandError}
@@ -28,6 +30,7 @@ limit_of doc.Keys = 16777216
 limit_of doc.Report = most_report_bytes
 limit_of doc.List = 1048576
 limit_of doc.Record = 1048576
+limit_of doc.Certificate = 1048576
 
 -- These are the bytes of the file of that name, where the cabinet tells its files, and they are no more than the document may have.
 pub record IsTaken (files : Option Files) (d : Doc) (name bytes : List ℕ) : Type 0 where
@@ -43,6 +46,7 @@ pub data IsBad : Doc → List ℕ → CommandError → Type 0 where
   line : {bytes : List ℕ} {k : ℕ} → first_bad bytes ≡ Some k → IsBad doc.Keys bytes (error.Line k)
   name_line : {bytes : List ℕ} {k : ℕ} → first_bad_name bytes ≡ Some k → IsBad doc.List bytes (error.Line k)
   record_line : {bytes : List ℕ} {k : ℕ} → IsLineFault bytes k → IsBad doc.Record bytes (error.RecordLine k)
+  certificate_line : {bytes : List ℕ} {k : ℕ} → IsFirstBadLine bytes k → IsBad doc.Certificate bytes (error.CertificateLine k)
 
 -- what is wrong with a document, and the error that says so
 pub data IsFault (files : Option Files) (name : List ℕ) (d : Doc) : CommandError → Type 0 where
@@ -91,6 +95,12 @@ pub record HasRecord (files : Option Files) (name : List ℕ) (r : RecordText) :
   pub bytes : List ℕ
   pub taken : IsTaken files doc.Record name bytes
   pub read : Spells bytes r
+
+-- a file of this name is taken, and is the text of this certificate of the office of a code
+pub record HasCertificate (files : Option Files) (name : List ℕ) (code : ℕ) (c : Certificate) : Type 0 where
+  pub bytes : List ℕ
+  pub taken : IsTaken files doc.Certificate name bytes
+  pub read : SpellsCertificate bytes code c
 
 -- the files of these names hold these reports
 abbrev pub AreTaken : Option Files → List (List ℕ) → List File → Type 0

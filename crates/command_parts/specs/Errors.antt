@@ -9,6 +9,8 @@ use Rattle.election_tables.specs.declared.roll.RollError.TheVariants as roll
 use Rattle.key_script.specs.declared.text.LineError.{LineError}
 use Rattle.record_audit.specs.declared.fault.RecordError.{RecordError}
 use Rattle.record_audit.specs.declared.fault.RecordError.TheVariants as unread
+use Rattle.seat_certificate.specs.declared.read.CertTextError.{CertTextError}
+use Rattle.seat_certificate.specs.declared.read.CertTextError.TheVariants as uncertain
 use Rattle.command_parts.specs.declared.error.CommandError.{CommandError}
 use Rattle.command_parts.specs.declared.error.CommandError.TheVariants as error
 use Rattle.command_parts.specs.declared.error.Doc.{Doc}
@@ -44,3 +46,8 @@ line_error e = error.Line e.line
 abbrev pub record_error : RecordError → CommandError
 record_error unread.Memory = error.Memory
 record_error (unread.Line k) = error.RecordLine k
+
+-- a certificate that was not read
+abbrev pub certificate_error : CertTextError → CommandError
+certificate_error uncertain.Memory = error.Memory
+certificate_error (uncertain.Line k) = error.CertificateLine k

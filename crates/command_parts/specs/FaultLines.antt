@@ -19,6 +19,7 @@ doc_word doc.Keys = codes "TECLAS"
 doc_word doc.Report = codes "BOLETIM"
 doc_word doc.List = codes "LISTA"
 doc_word doc.Record = codes "REGISTRO"
+doc_word doc.Certificate = codes "CERTIFICADO"
 
 -- how a fault line names a flash
 abbrev pub device_word : Dev → List ℕ
@@ -36,6 +37,7 @@ error_text error.RollCount = Some (codes "ROL CONTAGEM")
 error_text (error.RollLine k) = Some (codes "ROL LINHA " ++ decimal k)
 error_text (error.Line k) = Some (codes "LINHA " ++ decimal k)
 error_text (error.RecordLine k) = Some (codes "REGISTRO LINHA " ++ decimal k)
+error_text (error.CertificateLine k) = Some (codes "CERTIFICADO LINHA " ++ decimal k)
 error_text (error.TooLong d) = Some (codes "TAMANHO " ++ doc_word d)
 error_text (error.Missing d) = Some (codes "FALTA " ++ doc_word d)
 error_text (error.Foreign d) = Some (codes "OUTRA CARGA " ++ device_word d)

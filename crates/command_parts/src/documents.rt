@@ -2,13 +2,14 @@
 ghost use Rattle.std.specs.Prelude.{◌≡◌, ◌≢◌, ℕ, IfErr, IfOk, List, Option};
 ghost use Rattle.urna_outside.specs.Cabinet.{Files};
 ghost use Rattle.election_tables.specs.TablesData.{IsTables};
-ghost use Rattle.command_parts.specs.Documents.{HasNames, HasRecord, HasTables, HasRoll, HasKeys, IsFault, IsFirstFault, IsTaken, limit_of};
+ghost use Rattle.command_parts.specs.Documents.{HasCertificate, HasNames, HasRecord, HasTables, HasRoll, HasKeys, IsFault, IsFirstFault, IsTaken, limit_of};
 ghost use Rattle.command_parts.specs.Taking.{HasTaken, error_in};
 
 use crate::error::{CommandError, Doc, not_taken};
 use election_tables::{Roll, Tables};
 use key_script::{Names, Script};
 use record_audit::{RecordText, read_record};
+use seat_certificate::{Certificate, read_certificate};
 use section_intake::MOST_REPORT_BYTES;
 use std::alloc::Global;
 use urna_outside::Cabinet;
@@ -23,6 +24,8 @@ const LIST_LIMIT: u32 = 1_048_576;
 
 const RECORD_LIMIT: u32 = 1_048_576;
 
+const CERTIFICATE_LIMIT: u32 = 1_048_576;
+
 /// The most bytes that a document may have.
 fn limit(doc: Doc) -> u32
     ensures { result ≡ limit_of doc }
@@ -34,6 +37,7 @@ fn limit(doc: Doc) -> u32
         Doc::Report => MOST_REPORT_BYTES,
         Doc::List => LIST_LIMIT,
         Doc::Record => RECORD_LIMIT,
+        Doc::Certificate => CERTIFICATE_LIMIT,
     }
 }
 
@@ -161,6 +165,25 @@ impl Document for RecordText {
         let bytes = take(alloc, cabinet, name, Doc::Record)?;
         let text = read_record(alloc, &bytes)?;
         Ok(text)
+    }
+}
+
+/// The certificate of an office, with the office's code.
+impl Document for (u8, Certificate) {
+    ghost use Rattle.command_parts.specs.declared.error.Doc.TheVariants as kind;
+
+    ghost doc = { kind.Certificate };
+
+    ghost held = { λ files name read. HasCertificate files name read.0 read.1 };
+
+    fn take_document<C: Cabinet>(
+        alloc: Global,
+        cabinet: &mut C,
+        name: &str,
+    ) -> Result<(u8, Certificate), CommandError> {
+        let bytes = take(alloc, cabinet, name, Doc::Certificate)?;
+        let read = read_certificate(alloc, &bytes)?;
+        Ok(read)
     }
 }
 

@@ -1,10 +1,11 @@
 //! Why a command stops: what is wrong with its words, its files or its flashes.
 ghost use Rattle.std.specs.Prelude.{◌≡◌};
-ghost use Rattle.command_parts.specs.Errors.{line_error, memory_error, record_error, roll_error, tables_error, take_error};
+ghost use Rattle.command_parts.specs.Errors.{certificate_error, line_error, memory_error, record_error, roll_error, tables_error, take_error};
 
 use election_tables::{RollError, TablesError};
 use key_script::LineError;
 use record_audit::RecordError;
+use seat_certificate::CertTextError;
 use urna_base::Memory;
 use urna_outside::{CabinetError, Dev};
 
@@ -18,9 +19,11 @@ pub enum Doc {
     List,
     /// The text of a digital vote record.
     Record,
+    /// The text of a certificate of seats.
+    Certificate,
 }
 
-/// Why a command stops (docs/FORMATS.md, "Fault lines"), in either program; a roll and a record `urna` alone takes.
+/// Why a command stops (docs/FORMATS.md, "Fault lines"), in either program; a roll, keys, a record and a certificate `urna` alone takes.
 #[derive(Clone, Copy, Debug, PartialEq, Eq)]
 pub enum CommandError {
     /// Want of memory.
@@ -39,6 +42,8 @@ pub enum CommandError {
     Line(u32),
     /// The first line of the record that may not stand there, from 1.
     RecordLine(u32),
+    /// The first line of the certificate that may not stand there, from 1.
+    CertificateLine(u32),
     /// The file is longer than its limit.
     TooLong(Doc),
     /// The file isn't there.
@@ -113,6 +118,17 @@ impl From<RecordError> for CommandError {
         match unread {
             RecordError::Memory => CommandError::Memory,
             RecordError::Line(line) => CommandError::RecordLine(line),
+        }
+    }
+}
+
+impl From<CertTextError> for CommandError {
+    ghost from_gives = { λ unread error. error ≡ certificate_error unread };
+
+    fn from(unread: CertTextError) -> CommandError {
+        match unread {
+            CertTextError::Memory => CommandError::Memory,
+            CertTextError::Line(line) => CommandError::CertificateLine(line),
         }
     }
 }

@@ -31,6 +31,9 @@ pub fn error_line(error: CommandError) -> Option<LineBuffer>
         CommandError::RollLine(line) => Some(numbered_line(b"ROL LINHA ", u64::from(line))),
         CommandError::Line(line) => Some(numbered_line(b"LINHA ", u64::from(line))),
         CommandError::RecordLine(line) => Some(numbered_line(b"REGISTRO LINHA ", u64::from(line))),
+        CommandError::CertificateLine(line) => {
+            Some(numbered_line(b"CERTIFICADO LINHA ", u64::from(line)))
+        }
         CommandError::TooLong(doc) => Some(worded_line(b"TAMANHO ", doc_word(doc))),
         CommandError::Missing(doc) => Some(worded_line(b"FALTA ", doc_word(doc))),
         CommandError::Foreign(dev) => Some(worded_line(b"OUTRA CARGA ", device_word(dev))),
@@ -41,7 +44,7 @@ pub fn error_line(error: CommandError) -> Option<LineBuffer>
 
 fn doc_word(doc: Doc) -> &'static [u8]
     ensures word { result.now ≡ doc_word doc }
-    ensures short { length result.now ≤ 8 }
+    ensures short { length result.now ≤ 11 }
 {
     match doc {
         Doc::Tables => b"TABELAS",
@@ -50,6 +53,7 @@ fn doc_word(doc: Doc) -> &'static [u8]
         Doc::Report => b"BOLETIM",
         Doc::List => b"LISTA",
         Doc::Record => b"REGISTRO",
+        Doc::Certificate => b"CERTIFICADO",
     }
 }
 
@@ -93,7 +97,7 @@ fn numbered_line(text: &[u8], n: u64) -> LineBuffer
 /// A fault and a word.
 pub fn worded_line(text: &[u8], word: &[u8]) -> LineBuffer
     requires text { length text.now ≤ 20 }
-    requires word { length word.now ≤ 8 }
+    requires word { length word.now ≤ 11 }
     ensures { result ≡ fault_line (text.now ++ word.now) }
 {
     let mut line = LineBuffer::new();

@@ -34,6 +34,7 @@ ledger_doc both.List = doc.List
 ledger_doc both.Roll = doc.Tables
 ledger_doc both.Keys = doc.Tables
 ledger_doc both.Record = doc.Tables
+ledger_doc both.Certificate = doc.Tables
 
 -- of an error that this program hasn't, any
 abbrev status_of : CommandError → LedgerStatus
@@ -51,6 +52,7 @@ status_of (error.Busy d) = status.Busy d
 status_of error.RollCount = status.Done
 status_of (error.RollLine k) = status.Done
 status_of (error.RecordLine k) = status.Done
+status_of (error.CertificateLine k) = status.Done
 
 only_status : (s : LedgerStatus) (e : CommandError) → error_of s ≡ Some e → s ≡ status_of e
 only_status status.Memory e is = told_by status_of error.Memory e is

@@ -8,7 +8,7 @@ use Rattle.urna_outside.specs.Told.{Told}
 use Rattle.urna_outside.specs.declared.device.Dev.TheVariants as dev
 use Rattle.urna_outside.specs.declared.device.Port.{Port}
 use Rattle.urna_outside.specs.declared.device.Port.TheVariants as port
-use Rattle.command_parts.specs.Documents.{IsBad, IsFault, IsFirstFault, bad, count, first_other, first_tables, lacks, line, longer, name_line, no_document, record_line, roll_line, rule}
+use Rattle.command_parts.specs.Documents.{IsBad, IsFault, IsFirstFault, bad, certificate_line, count, first_other, first_tables, lacks, line, longer, name_line, no_document, record_line, roll_line, rule}
 use Rattle.command_parts.specs.Taking.{CountsFor, HasTaken as HasTakenOf}
 use Rattle.command_parts.specs.declared.error.CommandError.{CommandError}
 use Rattle.command_parts.specs.declared.error.CommandError.TheVariants as error
@@ -32,6 +32,7 @@ bad_of_ledger _ bytes _ taken (roll_line h) = absurd taken
 bad_of_ledger _ bytes _ taken (line h) = absurd taken
 bad_of_ledger _ bytes _ taken (name_line h) = tt
 bad_of_ledger _ bytes _ taken (record_line h) = absurd taken
+bad_of_ledger _ bytes _ taken (certificate_line h) = absurd taken
 
 fault_of_ledger : (files : Option Files) (name : List ℕ) (d : Doc) (e : CommandError) → IsOfLedgerDoc d → IsFault files name d e → IsOfLedger e
 fault_of_ledger files name d _ taken (lacks h) = taken

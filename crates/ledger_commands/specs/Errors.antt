@@ -58,6 +58,7 @@ IsOfLedgerDoc both.List = Unit {0}
 IsOfLedgerDoc both.Roll = ⊥
 IsOfLedgerDoc both.Keys = ⊥
 IsOfLedgerDoc both.Record = ⊥
+IsOfLedgerDoc both.Certificate = ⊥
 
 -- all but those of a document that it doesn't take
 abbrev pub IsOfLedger : CommandError → Type 0
@@ -75,6 +76,7 @@ IsOfLedger (error.Busy d) = Unit {0}
 IsOfLedger error.RollCount = ⊥
 IsOfLedger (error.RollLine k) = ⊥
 IsOfLedger (error.RecordLine k) = ⊥
+IsOfLedger (error.CertificateLine k) = ⊥
 
 -- ---- the statuses of other errors
 

@@ -130,7 +130,7 @@ fn ledger_doc(doc: Doc) -> LedgerDoc
         Doc::Tables => LedgerDoc::Tables,
         Doc::Report => LedgerDoc::Report,
         Doc::List => LedgerDoc::List,
-        Doc::Roll | Doc::Keys | Doc::Record => unreachable!(),
+        Doc::Roll | Doc::Keys | Doc::Record | Doc::Certificate => unreachable!(),
     }
 }
 
@@ -151,9 +151,10 @@ pub(crate) fn refused(error: CommandError) -> LedgerStatus
         CommandError::Foreign(dev) => LedgerStatus::Foreign(dev),
         CommandError::NoImage => LedgerStatus::NoImage,
         CommandError::Busy(dev) => LedgerStatus::Busy(dev),
-        CommandError::RollCount | CommandError::RollLine(_) | CommandError::RecordLine(_) => {
-            unreachable!()
-        }
+        CommandError::RollCount
+        | CommandError::RollLine(_)
+        | CommandError::RecordLine(_)
+        | CommandError::CertificateLine(_) => unreachable!(),
     }
 }
 

@@ -54,7 +54,7 @@ fn party_of(alloc: Global, line: &str) -> Option<Contestant> {
 }
 
 /// The contest whose parties stand in some lines.
-fn contest_of(alloc: Global, text: &str) -> Option<Contest> {
+pub(crate) fn contest_of(alloc: Global, text: &str) -> Option<Contest> {
     let mut parties = Contestants::new(alloc);
     for line in text.lines() {
         if parties.len() >= 256 {
@@ -197,7 +197,7 @@ fn seats_of(alloc: Global, contest: &Contest) -> Option<Seats>
 }
 
 /// The awards of all times, by `distribute`.
-fn distribute_all(alloc: Global, contest: &Contest, times: u64) -> Option<u64>
+pub(crate) fn distribute_all(alloc: Global, contest: &Contest, times: u64) -> Option<u64>
     requires { IsContest contest.now }
 {
     let mut sum = 0u64;

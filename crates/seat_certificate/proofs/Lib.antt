@@ -18,6 +18,7 @@ pub mod Fronts
 pub mod Complete
 pub mod Plain
 pub mod TextLaws
+pub mod Short
 pub mod Passing
 pub mod Spellable
 mod Rows

@@ -1,5 +1,5 @@
 -- What a valid certificate says
-use Rattle.std.specs.Prelude.{◌≡◌, ◌⊎◌, ℕ, true, ◌+◌, ◌≤◌, ◌==◌, List, ◌++◌, map, count_by}
+use Rattle.std.specs.Prelude.{◌≡◌, ◌⊎◌, ℕ, true, ◌+◌, ◌≤◌, ◌==◌, List, ◌++◌, length, map, count_by}
 use Rattle.std.specs.List.Sorted.{IsPermutation}
 use Rattle.seat_remainders.specs.declared.contest.Contest.{Contest}
 use Rattle.seat_remainders.specs.declared.contest.Contestant.{Contestant}
@@ -15,7 +15,7 @@ use Rattle.seat_certificate.specs.declared.certificate.Certificate.{Certificate}
 use Rattle.seat_certificate.specs.declared.certificate.FirstLine.{FirstLine}
 use Rattle.seat_certificate.specs.Certificate.{awards_in, certificate_of}
 use Rattle.seat_certificate.specs.Substitutes.{substitutes_of}
-use Rattle.seat_certificate.specs.Text.{HasFewBlocs, HasText, IsFirstBadLine, Spells}
+use Rattle.seat_certificate.specs.Text.{HasFewBlocs, HasText, IsFirstBadLine, Spells, certificate_text}
 use Rattle.seat_certificate.specs.Valid.{IsValid}
 
 -- the seats that a certificate tells of the bloc of a line: those of the first phase, and one for each round that the bloc takes
@@ -64,6 +64,10 @@ SpellsOne = (bytes : List ℕ) (m n : ℕ) (c d : Certificate) → Spells bytes 
 -- and has one first bad line at most
 abbrev pub OneBadLine : Type 0
 OneBadLine = (bytes : List ℕ) (j k : ℕ) → IsFirstBadLine bytes j → IsFirstBadLine bytes k → j ≡ k
+
+-- the text of a certificate has at most 1,048,576 bytes
+abbrev pub TextIsShort : Type 0
+TextIsShort = (code : ℕ) (c : Certificate) → HasText code c → length (certificate_text code c) ≤ 1048576
 
 -- a valid certificate of a contest of few blocs has a text
 abbrev pub ValidHasText : Type 0

@@ -46,7 +46,7 @@ there name bytes now x is held =
     subst (Holds name bytes) same held
 
 -- tables whose name stays are there still
-tables_stay : (name : List ℕ) (t : TablesData) (before now : Files) → file_at name now ≡ file_at name before → HasTables (Some before) name t → HasTables (Some now) name t
+pub tables_stay : (name : List ℕ) (t : TablesData) (before now : Files) → file_at name now ≡ file_at name before → HasTables (Some before) name t → HasTables (Some now) name t
 tables_stay name t before now same has =
     record {
       bytes = has.bytes;

@@ -41,7 +41,7 @@ use Rattle.station.proofs.Casting.{run_counts}
 use Rattle.station.proofs.Performing.{tables_setting}
 use Rattle.station.proofs.RunLaws.{run_exists}
 use Rattle.urna_commands.specs.Again.{AreDone, AreNoCollision, AreReady, Call, Called, EitherMayBeExchanged, ExchangeLeavesIt, Exchanged, HasKept, HavePoll, IsCall, IsExchange, IsSessionOf, LeadTo, LeadsTo, MayBeCalled, NextIsSafe, ReplaceNothing, RestStandsAlone, StandsAlone, Step, StepsKeepVotes, StillStandsAlone, TellsForeign, ballots_in, ballots_led, by_both, by_one, done_call, done_exchange, done_nothing, exchanges, foreign, leads, other, session, silent, stays}
-use Rattle.urna_commands.specs.Command.{Carga, Command, Repoe, ToCheck, ToEmit, ToLoad, ToRecount, ToRehearse, ToReplace, ToTotal, ToVote, Vota, command_of}
+use Rattle.urna_commands.specs.Command.{Carga, Command, Repoe, ToCertify, ToCheck, ToEmit, ToLoad, ToRecount, ToRehearse, ToReplace, ToTotal, ToVerify, ToVote, Vota, command_of}
 use Rattle.command_parts.specs.FaultLines.{Tells, device_word, fault_line}
 use Rattle.urna_commands.specs.FaultLines.{fault_text}
 use Rattle.urna_commands.specs.Errors.{port_status}
@@ -460,6 +460,8 @@ module _ (t : TablesData) (r : RollData) (section : Section) (s : State) (origin
       any_step (Some (ToEmit names)) is_this = command_step (Some (ToEmit names)) is_this tt (λ other_names same. absurd (cc))
       any_step (Some (ToCheck names)) is_this = command_step (Some (ToCheck names)) is_this tt (λ other_names same. absurd (cc))
       any_step (Some (ToRecount names)) is_this = command_step (Some (ToRecount names)) is_this tt (λ other_names same. absurd (cc))
+      any_step (Some (ToCertify names)) is_this = command_step (Some (ToCertify names)) is_this tt (λ other_names same. absurd (cc))
+      any_step (Some (ToVerify names)) is_this = command_step (Some (ToVerify names)) is_this tt (λ other_names same. absurd (cc))
       any_step (Some (ToTotal names)) is_this = command_step (Some (ToTotal names)) is_this tt (λ other_names same. absurd (cc))
       any_step (Some (ToRehearse voters)) is_this = command_step (Some (ToRehearse voters)) is_this tt (λ other_names same. absurd (cc))
       any_step (Some (ToReplace names)) is_this = replace_step names is_this

@@ -1,5 +1,5 @@
 -- Where a call has what it needs, each other ending shows a fault
-use Rattle.std.proofs.Common.{◌≡◌, ◌⊎◌, inl, inr, false, ℕ, zero, suc, ◌+◌, ◌≤◌, List, [], ◌∷◌, length, Option, None, Some, refl, sym, ap, subst, ◌∙◌, IsSomeAnd}
+use Rattle.std.proofs.Common.{◌≡◌, ◌⊎◌, inl, inr, false, ℕ, zero, suc, ◌+◌, ◌≤◌, List, [], ◌∷◌, length, Option, None, Some, Ok, Err, refl, sym, ap, subst, ◌∙◌, IsSomeAnd}
 use Rattle.urna_outside.specs.Cabinet.{CabinetTold, Entry, Files, Tally}
 use Rattle.urna_outside.specs.Flash.{Flashes, flash_of}
 use Rattle.urna_outside.specs.Told.{Rose, Told, faults_of, port_of}
@@ -33,13 +33,15 @@ use Rattle.contingency.proofs.Going.{one_cause}
 use Rattle.station.specs.Start.{FailsToStart}
 use Rattle.station.specs.declared.station.StartError.{StartError}
 use Rattle.station.specs.declared.station.StartError.TheVariants as start
+use Rattle.seat_remainders.specs.declared.contest.Contest.{Contest}
 use Rattle.record_audit.specs.Finding.{finding}
 use Rattle.record_audit.specs.declared.finding.Finding.{Finding}
 use Rattle.record_audit.specs.declared.finding.Finding.TheVariants as found
 use Rattle.urna_commands.specs.Answering.{Answers, answered, cut_short}
 use Rattle.urna_commands.specs.Carga.{CargaEnds, IsSectionAsked, load_no_cabinet, load_no_memory, load_refused, loaded, no_section, not_loaded, not_told}
-use Rattle.urna_commands.specs.Command.{Carga, Command, Confere, Emite, Reconta, Repoe, ToCheck, ToEmit, ToLoad, ToRecount, ToRehearse, ToReplace, ToTotal, ToVote, Totaliza, Vota, command_of}
-use Rattle.urna_commands.specs.Completion.{CanCheck, CanEmit, CanLoad, CanRecount, CanReplace, CanTotal, CanVote, IsByFinding, IsByVerdicts, CanDo, Completes, CompletesWhereItCan, IsDoneOrMemory, TellsOfRisenCounts, tells_of_count}
+use Rattle.urna_commands.specs.Certifica.{CertificaEnds, IsByContest, by_no_seats, by_seats, certificate_not_put, certified, certified_untold, certify_no_contest, certify_no_memory, certify_no_seats}
+use Rattle.urna_commands.specs.Command.{Carga, Certifica, Command, Confere, Emite, Reconta, Repoe, ToCertify, ToCheck, ToEmit, ToLoad, ToRecount, ToRehearse, ToReplace, ToTotal, ToVerify, ToVote, Totaliza, Verifica, Vota, command_of}
+use Rattle.urna_commands.specs.Completion.{CanCertify, CanCheck, CanEmit, CanLoad, CanRecount, CanReplace, CanTotal, CanVerify, CanVote, IsByFinding, IsByVerdicts, CanDo, Completes, CompletesWhereItCan, IsDoneOrMemory, TellsOfRisenCounts, tells_of_count}
 use Rattle.urna_commands.specs.Confere.{ConfereEnds, check_no_cabinet, check_no_memory, check_not_told, check_refused, checked}
 use Rattle.command_parts.specs.Documents.{HasDocuments, IsFault as IsFaultOf, IsFirstFault as IsFirstFaultOf}
 use Rattle.command_parts.specs.declared.error.CommandError.{CommandError}
@@ -53,13 +55,16 @@ use Rattle.urna_commands.specs.FaultLines.{fault_text}
 use Rattle.urna_commands.specs.Findings.{finding_line, finding_status}
 use Rattle.urna_commands.specs.Laws.{FoundOnce}
 use Rattle.urna_commands.specs.Putting.{PutsResults, StopPutting, no_results, result_files, results_not_made, results_not_put, results_put}
+use Rattle.urna_commands.specs.Office.{ContestStops, HasContest, IsContestFault, contest_no_cabinet, contest_no_memory, contest_refused, of_list, of_office, of_report, of_tables}
 use Rattle.urna_commands.specs.Reconta.{HasRecordAndReport, HasNoReport, IsNoReport, RecontaEnds, fields_fault, no_recount, parts_fault, recount_no_cabinet, recount_no_memory, record_at_fault, recounted, report_at_fault}
 use Rattle.urna_commands.specs.Repoe.{RepoeEnds, not_replaced, replace_no_cabinet, replace_no_memory, replace_refused, replaced, replaced_untold}
 use Rattle.urna_commands.specs.Taking.{HasTaken}
 use Rattle.command_parts.specs.Documents.{IsListed}
-use Rattle.urna_commands.specs.Totaliza.{HasOffered, TotalizaEnds, list_no_cabinet, list_no_memory, list_refused, refused_status, report_no_cabinet, report_no_memory, report_refused, totalled, totals_not_told, verdict_not_told}
+use Rattle.urna_commands.specs.Offered.{HasOffered}
+use Rattle.urna_commands.specs.Totaliza.{TotalizaEnds, list_no_cabinet, list_no_memory, list_refused, refused_status, report_no_cabinet, report_no_memory, report_refused, totalled, totals_not_told, verdict_not_told}
 use Rattle.report_lines.specs.Verdicts.{refused_count, verdict_line}
 use Rattle.urna_commands.specs.Verdicts.{verdict_status}
+use Rattle.urna_commands.specs.Verifica.{Check, HasContestAndCertificate, IsByCheck, IsCertificateFault, VerificaEnds, certificate_at_fault, checked_line, checked_status, of_file, of_other_office, then_certificate, verified, verify_no_cabinet, verify_no_contest, verify_no_memory}
 use Rattle.urna_commands.specs.Vota.{HasVotedTo, IsGiven, IsRefused, VotaEnds, cut, documents, keys, no_cabinet, no_memory, not_started, refused, session_held}
 use Rattle.command_parts.specs.declared.error.Doc.{Doc}
 use Rattle.command_parts.specs.declared.error.Doc.TheVariants as doc
@@ -67,6 +72,8 @@ use Rattle.urna_commands.specs.declared.status.Status.{Status}
 use Rattle.urna_commands.specs.declared.status.Status.TheVariants as status
 use Rattle.command_parts.proofs.Calls.{since}
 use Rattle.command_parts.proofs.Once.{same_names, same_roll, same_tables}
+use Rattle.urna_commands.proofs.Certifying.{fault_or_check}
+use Rattle.urna_commands.proofs.Offices.{fault_or_contest}
 use Rattle.urna_commands.proofs.Once.{record_not_fault, refused_or_documents, refused_or_given, refused_or_listed, refused_or_taken, report_not_fault}
 use Rattle.urna_commands.proofs.Recounts.{no_report_not_read}
 use Rattle.urna_commands.proofs.Totals.{none_at_fault}
@@ -347,6 +354,51 @@ reconta_completes names c d m b s files told none calm can (recounted {r} {p} gi
       is = answers_calm (finding_line r p) (finding_status (finding r p)) m b s calm tells;
     })
 
+-- ---- certifica and verifica
+
+-- where the files give the contest, it is missing only for want of memory
+contest_completes : OneListAnswers → (tables list : List ℕ) (code : ℕ) (c d : CabinetTold) (m b : Told) (s : Status) (files : Files) (contest : Contest) → {X : Type 0}
+    → c.files ≡ Some files → ¬ Rose c.tally.faults d.tally.faults → HasContest (Some files) tables list code contest → ContestStops tables list code c d m b s → X ⊎ (s ≡ status.Memory)
+contest_completes answers tables list code c d m b s files contest told none has (contest_refused why taken untouched) =
+    absurd (fault_or_contest answers files tables list code s contest (subst (λ (f : Option Files). IsContestFault f tables list code s) told why) has)
+contest_completes answers tables list code c d m b s files contest told none has (contest_no_memory taken untouched) = inr refl
+contest_completes answers tables list code c d m b s files contest told none has (contest_no_cabinet (k, of, taken) untouched) = absurd (none taken.counts.faults.rose)
+
+certifica_completes : OneListAnswers → (names : Certifica) (c d : CabinetTold) (m b : Told) (s : Status) (files : Files) → c.files ≡ Some files
+    → ¬ Rose c.tally.faults d.tally.faults → Calm s m b → CanCertify names (Some files) → CertificaEnds names c d m b s
+    → IsByContest (Some files) names s ⊎ (s ≡ status.Memory)
+certifica_completes answers names c d m b s files told none calm can (certify_no_contest stops) =
+    contest_completes answers names.tables names.list names.code c d m b s files can.contest told none can.given stops
+certifica_completes answers names c d m b s files told none calm can (certify_no_seats {contest} has nobody taken untouched) =
+    inl (by_no_seats (subst (λ (f : Option Files). HasContest f names.tables names.list names.code contest) told has) nobody)
+certifica_completes answers names c d m b s files told none calm can (certify_no_memory has taken untouched) = inr refl
+certifica_completes answers names c d m b s files told none calm can (certificate_not_put after made fails untouched) =
+    absurd (none (subst (λ (tally : Tally). Rose tally.faults d.tally.faults) made.took.2.counts fails.counts.faults.rose))
+certifica_completes answers names c d m b s files told none calm can (certified_untold after made put off) = absurd (calm Display refl off.faults.rose)
+certifica_completes answers names c d m b s files told none calm can (certified after made put shown) =
+    inl (by_seats (subst (λ (f : Option Files). HasContest f names.tables names.list names.code made.contest) told made.has) made.made.come)
+
+verifica_completes : OneListAnswers → (names : Verifica) (c d : CabinetTold) (m b : Told) (s : Status) (files : Files) → c.files ≡ Some files
+    → ¬ Rose c.tally.faults d.tally.faults → Calm s m b → CanVerify names (Some files) → VerificaEnds names c d m b s
+    → IsByCheck (Some files) names s ⊎ (s ≡ status.Memory)
+verifica_completes answers names c d m b s files told none calm can (verify_no_contest stops) =
+    contest_completes answers names.tables names.list names.code c d m b s files can.contest told none can.given.contest_is stops
+verifica_completes answers names c d m b s files told none calm can (certificate_at_fault {contest} has why taken untouched) =
+    absurd (fault_or_check answers files names s can.contest can.certificate
+    (then_certificate (subst (λ (f : Option Files). HasContest f names.tables names.list names.code contest) told has)
+    (subst (λ (f : Option Files). IsCertificateFault f names s) told why)) can.given)
+verifica_completes answers names c d m b s files told none calm can (verify_no_memory taken untouched) = inr refl
+verifica_completes answers names c d m b s files told none calm can (verify_no_cabinet (k, of, taken) untouched) = absurd (none taken.counts.faults.rose)
+verifica_completes answers names c d m b s files told none calm can (verified {contest} {certificate} found has is taken tells) =
+    inl (record {
+      contest = contest;
+      certificate = certificate;
+      given = subst (λ (f : Option Files). HasContestAndCertificate f names contest certificate) told has;
+      checked = found;
+      is_checked = is;
+      is = answers_calm (checked_line names.code found) (checked_status found) m b s calm tells;
+    })
+
 -- ---- ensaio
 
 ensaio_completes : (voters : ℕ) (c d : CabinetTold) (m b : Told) (s : Status) → ¬ Rose c.tally.faults d.tally.faults → Calm s m b → EnsaioEnds voters c d m b s
@@ -382,6 +434,12 @@ completes_as either decoded once answers (ToTotal names) c d m b s (Some f) flas
 completes_as either decoded once answers (ToRecount names) c d m b s None flashes told shown none calm ends can = absurd can
 completes_as either decoded once answers (ToRecount names) c d m b s (Some f) flashes told shown none calm ends can =
     reconta_completes names c d m b s f told none calm can ends
+completes_as either decoded once answers (ToCertify names) c d m b s None flashes told shown none calm ends can = absurd can
+completes_as either decoded once answers (ToCertify names) c d m b s (Some f) flashes told shown none calm ends can =
+    certifica_completes answers names c d m b s f told none calm can ends
+completes_as either decoded once answers (ToVerify names) c d m b s None flashes told shown none calm ends can = absurd can
+completes_as either decoded once answers (ToVerify names) c d m b s (Some f) flashes told shown none calm ends can =
+    verifica_completes answers names c d m b s f told none calm can ends
 completes_as either decoded once answers (ToRehearse voters) c d m b s files flashes told shown none calm ends can =
     ensaio_completes voters c d m b s none calm ends
 completes_as either decoded once answers (ToReplace names) c d m b s None flashes told shown none calm ends can = absurd can
@@ -557,6 +615,41 @@ totaliza_counts names c d m b s none (totalled {verdicts} given totals taken sho
     by_count zero = refl
     by_count (suc k) = refl
 
+contest_counts : (tables list : List ℕ) (code : ℕ) (c d : CabinetTold) (m b : Told) (s : Status) → NothingCounted c d s m b → ContestStops tables list code c d m b s
+    → tells_of_count s ≡ false
+contest_counts tables list code c d m b s none (contest_refused (of_tables h) (k, of, taken) untouched) = fault_counts c.files tables doc.Tables (k + 2) c d s m b none taken h
+contest_counts tables list code c d m b s none (contest_refused (of_office has nobody) (k, of, taken) untouched) = refl
+contest_counts tables list code c d m b s none (contest_refused (of_list has office h) (k, of, taken) untouched) = fault_counts c.files list doc.List (k + 2) c d s m b none taken h
+contest_counts tables list code c d m b s none (contest_refused (of_report {name} given office offered h) (k, of, taken) untouched) =
+    fault_counts c.files name doc.Report (k + 2) c d s m b none taken h
+contest_counts tables list code c d m b s none (contest_no_memory taken untouched) = refl
+contest_counts tables list code c d m b s none (contest_no_cabinet (k, of, taken) untouched) = absurd (none.faults taken.counts.faults.rose)
+
+certifica_counts : (names : Certifica) (c d : CabinetTold) (m b : Told) (s : Status) → NothingCounted c d s m b → CertificaEnds names c d m b s
+    → tells_of_count s ≡ false
+certifica_counts names c d m b s none (certify_no_contest stops) = contest_counts names.tables names.list names.code c d m b s none stops
+certifica_counts names c d m b s none (certify_no_seats has nobody taken untouched) = refl
+certifica_counts names c d m b s none (certify_no_memory has taken untouched) = refl
+certifica_counts names c d m b s none (certificate_not_put after made fails untouched) =
+    absurd (none.faults (subst (λ (tally : Tally). Rose tally.faults d.tally.faults) made.took.2.counts fails.counts.faults.rose))
+certifica_counts names c d m b s none (certified_untold after made put off) = absurd (none.calm Display refl off.faults.rose)
+certifica_counts names c d m b s none (certified after made put shown) = refl
+
+check_counts : (checked : Check) → tells_of_count (checked_status checked) ≡ false
+check_counts (Ok valid) = refl
+check_counts (Err f) = refl
+
+verifica_counts : (names : Verifica) (c d : CabinetTold) (m b : Told) (s : Status) → NothingCounted c d s m b → VerificaEnds names c d m b s
+    → tells_of_count s ≡ false
+verifica_counts names c d m b s none (verify_no_contest stops) = contest_counts names.tables names.list names.code c d m b s none stops
+verifica_counts names c d m b s none (certificate_at_fault has (of_file h) (k, of, taken) untouched) =
+    fault_counts c.files names.certificate doc.Certificate (k + 3) c d s m b none taken h
+verifica_counts names c d m b s none (certificate_at_fault has (of_other_office read other) taken untouched) = refl
+verifica_counts names c d m b s none (verify_no_memory taken untouched) = refl
+verifica_counts names c d m b s none (verify_no_cabinet (k, of, taken) untouched) = absurd (none.faults taken.counts.faults.rose)
+verifica_counts names c d m b s none (verified found has is taken tells) =
+    ap tells_of_count (answers_calm (checked_line names.code found) (checked_status found) m b s none.calm tells) ∙ check_counts found
+
 command_counts : (k : Option Command) (c d : CabinetTold) (m b : Told) (s : Status) → NothingCounted c d s m b → CommandEnds k c d m b s
     → tells_of_count s ≡ false
 command_counts None c d m b s none ends = ap tells_of_count ends.usage
@@ -565,6 +658,8 @@ command_counts (Some (ToLoad names)) c d m b s none ends = carga_counts names c 
 command_counts (Some (ToEmit names)) c d m b s none ends = emite_counts names c d m b s none ends
 command_counts (Some (ToCheck names)) c d m b s none ends = confere_counts names c d m b s none ends
 command_counts (Some (ToRecount names)) c d m b s none ends = reconta_counts names c d m b s none ends
+command_counts (Some (ToCertify names)) c d m b s none ends = certifica_counts names c d m b s none ends
+command_counts (Some (ToVerify names)) c d m b s none ends = verifica_counts names c d m b s none ends
 command_counts (Some (ToTotal names)) c d m b s none ends = totaliza_counts names c d m b s none ends
 command_counts (Some (ToRehearse voters)) c d m b s none ends = done_or_memory s (ensaio_completes voters c d m b s none.faults none.calm ends)
 command_counts (Some (ToReplace names)) c d m b s none ends = repoe_counts names c d m b s none ends

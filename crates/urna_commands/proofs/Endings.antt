@@ -1,5 +1,5 @@
 -- How a command ends, by the answer of its steps
-use Rattle.std.proofs.Common.{◌≡◌, ◌≢◌, ℕ, zero, suc, List, Option, Some, Result, Ok, Err, IsSomeAnd, refl, sym, ap, subst}
+use Rattle.std.proofs.Common.{◌≡◌, ◌≢◌, ℕ, zero, suc, List, Option, Some, Result, Ok, Err, IsSomeAnd, refl, sym, subst}
 use Rattle.std.specs.Prelude.{IfErr}
 use Rattle.std.specs.Result.{IsErrAnd}
 use Rattle.urna_outside.specs.Cabinet.{CabinetTold, Files, Tally}
@@ -37,6 +37,7 @@ use Rattle.urna_commands.specs.Findings.{finding_status}
 use Rattle.urna_commands.specs.Holding.{FailsToHold, hold_status}
 use Rattle.urna_commands.specs.Taking.{HasTaken, status_in}
 use Rattle.urna_commands.specs.Totaliza.{refused_status}
+use Rattle.urna_commands.specs.Verifica.{Check, checked_status}
 use Rattle.urna_commands.specs.Vota.{IsGiven, VotaEnds, cut, not_started}
 use Rattle.urna_commands.specs.Verdicts.{verdict_status}
 use Rattle.urna_commands.specs.declared.status.Status.{Status}
@@ -70,6 +71,7 @@ status_of error.RollCount = status.RollCount
 status_of (error.RollLine k) = status.RollLine k
 status_of (error.Line k) = status.Line k
 status_of (error.RecordLine k) = status.RecordLine k
+status_of (error.CertificateLine k) = status.CertificateLine k
 status_of (error.TooLong d) = status.TooLong d
 status_of (error.Missing d) = status.Missing d
 status_of error.Cabinet = status.Cabinet
@@ -87,6 +89,7 @@ only_status status.RollCount e is = told_by status_of error.RollCount e is
 only_status (status.RollLine k) e is = told_by status_of (error.RollLine k) e is
 only_status (status.Line k) e is = told_by status_of (error.Line k) e is
 only_status (status.RecordLine k) e is = told_by status_of (error.RecordLine k) e is
+only_status (status.CertificateLine k) e is = told_by status_of (error.CertificateLine k) e is
 only_status (status.TooLong d) e is = told_by status_of (error.TooLong d) e is
 only_status (status.Missing d) e is = told_by status_of (error.Missing d) e is
 only_status status.Cabinet e is = told_by status_of error.Cabinet e is
@@ -97,12 +100,15 @@ only_status status.Done e is = absurd (cc)
 only_status (status.SomeRefused k) e is = absurd (cc)
 only_status (status.ReportRefused v) e is = absurd (cc)
 only_status (status.Disagrees f) e is = absurd (cc)
+only_status (status.CertificateRefused f) e is = absurd (cc)
 only_status status.InternalFlash e is = absurd (cc)
 only_status status.ExternalFlash e is = absurd (cc)
 only_status status.Display e is = absurd (cc)
 only_status status.NotSealed e is = absurd (cc)
 only_status status.NoSection e is = absurd (cc)
 only_status (status.NoStanding d) e is = absurd (cc)
+only_status status.NoOffice e is = absurd (cc)
+only_status status.NoSeats e is = absurd (cc)
 
 -- A step that took no document ends a command: for want of memory, by a fault of the cabinet, or as one that refuses the document.
 pub fault_ends : {T : Type 0} (Ends : Status → Type 0) (most : ℕ) (c d : CabinetTold) (Fault : CommandError → Type 0) (r : Result T Status) (e : CommandError)
@@ -168,6 +174,10 @@ counts_finding found.Agree old new same = same
 counts_finding found.Heading old new same = same
 counts_finding (found.Office k) old new same = same
 counts_finding (found.Differs panel c lines said) old new same = same
+
+pub counts_check : (checked : Check) (old new : Tally) → new ≡ old → CountsFor (error_of (checked_status checked)) old new
+counts_check (Ok valid) old new same = same
+counts_check (Err f) old new same = same
 
 -- an answer that was told, or whose line the display cut off, counts as it does
 pub counts_answer : (line : List ℕ) (given : Status) (m n : Told) (s : Status) (old new : Tally) → Answers line given m n s

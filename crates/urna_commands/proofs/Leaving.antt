@@ -33,19 +33,22 @@ use Rattle.station.specs.declared.station.StartError.TheVariants as starting
 use Rattle.record_audit.specs.Finding.{finding}
 use Rattle.urna_commands.specs.Answering.{Answers, answered, cut_short}
 use Rattle.urna_commands.specs.Carga.{CargaEnds, load_no_cabinet, load_no_memory, load_refused, no_section, not_loaded, not_told, loaded}
-use Rattle.urna_commands.specs.Command.{Carga, Command, Confere, Reconta, Repoe, ToLoad, ToVote, Totaliza, Vota, command_of, ToCheck, ToEmit, ToRecount, ToRehearse, ToReplace, ToTotal}
+use Rattle.urna_commands.specs.Certifica.{CertificaEnds, certificate_not_put, certified, certified_untold, certify_no_contest, certify_no_memory, certify_no_seats}
+use Rattle.urna_commands.specs.Command.{Carga, Certifica, Command, Confere, Reconta, Repoe, ToCertify, ToLoad, ToVerify, ToVote, Totaliza, Verifica, Vota, command_of, ToCheck, ToEmit, ToRecount, ToRehearse, ToReplace, ToTotal}
 use Rattle.urna_commands.specs.Confere.{ConfereEnds, check_no_cabinet, check_no_memory, check_not_told, check_refused, checked}
 use Rattle.urna_commands.specs.Ending.{CommandEnds}
 use Rattle.urna_commands.specs.Ensaio.{EnsaioEnds, not_rehearsed, rehearsal_not_put, rehearsal_not_told, rehearsed}
 use Rattle.urna_commands.specs.FaultLines.{fault_text}
 use Rattle.urna_commands.specs.Findings.{finding_line, finding_status}
 use Rattle.urna_commands.specs.Idle.{IdleEndings, IdleLeavesNoMore, IsIdleEnding, IsNoneOf, LoadIsKeptOut, OpenedIsInUse}
+use Rattle.urna_commands.specs.Office.{ContestStops, contest_no_cabinet, contest_no_memory, contest_refused}
 use Rattle.urna_commands.specs.Reconta.{RecontaEnds, no_recount, recount_no_cabinet, recount_no_memory, record_at_fault, recounted, report_at_fault}
 use Rattle.urna_commands.specs.Repoe.{RepoeEnds, not_replaced, replace_no_cabinet, replace_no_memory, replace_refused, replaced, replaced_untold}
 use Rattle.urna_commands.specs.Replaced.{StandingIsInUse}
 use Rattle.urna_commands.specs.Totaliza.{TotalizaEnds, list_no_cabinet, list_no_memory, list_refused, report_no_cabinet, report_no_memory, report_refused, totalled, totals_not_told, verdict_not_told}
 use Rattle.report_lines.specs.Verdicts.{verdict_line, verdict_lines}
 use Rattle.urna_commands.specs.Verdicts.{verdict_status}
+use Rattle.urna_commands.specs.Verifica.{VerificaEnds, certificate_at_fault, checked_line, checked_status, verified, verify_no_cabinet, verify_no_contest, verify_no_memory}
 use Rattle.urna_commands.specs.Vota.{VotaEnds, cut, no_cabinet, no_memory, not_started, refused, session_held}
 use Rattle.urna_commands.specs.declared.status.Status.{Status}
 use Rattle.command_parts.proofs.Idle.{Idles, cut_idles, idle_left, idle_stop, idles-append, shown_idles, synced_idles, told_idles, untouched_idles}
@@ -85,6 +88,27 @@ totaliza_idles names c d m b _ (report_no_memory {verdicts} is offered taken sho
 totaliza_idles names c d m b _ (verdict_not_told {verdicts} is offered taken off) = cut_idles (verdict_lines verdicts) m b off
 totaliza_idles names c d m b _ (totals_not_told {verdicts} {lines} is has taken off) = cut_idles (verdict_lines verdicts ++ lines) m b off
 totaliza_idles names c d m b _ (totalled {verdicts} {lines} is has taken shown) = shown_idles (verdict_lines verdicts ++ lines) m b shown
+
+-- a command that has no contest
+stops_untouched : (tables list : List ℕ) (code : ℕ) (c d : CabinetTold) (m b : Told) (s : Status) → ContestStops tables list code c d m b s → IsUntouched m b
+stops_untouched tables list code c d m b _ (contest_refused why taken un) = un
+stops_untouched tables list code c d m b _ (contest_no_memory taken un) = un
+stops_untouched tables list code c d m b _ (contest_no_cabinet taken un) = un
+
+certifica_idles : (names : Certifica) (c d : CabinetTold) (m b : Told) (s : Status) → CertificaEnds names c d m b s → Idles m b
+certifica_idles names c d m b s (certify_no_contest stops) = untouched_idles m b (stops_untouched names.tables names.list names.code c d m b s stops)
+certifica_idles names c d m b _ (certify_no_seats has none taken un) = untouched_idles m b un
+certifica_idles names c d m b _ (certify_no_memory has taken un) = untouched_idles m b un
+certifica_idles names c d m b _ (certificate_not_put after made fails un) = untouched_idles m b un
+certifica_idles names c d m b _ (certified_untold {lines} after made put off) = cut_idles lines m b off
+certifica_idles names c d m b _ (certified {lines} after made put shown) = shown_idles lines m b shown
+
+verifica_idles : (names : Verifica) (c d : CabinetTold) (m b : Told) (s : Status) → VerificaEnds names c d m b s → Idles m b
+verifica_idles names c d m b s (verify_no_contest stops) = untouched_idles m b (stops_untouched names.tables names.list names.code c d m b s stops)
+verifica_idles names c d m b _ (certificate_at_fault has why taken un) = untouched_idles m b un
+verifica_idles names c d m b _ (verify_no_memory taken un) = untouched_idles m b un
+verifica_idles names c d m b _ (verify_no_cabinet taken un) = untouched_idles m b un
+verifica_idles names c d m b s (verified found has is taken tells) = answer_idles (checked_line names.code found) (checked_status found) m b s tells
 
 ensaio_idles : (voters : ℕ) (c d : CabinetTold) (m b : Told) (s : Status) → EnsaioEnds voters c d m b s → Idles m b
 ensaio_idles voters c d m b _ (not_rehearsed kept un) = untouched_idles m b un
@@ -226,6 +250,8 @@ command_idles (Some (ToLoad names)) c d m b answer h is = carga_ends_idles names
 command_idles (Some (ToEmit names)) c d m b answer h is = emite_idles names c d m b answer h
 command_idles (Some (ToCheck names)) c d m b answer h is = confere_idles names c d m b answer h
 command_idles (Some (ToRecount names)) c d m b answer h is = reconta_idles names c d m b answer h
+command_idles (Some (ToCertify names)) c d m b answer h is = certifica_idles names c d m b answer h
+command_idles (Some (ToVerify names)) c d m b answer h is = verifica_idles names c d m b answer h
 command_idles (Some (ToTotal names)) c d m b answer h is = totaliza_idles names c d m b answer h
 command_idles (Some (ToRehearse voters)) c d m b answer h is = ensaio_idles voters c d m b answer h
 command_idles (Some (ToReplace names)) c d m b answer h is = repoe_idles names c d m b answer h is

@@ -24,3 +24,6 @@ mod Replacing
 mod Refused
 mod Touching
 mod Begun
+mod Offices
+mod Certifying
+mod Certificates

@@ -6,7 +6,7 @@ use Rattle.election_tables.specs.Roll.{RollData}
 use Rattle.election_tables.specs.TablesData.{TablesData}
 use Rattle.section_intake.specs.declared.verdict.Verdict.{Verdict}
 use Rattle.urna_commands.specs.Carga.{CargaEnds, load_no_cabinet, load_no_memory, load_refused, loaded, no_section, not_loaded, not_told}
-use Rattle.urna_commands.specs.Command.{Carga, Command, Confere, Emite, Repoe, ToCheck, ToEmit, ToLoad, ToRecount, ToRehearse, ToReplace, ToTotal, ToVote, Vota, command_of}
+use Rattle.urna_commands.specs.Command.{Carga, Command, Confere, Emite, Repoe, ToCertify, ToCheck, ToEmit, ToLoad, ToRecount, ToRehearse, ToReplace, ToTotal, ToVerify, ToVote, Vota, command_of}
 use Rattle.urna_commands.specs.Confere.{ConfereEnds, HasVerdict, check_no_cabinet, check_no_memory, check_not_told, check_refused, checked}
 use Rattle.command_parts.specs.Documents.{HasDocuments}
 use Rattle.urna_commands.specs.Documents.{IsFirstFault}
@@ -19,6 +19,8 @@ use Rattle.urna_commands.specs.Vota.{IsGiven, IsRefused, VotaEnds, cut, no_cabin
 use Rattle.command_parts.specs.declared.error.Doc.TheVariants as doc
 use Rattle.urna_commands.specs.declared.status.Status.{Status}
 use Rattle.urna_commands.specs.declared.status.Status.TheVariants as status
+use Rattle.key_script.specs.Laws.{OneListAnswers}
+use Rattle.urna_commands.proofs.Certifying.{certifica_refused, verifica_refused}
 use Rattle.urna_commands.proofs.Recounts.{recount_refused}
 use Rattle.urna_commands.proofs.Once.{first_once, one_verdict_on, refused_once, refused_or_checked, refused_or_documents, refused_or_given}
 
@@ -89,19 +91,21 @@ module _ (c d : CabinetTold) (m n : Told) (files : Files) (told : c.files ≡ So
   verdict_so names v _ has (checked {v = w} also taken shown) =
       inl (ap verdict_status (one_verdict_on files names w v (subst (λ (o : Option Files). HasVerdict o names w) told also) has))
 
-  refused_so : (command : Option Command) (e s : Status) → AreRefused command files e → CommandEnds command c d m n s → EndsRefused e s
-  refused_so (Some (ToVote names)) e s why ends = vota_refused names e s why ends
-  refused_so (Some (ToLoad names)) e s why ends = carga_refused names e s why ends
-  refused_so (Some (ToEmit names)) e s why ends = emite_refused names e s why ends
-  refused_so (Some (ToCheck names)) e s why ends = confere_refused names e s why ends
-  refused_so (Some (ToTotal names)) e s why ends = absurd why
-  refused_so (Some (ToRehearse voters)) e s why ends = absurd why
-  refused_so (Some (ToReplace names)) e s why ends = repoe_refused names e s why ends
-  refused_so (Some (ToRecount names)) e s why ends = recount_refused names c d m n files e s told why ends
-  refused_so None e s why ends = absurd why
+  refused_so : OneListAnswers → (command : Option Command) (e s : Status) → AreRefused command files e → CommandEnds command c d m n s → EndsRefused e s
+  refused_so answers (Some (ToVote names)) e s why ends = vota_refused names e s why ends
+  refused_so answers (Some (ToLoad names)) e s why ends = carga_refused names e s why ends
+  refused_so answers (Some (ToEmit names)) e s why ends = emite_refused names e s why ends
+  refused_so answers (Some (ToCheck names)) e s why ends = confere_refused names e s why ends
+  refused_so answers (Some (ToTotal names)) e s why ends = absurd why
+  refused_so answers (Some (ToRehearse voters)) e s why ends = absurd why
+  refused_so answers (Some (ToReplace names)) e s why ends = repoe_refused names e s why ends
+  refused_so answers (Some (ToRecount names)) e s why ends = recount_refused names c d m n files e s told why ends
+  refused_so answers (Some (ToCertify names)) e s why ends = certifica_refused answers names c d m n files e s told why ends
+  refused_so answers (Some (ToVerify names)) e s why ends = verifica_refused answers names c d m n files e s told why ends
+  refused_so answers None e s why ends = absurd why
 
-pub refused_end_so : RefusedEndSo
-refused_end_so words c d m n e s files told why ends = refused_so c d m ends.between files told (command_of words) e s why ends.command
+pub refused_end_so : OneListAnswers → RefusedEndSo
+refused_end_so answers words c d m n e s files told why ends = refused_so c d m ends.between files told answers (command_of words) e s why ends.command
 
 pub verdict_ends_so : VerdictEndsSo
 verdict_ends_so names c d m n v s files told has ends = verdict_so c d m n files told names v s has ends

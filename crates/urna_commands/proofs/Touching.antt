@@ -30,7 +30,8 @@ use Rattle.contingency.specs.declared.replacement.ReplaceError.TheVariants as re
 use Rattle.record_audit.specs.Finding.{finding}
 use Rattle.urna_commands.specs.Answering.{Answers, answered, cut_short}
 use Rattle.urna_commands.specs.Carga.{CargaEnds, load_no_cabinet, load_no_memory, load_refused, loaded, no_section, not_loaded, not_told, loaded_line}
-use Rattle.urna_commands.specs.Command.{Carga, Command, Confere, Emite, Reconta, Repoe, ToCheck, ToEmit, ToLoad, ToRecount, ToRehearse, ToReplace, ToTotal, ToVote, Totaliza, Vota, command_of}
+use Rattle.urna_commands.specs.Certifica.{CertificaEnds, certificate_file, certificate_name, certificate_not_put, certified, certified_untold, certify_no_contest, certify_no_memory, certify_no_seats}
+use Rattle.urna_commands.specs.Command.{Carga, Certifica, Command, Confere, Emite, Reconta, Repoe, ToCertify, ToCheck, ToEmit, ToLoad, ToRecount, ToRehearse, ToReplace, ToTotal, ToVerify, ToVote, Totaliza, Verifica, Vota, command_of}
 use Rattle.urna_commands.specs.Confere.{ConfereEnds, check_no_cabinet, check_no_memory, check_not_told, check_refused, checked}
 use Rattle.urna_commands.specs.Emite.{EmiteEnds, emit_no_cabinet, emit_no_memory, emit_refused, emitted, emitted_line, files_stopped, no_files, not_emitted, not_found, not_sealed}
 use Rattle.urna_commands.specs.Ending.{CommandEnds, NoCommandEnds}
@@ -38,7 +39,9 @@ use Rattle.urna_commands.specs.Ensaio.{EnsaioEnds, not_rehearsed, rehearsal_file
 use Rattle.command_parts.specs.FaultLines.{Tells, fault_line}
 use Rattle.urna_commands.specs.FaultLines.{fault_text}
 use Rattle.urna_commands.specs.Findings.{finding_line, finding_status}
-use Rattle.urna_commands.specs.Putting.{HavePut, PutsResults, StopPutting, no_results, result_files, result_names, results_not_made, results_not_put, results_put}
+use Rattle.urna_commands.specs.Office.{ContestStops, contest_no_cabinet, contest_no_memory, contest_refused}
+use Rattle.urna_commands.specs.Offered.{AreToTake, HasTakenReports}
+use Rattle.urna_commands.specs.Putting.{FailsToPutFile, HasPutFile, HavePut, PutsResults, StopPutting, no_results, result_files, result_names, results_not_made, results_not_put, results_put}
 use Rattle.urna_commands.specs.Reconta.{RecontaEnds, no_recount, recount_no_cabinet, recount_no_memory, record_at_fault, recounted, report_at_fault}
 use Rattle.urna_commands.specs.Repoe.{RepoeEnds, not_replaced, replace_no_cabinet, replace_no_memory, replace_refused, replaced, replaced_line, replaced_untold}
 use Rattle.command_parts.specs.Taking.{calls_made}
@@ -52,6 +55,7 @@ use Rattle.urna_outside.proofs.ShowingLines.{cut_front, shows_lines}
 use Rattle.command_parts.proofs.Calls.{calls_more}
 use Rattle.report_lines.specs.Verdicts.{verdict_line, verdict_lines}
 use Rattle.urna_commands.specs.Verdicts.{verdict_status}
+use Rattle.urna_commands.specs.Verifica.{VerificaEnds, certificate_at_fault, checked_line, checked_status, verified, verify_no_cabinet, verify_no_contest, verify_no_memory}
 use Rattle.urna_commands.specs.Vota.{VotaEnds, cut, no_cabinet, no_memory, not_started, refused, session_held}
 use Rattle.urna_commands.specs.declared.status.Status.{Status}
 use Rattle.urna_commands.proofs.PutFiles.{put_stays, stop_stays}
@@ -200,6 +204,59 @@ totaliza_touches names c d m b s (verdict_not_told {t} {listed} {verdicts} is of
 totaliza_touches names c d m b s (totals_not_told {t} {listed} {verdicts} {lines} is has taken off) = listed_touches names c d m b s t listed is (cut_so (verdict_lines verdicts ++ lines) m b off) taken
 totaliza_touches names c d m b s (totalled {t} {listed} {verdicts} {lines} is has taken shown) = listed_touches names c d m b s t listed is (shown_so (verdict_lines verdicts ++ lines) m b shown) taken
 
+-- the reports of a list, and no file
+module _ (tables list : List ℕ) (own : List (List ℕ)) (c d : CabinetTold) (m b : Told) where
+  abbrev ListTouches : ℕ → Type 0
+  ListTouches more = (k : ℕ) × AreToTake c.files tables list k × Touches AreShows own (k + more) c d m b
+
+  took_reports : (more most : ℕ) (s : Status) → more ≤ most → Shown m b → HasTakenReports tables list more s c d → ListTouches most
+  took_reports more most s less ops (k, of, taken) = (k, of, took AreShows own (k + most) (k + more) s c d m b (omega (arith, less)) ops taken)
+
+  stops_touches : (code most : ℕ) (s : Status) → 2 ≤ most → ContestStops tables list code c d m b s → ListTouches most
+  stops_touches code most s less (contest_refused why taken un) = took_reports 2 most s less (untouched_so m b un) taken
+  stops_touches code most _ less (contest_no_memory taken un) = took_reports 2 most status.Memory less (untouched_so m b un) taken
+  stops_touches code most _ less (contest_no_cabinet taken un) = took_reports 2 most status.Cabinet less (untouched_so m b un) taken
+
+-- a certificate is put, or not, behind the reports
+certificate_touches : (names : Certifica) (c a d : CabinetTold) (m b : Told) → Shown m b → HasTakenReports names.tables names.list 2 status.Done c a
+    → Files_stay (certificate_name names.out ∷ []) a d × Made 1 a d → TouchesAtMost (Some (ToCertify names)) c d m b
+certificate_touches names c a d m b ops (k, of, taken) (stay, made) = (
+  k,
+  of,
+  touches AreShows (certificate_name names.out ∷ []) (k + 3) c d m b ops (then_stay (k + 2) status.Done (certificate_name names.out ∷ []) c a d taken stay)
+      (at_most (k + 2 + 1) (k + 3) c d (omega arith) (more_made (k + 2) 1 c a d (taken_made (k + 2) status.Done c a taken) made)),
+)
+
+put_one : (file : Entry) (a d : CabinetTold) → HasPutFile file a d → Files_stay (file.name ∷ []) a d × Made 1 a d
+put_one file a d put =
+    let all : HavePut (file ∷ []) a d = (d, put, refl) in ((λ before told. put_stays (file ∷ []) a d before told all), put_made (file ∷ []) a d all)
+
+stop_one : (file : Entry) (a d : CabinetTold) → FailsToPutFile file a d → Files_stay (file.name ∷ []) a d × Made 1 a d
+stop_one file a d fails =
+    let stop : StopPutting (file ∷ []) a d = inl fails in ((λ before told. stop_stays (file ∷ []) a d before told stop), stop_made (file ∷ []) a d stop)
+
+certifica_touches : (names : Certifica) (c d : CabinetTold) (m b : Told) (s : Status) → CertificaEnds names c d m b s → TouchesAtMost (Some (ToCertify names)) c d m b
+certifica_touches names c d m b s (certify_no_contest stops) =
+    stops_touches names.tables names.list (certificate_name names.out ∷ []) c d m b names.code 3 s (omega arith) stops
+certifica_touches names c d m b _ (certify_no_seats has none taken un) =
+    took_reports names.tables names.list (certificate_name names.out ∷ []) c d m b 2 3 status.NoSeats (omega arith) (untouched_so m b un) taken
+certifica_touches names c d m b _ (certify_no_memory has taken un) =
+    took_reports names.tables names.list (certificate_name names.out ∷ []) c d m b 2 3 status.Memory (omega arith) (untouched_so m b un) taken
+certifica_touches names c d m b _ (certificate_not_put {text} after made fails un) =
+    certificate_touches names c after d m b (untouched_so m b un) made.took (stop_one (certificate_file names text) after d fails)
+certifica_touches names c d m b _ (certified_untold {text} {lines} after made put off) =
+    certificate_touches names c after d m b (cut_so lines m b off) made.took (put_one (certificate_file names text) after d put)
+certifica_touches names c d m b _ (certified {text} {lines} after made put shown) =
+    certificate_touches names c after d m b (shown_so lines m b shown) made.took (put_one (certificate_file names text) after d put)
+
+verifica_touches : (names : Verifica) (c d : CabinetTold) (m b : Told) (s : Status) → VerificaEnds names c d m b s → TouchesAtMost (Some (ToVerify names)) c d m b
+verifica_touches names c d m b s (verify_no_contest stops) = stops_touches names.tables names.list [] c d m b names.code 3 s (omega arith) stops
+verifica_touches names c d m b s (certificate_at_fault has why taken un) = took_reports names.tables names.list [] c d m b 3 3 s (omega arith) (untouched_so m b un) taken
+verifica_touches names c d m b _ (verify_no_memory taken un) = took_reports names.tables names.list [] c d m b 3 3 status.Memory (omega arith) (untouched_so m b un) taken
+verifica_touches names c d m b _ (verify_no_cabinet taken un) = took_reports names.tables names.list [] c d m b 3 3 status.Cabinet (omega arith) (untouched_so m b un) taken
+verifica_touches names c d m b s (verified found has is taken tells) =
+    took_reports names.tables names.list [] c d m b 3 3 s (omega arith) (answer_so (checked_line names.code found) (checked_status found) m b s tells) taken
+
 ensaio_touches : (voters : ℕ) (c d : CabinetTold) (m b : Told) (s : Status) → EnsaioEnds voters c d m b s → Touches AreShows rehearsal_names 6 c d m b
 ensaio_touches voters c d m b s (not_rehearsed same un) =
     touches AreShows rehearsal_names 6 c d m b (untouched_so m b un) (λ before told. (before, ap (λ (x : CabinetTold). x.files) same ∙ told, λ name other. refl))
@@ -347,6 +404,12 @@ touches_so (Some (ToRecount names)) c d m b n s h shown = then_told AreShows [] 
 touches_so (Some (ToTotal names)) c d m b n s h shown =
     let (k, of, are) = totaliza_touches names c d m b s h in
     (k, of, then_told AreShows [] (k + 2) c d m b n are_shows-append are shown)
+touches_so (Some (ToCertify names)) c d m b n s h shown =
+    let (k, of, are) = certifica_touches names c d m b s h in
+    (k, of, then_told AreShows (certificate_name names.out ∷ []) (k + 3) c d m b n are_shows-append are shown)
+touches_so (Some (ToVerify names)) c d m b n s h shown =
+    let (k, of, are) = verifica_touches names c d m b s h in
+    (k, of, then_told AreShows [] (k + 3) c d m b n are_shows-append are shown)
 touches_so (Some (ToReplace names)) c d m b n s h shown = then_told AreAny [] 2 c d m b n (λ xs ys before more. tt) (repoe_touches names c d m b s h) shown
 touches_so (Some (ToRehearse voters)) c d m b n s h shown = then_told AreShows rehearsal_names 6 c d m b n are_shows-append (ensaio_touches voters c d m b s h) shown
 

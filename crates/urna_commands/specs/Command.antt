@@ -48,6 +48,20 @@ pub record Reconta : Type 0 where
   pub report : List ℕ
   pub rdv : List ℕ
 
+-- certifica TABLES LIST CODE OUT: the names of the files, and the code of the office
+pub record Certifica : Type 0 where
+  pub tables : List ℕ
+  pub list : List ℕ
+  pub code : ℕ
+  pub out : List ℕ
+
+-- verifica TABLES LIST CODE FILE: the names of the files, the last of them that of a certificate, and the code of the office
+pub record Verifica : Type 0 where
+  pub tables : List ℕ
+  pub list : List ℕ
+  pub code : ℕ
+  pub certificate : List ℕ
+
 -- a command and its names, or its number of voters
 pub data Command : Type 0 where
   ToVote : Vota → Command
@@ -58,6 +72,8 @@ pub data Command : Type 0 where
   ToRehearse : ℕ → Command
   ToReplace : Repoe → Command
   ToRecount : Reconta → Command
+  ToCertify : Certifica → Command
+  ToVerify : Verifica → Command
 
 -- the words behind vota: TABLES ROLL KEYS OUT
 abbrev pub vota_of : List (List ℕ) → Option Command
@@ -146,6 +162,37 @@ reconta_of [] = None
 reconta_of (a ∷ []) = None
 reconta_of (a ∷ b ∷ c ∷ more) = None
 
+-- the greatest number that a word may tell as the code of an office
+abbrev pub greatest_named_code : ℕ
+greatest_named_code = 99
+
+-- a number that a word may tell as such a code
+abbrev pub in_codes : ℕ → Option ℕ
+in_codes n = if nat_le 1 n && nat_le n greatest_named_code then Some n else None
+
+-- the code of an office that a word names
+abbrev pub named_code : List ℕ → Option ℕ
+named_code word = option_and_then in_codes (decimal_value word)
+
+-- the words behind certifica: TABLES LIST CODE OUT
+abbrev pub certifica_of : List (List ℕ) → Option Command
+certifica_of (tables ∷ list ∷ word ∷ out ∷ []) = option_map (λ c. ToCertify (record { tables = tables; list = list; code = c; out = out })) (named_code word)
+certifica_of [] = None
+certifica_of (a ∷ []) = None
+certifica_of (a ∷ b ∷ []) = None
+certifica_of (a ∷ b ∷ c ∷ []) = None
+certifica_of (a ∷ b ∷ c ∷ d ∷ e ∷ more) = None
+
+-- the words behind verifica: TABLES LIST CODE FILE
+abbrev pub verifica_of : List (List ℕ) → Option Command
+verifica_of (tables ∷ list ∷ word ∷ certificate ∷ []) =
+    option_map (λ c. ToVerify (record { tables = tables; list = list; code = c; certificate = certificate })) (named_code word)
+verifica_of [] = None
+verifica_of (a ∷ []) = None
+verifica_of (a ∷ b ∷ []) = None
+verifica_of (a ∷ b ∷ c ∷ []) = None
+verifica_of (a ∷ b ∷ c ∷ d ∷ e ∷ more) = None
+
 -- the command of the words, if they are one: the first one says which
 abbrev pub command_of : List (List ℕ) → Option Command
 command_of [] = None
@@ -158,4 +205,6 @@ command_of (word ∷ names) =
     else if bytes_eq word (codes "ensaio") then ensaio_of names
     else if bytes_eq word (codes "repoe") then repoe_of names
     else if bytes_eq word (codes "reconta") then reconta_of names
+    else if bytes_eq word (codes "certifica") then certifica_of names
+    else if bytes_eq word (codes "verifica") then verifica_of names
     else None

@@ -13,6 +13,8 @@ use Rattle.image_codec.specs.State.{State}
 use Rattle.section_intake.specs.Accepted.{File}
 use Rattle.section_intake.specs.declared.verdict.Verdict.{Verdict}
 use Rattle.poll_report.specs.declared.report.Report.{Report}
+use Rattle.seat_remainders.specs.declared.contest.Contest.{Contest}
+use Rattle.seat_certificate.specs.declared.certificate.Certificate.{Certificate}
 use Rattle.record_audit.specs.Finding.{finding}
 use Rattle.record_audit.specs.declared.text.RecordText.{RecordText}
 use Rattle.state_store.specs.Rest.{AreFree}
@@ -20,14 +22,18 @@ use Rattle.state_store.specs.Calls.{AreFound}
 use Rattle.contingency.specs.Replaced.{IsReplaced}
 use Rattle.command_parts.specs.Taking.{NothingFailed}
 use Rattle.urna_commands.specs.Carga.{IsSectionAsked}
-use Rattle.urna_commands.specs.Command.{Carga, Command, Confere, Emite, Reconta, Repoe, ToCheck, ToEmit, ToLoad, ToRecount, ToRehearse, ToReplace, ToTotal, ToVote, Totaliza, Vota, command_of}
+use Rattle.urna_commands.specs.Certifica.{IsByContest}
+use Rattle.urna_commands.specs.Command.{Carga, Certifica, Command, Confere, Emite, Reconta, Repoe, ToCertify, ToCheck, ToEmit, ToLoad, ToRecount, ToRehearse, ToReplace, ToTotal, ToVerify, ToVote, Totaliza, Verifica, Vota, command_of}
 use Rattle.command_parts.specs.Documents.{HasDocuments, HasTables, IsTaken}
 use Rattle.urna_commands.specs.Ending.{Ends}
 use Rattle.urna_commands.specs.Findings.{finding_status}
+use Rattle.urna_commands.specs.Office.{HasContest}
 use Rattle.urna_commands.specs.Reconta.{HasRecordAndReport}
 use Rattle.report_lines.specs.Verdicts.{refused_count}
 use Rattle.command_parts.specs.Documents.{AreTaken, IsListed}
-use Rattle.urna_commands.specs.Totaliza.{HasOffered, refused_status}
+use Rattle.urna_commands.specs.Offered.{HasOffered}
+use Rattle.urna_commands.specs.Totaliza.{refused_status}
+use Rattle.urna_commands.specs.Verifica.{HasContestAndCertificate, IsByCheck}
 use Rattle.urna_commands.specs.Vota.{IsGiven}
 use Rattle.command_parts.specs.declared.error.Doc.TheVariants as doc
 use Rattle.urna_commands.specs.declared.status.Status.{Status}
@@ -57,12 +63,16 @@ tells_of_count (status.ReportRefused v) = false
 tells_of_count (status.SomeRefused k) = false
 tells_of_count (status.RecordLine k) = false
 tells_of_count (status.Disagrees f) = false
+tells_of_count (status.CertificateLine k) = false
+tells_of_count (status.CertificateRefused f) = false
 tells_of_count (status.Foreign d) = false
 tells_of_count status.NoImage = false
 tells_of_count (status.Busy d) = false
 tells_of_count status.NotSealed = false
 tells_of_count status.NoSection = false
 tells_of_count (status.NoStanding d) = false
+tells_of_count status.NoOffice = false
+tells_of_count status.NoSeats = false
 
 -- ---- what the commands need
 
@@ -128,6 +138,17 @@ pub record CanRecount (names : Reconta) (files : Option Files) : Type 0 where
   pub p : Report
   pub given : HasRecordAndReport files names r p
 
+-- the files of these names give the contest of an office
+pub record CanCertify (names : Certifica) (files : Option Files) : Type 0 where
+  pub contest : Contest
+  pub given : HasContest files names.tables names.list names.code contest
+
+-- they give it, and a certificate of that office
+pub record CanVerify (names : Verifica) (files : Option Files) : Type 0 where
+  pub contest : Contest
+  pub certificate : Certificate
+  pub given : HasContestAndCertificate files names contest certificate
+
 -- the status that the verdicts on all listed reports give
 pub record IsByVerdicts (names : Totaliza) (files : Option Files) (s : Status) : Type 0 where
   pub t : TablesData
@@ -157,8 +178,11 @@ CanDo (ToTotal names) files flashes = IsSomeAnd files (λ f. CanTotal names (Som
 CanDo (ToRehearse voters) files flashes = Unit
 CanDo (ToReplace names) files flashes = IsSomeAnd files (λ f. IsSomeAnd flashes (CanReplace names (Some f)))
 CanDo (ToRecount names) files flashes = IsSomeAnd files (λ f. CanRecount names (Some f))
+CanDo (ToCertify names) files flashes = IsSomeAnd files (λ f. CanCertify names (Some f))
+CanDo (ToVerify names) files flashes = IsSomeAnd files (λ f. CanVerify names (Some f))
 
--- and so it ends: a check may refuse the report besides, of the totals the verdicts say, and of a recount what it finds
+-- and so it ends: a check may refuse the report besides; of the totals the verdicts say, of a recount what it finds, and of a certificate whether the
+-- contest comes to seats, or what its check comes to
 abbrev pub Completes : Command → Option Files → Status → Type 0
 Completes (ToVote names) files s = IsDoneOrMemory s
 Completes (ToLoad names) files s = IsDoneOrMemory s
@@ -168,6 +192,8 @@ Completes (ToTotal names) files s = IsByVerdicts names files s ⊎ (s ≡ status
 Completes (ToRehearse voters) files s = IsDoneOrMemory s
 Completes (ToReplace names) files s = IsDoneOrMemory s
 Completes (ToRecount names) files s = IsByFinding names files s ⊎ (s ≡ status.Memory)
+Completes (ToCertify names) files s = IsByContest files names s ⊎ (s ≡ status.Memory)
+Completes (ToVerify names) files s = IsByCheck files names s ⊎ (s ≡ status.Memory)
 
 -- Where the cabinet tells its files and the machine its flashes, a call of the program that has what its command needs, and in which no
 -- count of faults rose, does all its steps, or memory was wanted.

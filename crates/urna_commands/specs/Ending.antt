@@ -4,7 +4,8 @@ use Rattle.urna_outside.specs.Cabinet.{CabinetTold}
 use Rattle.urna_outside.specs.Told.{Told}
 use Rattle.flash_store.specs.Syncs.{IsUntouched}
 use Rattle.urna_commands.specs.Carga.{CargaEnds}
-use Rattle.urna_commands.specs.Command.{Command, ToCheck, ToEmit, ToLoad, ToRecount, ToRehearse, ToReplace, ToTotal, ToVote, command_of}
+use Rattle.urna_commands.specs.Certifica.{CertificaEnds}
+use Rattle.urna_commands.specs.Command.{Command, ToCertify, ToCheck, ToEmit, ToLoad, ToRecount, ToRehearse, ToReplace, ToTotal, ToVerify, ToVote, command_of}
 use Rattle.urna_commands.specs.Confere.{ConfereEnds}
 use Rattle.urna_commands.specs.Emite.{EmiteEnds}
 use Rattle.urna_commands.specs.Ensaio.{EnsaioEnds}
@@ -14,6 +15,7 @@ use Rattle.urna_commands.specs.Reconta.{RecontaEnds}
 use Rattle.urna_commands.specs.Repoe.{RepoeEnds}
 use Rattle.urna_commands.specs.Taking.{HasTaken}
 use Rattle.urna_commands.specs.Totaliza.{TotalizaEnds}
+use Rattle.urna_commands.specs.Verifica.{VerificaEnds}
 use Rattle.urna_commands.specs.Vota.{VotaEnds}
 use Rattle.urna_commands.specs.declared.status.Status.{Status}
 use Rattle.urna_commands.specs.declared.status.Status.TheVariants as status
@@ -35,6 +37,8 @@ CommandEnds (Some (ToTotal names)) c d m n s = TotalizaEnds names c d m n s
 CommandEnds (Some (ToRehearse voters)) c d m n s = EnsaioEnds voters c d m n s
 CommandEnds (Some (ToReplace names)) c d m n s = RepoeEnds names c d m n s
 CommandEnds (Some (ToRecount names)) c d m n s = RecontaEnds names c d m n s
+CommandEnds (Some (ToCertify names)) c d m n s = CertificaEnds names c d m n s
+CommandEnds (Some (ToVerify names)) c d m n s = VerificaEnds names c d m n s
 
 -- How a call of the program ends, by what the cabinet and the machine told before and after: as its command, and then the line
 -- that tells a fault was shown, where the status has one.

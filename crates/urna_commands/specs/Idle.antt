@@ -17,7 +17,7 @@ use Rattle.command_parts.specs.Idle.{AreIdle}
 use Rattle.state_store.specs.Calls.{AreFound}
 use Rattle.state_store.specs.Rest.{IsInUse}
 use Rattle.urna_commands.specs.Carga.{CargaEnds}
-use Rattle.urna_commands.specs.Command.{Carga, Command, ToCheck, ToEmit, ToLoad, ToRecount, ToRehearse, ToReplace, ToTotal, ToVote, Vota, command_of}
+use Rattle.urna_commands.specs.Command.{Carga, Command, ToCertify, ToCheck, ToEmit, ToLoad, ToRecount, ToRehearse, ToReplace, ToTotal, ToVerify, ToVote, Vota, command_of}
 use Rattle.urna_commands.specs.Ending.{Ends}
 use Rattle.urna_commands.specs.Errors.{port_status}
 use Rattle.urna_commands.specs.Vota.{IsGiven, VotaEnds}
@@ -51,6 +51,8 @@ IsIdleEnding (Some (ToTotal names)) s = Unit {0}
 IsIdleEnding (Some (ToRehearse voters)) s = Unit {0}
 IsIdleEnding (Some (ToReplace names)) s = IsNoneOf (status.Done ∷ status.InternalFlash ∷ status.ExternalFlash ∷ status.Display ∷ []) s
 IsIdleEnding (Some (ToRecount names)) s = Unit {0}
+IsIdleEnding (Some (ToCertify names)) s = Unit {0}
+IsIdleEnding (Some (ToVerify names)) s = Unit {0}
 IsIdleEnding None s = Unit {0}
 
 -- A call that ends with one of these did nothing but sync and show.

@@ -1,17 +1,17 @@
 -- What each command may touch: the flashes, the files, and how many calls of the cabinet it makes
-use Rattle.std.specs.Prelude.{◌≡◌, ◌⊎◌, ◌≤◌, ◌+◌, ◌++◌, ℕ, List, [], Option, Some, None, length}
+use Rattle.std.specs.Prelude.{◌≡◌, ◌≤◌, ◌+◌, ◌++◌, ℕ, List, [], ◌∷◌, Option, Some, None}
 use Rattle.urna_outside.specs.Cabinet.{CabinetTold, Files}
 use Rattle.urna_outside.specs.Flash.{Op}
 use Rattle.urna_outside.specs.Shows.{AreShows}
 use Rattle.urna_outside.specs.Told.{Runs, Told}
-use Rattle.election_tables.specs.TablesData.{TablesData}
 use Rattle.flash_store.specs.Syncs.{IsFrontOfSyncs}
-use Rattle.urna_commands.specs.Command.{Command, ToCheck, ToEmit, ToLoad, ToRecount, ToRehearse, ToReplace, ToTotal, ToVote, Totaliza, command_of}
+use Rattle.urna_commands.specs.Certifica.{certificate_name}
+use Rattle.urna_commands.specs.Command.{Command, ToCertify, ToCheck, ToEmit, ToLoad, ToRecount, ToRehearse, ToReplace, ToTotal, ToVerify, ToVote, command_of}
 use Rattle.urna_commands.specs.Ending.{Ends}
 use Rattle.urna_commands.specs.Ensaio.{rehearsal_names}
+use Rattle.urna_commands.specs.Offered.{AreToTake}
 use Rattle.urna_commands.specs.Putting.{OthersStay, result_names}
 use Rattle.command_parts.specs.Taking.{calls_made}
-use Rattle.command_parts.specs.Documents.{IsListed}
 use Rattle.urna_commands.specs.declared.status.Status.{Status}
 
 -- ---- what is done on the machine
@@ -35,18 +35,17 @@ pub record Touches (does : List Op → Type 0) (own : List (List ℕ)) (most : �
   pub few : made ≤ most
   pub calls : d.calls ≡ calls_made made c.calls
 
--- how many reports there are to take: none, or as many as a list that can be read names
-abbrev pub AreToTake : CabinetTold → Totaliza → ℕ → Type 0
-AreToTake c names k = (k ≡ 0) ⊎ ((t : TablesData) × (listed : List (List ℕ)) × IsListed c.files names.tables names.list t listed × (k ≡ length listed))
-
--- What each command may touch, however it ends. Words of no command, confere, totaliza, reconta and ensaio put and sync nothing on a flash; emite
--- syncs each at most once, and puts nothing; confere, totaliza, reconta, carga and repoe leave each file as it is; vota and emite change their two files of
--- results alone, and ensaio its six.
+-- What each command may touch, however it ends. Words of no command, confere, totaliza, reconta, certifica, verifica and ensaio put and sync nothing
+-- on a flash; emite syncs each at most once, and puts nothing; confere, totaliza, reconta, verifica, carga and repoe leave each file as it is; vota and
+-- emite change their two files of results alone, certifica that of its certificate, and ensaio its six.
 abbrev pub TouchesAtMost : Option Command → CabinetTold → CabinetTold → Told → Told → Type 0
 TouchesAtMost None c d m n = Touches AreShows [] 0 c d m n
 TouchesAtMost (Some (ToCheck names)) c d m n = Touches AreShows [] 2 c d m n
 TouchesAtMost (Some (ToRecount names)) c d m n = Touches AreShows [] 2 c d m n
-TouchesAtMost (Some (ToTotal names)) c d m n = (k : ℕ) × AreToTake c names k × Touches AreShows [] (k + 2) c d m n
+TouchesAtMost (Some (ToTotal names)) c d m n = (k : ℕ) × AreToTake c.files names.tables names.list k × Touches AreShows [] (k + 2) c d m n
+TouchesAtMost (Some (ToCertify names)) c d m n =
+    (k : ℕ) × AreToTake c.files names.tables names.list k × Touches AreShows (certificate_name names.out ∷ []) (k + 3) c d m n
+TouchesAtMost (Some (ToVerify names)) c d m n = (k : ℕ) × AreToTake c.files names.tables names.list k × Touches AreShows [] (k + 3) c d m n
 TouchesAtMost (Some (ToRehearse voters)) c d m n = Touches AreShows rehearsal_names 6 c d m n
 TouchesAtMost (Some (ToEmit names)) c d m n = Touches AreSyncsAndShows (result_names names.out) 4 c d m n
 TouchesAtMost (Some (ToLoad names)) c d m n = Touches AreAny [] 2 c d m n

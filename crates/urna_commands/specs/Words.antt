@@ -1,7 +1,7 @@
 -- What a command of the code stands for
 use Rattle.std.specs.Prelude.{◌≤◌}
 use Rattle.election_tables.specs.Limits.{most_voters}
-use Rattle.urna_commands.specs.Command.{Command, ToCheck, ToEmit, ToLoad, ToRecount, ToRehearse, ToReplace, ToTotal, ToVote}
+use Rattle.urna_commands.specs.Command.{Command, ToCertify, ToCheck, ToEmit, ToLoad, ToRecount, ToRehearse, ToReplace, ToTotal, ToVerify, ToVote}
 use Rattle.urna_commands.specs.declared.command.Command as declared
 use Rattle.urna_commands.specs.declared.command.Command.TheVariants as code
 
@@ -15,6 +15,8 @@ meant (code.Totaliza n) = ToTotal (record { tables = n.tables.now; list = n.list
 meant (code.Ensaio voters) = ToRehearse voters
 meant (code.Repoe n) = ToReplace (record { tables = n.tables.now; roll = n.roll.now; replaced = n.replaced })
 meant (code.Reconta n) = ToRecount (record { report = n.report.now; rdv = n.rdv.now })
+meant (code.Certifica n) = ToCertify (record { tables = n.tables.now; list = n.list.now; code = n.code; out = n.out.now })
+meant (code.Verifica n) = ToVerify (record { tables = n.tables.now; list = n.list.now; code = n.code; certificate = n.certificate.now })
 
 -- the voters of a rehearsal are as many as a section may have
 abbrev pub HasVoters : declared.Command → Type 0
@@ -26,3 +28,5 @@ HasVoters (code.Confere n) = Unit
 HasVoters (code.Totaliza n) = Unit
 HasVoters (code.Repoe n) = Unit
 HasVoters (code.Reconta n) = Unit
+HasVoters (code.Certifica n) = Unit
+HasVoters (code.Verifica n) = Unit

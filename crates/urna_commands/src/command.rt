@@ -3,7 +3,7 @@ ghost use Rattle.std.specs.Prelude.{◌≡◌, ◌≤◌, IfSome, map, string_by
 ghost use Rattle.std.specs.Option.{option_map};
 ghost use Rattle.election_tables.specs.Limits.{most_voters};
 ghost use Rattle.urna_commands.specs.Words.{HasVoters, meant};
-ghost use Rattle.urna_commands.specs.Command.{carga_of, command_of, confere_of, emite_of, ensaio_of, named_device, named_number, named_voters, reconta_of, repoe_of, totaliza_of, vota_of};
+ghost use Rattle.urna_commands.specs.Command.{carga_of, certifica_of, command_of, confere_of, emite_of, ensaio_of, named_code, named_device, named_number, named_voters, reconta_of, repoe_of, totaliza_of, verifica_of, vota_of};
 
 use election_tables::{GREATEST_SECTION, MOST_VOTERS};
 use urna_base::decimal;
@@ -64,6 +64,27 @@ pub(crate) struct RecontaNames<'a> {
     pub rdv: &'a str,
 }
 
+/// The names of the files of `certifica`, and the code of the office.
+#[derive(Clone, Copy)]
+pub(crate) struct CertificaNames<'a> {
+    pub tables: &'a str,
+    pub list: &'a str,
+    pub code: u8,
+    pub out: &'a str,
+}
+
+/// The names of the files of `verifica`, and the code of the office.
+#[derive(Clone, Copy)]
+pub(crate) struct VerificaNames<'a> {
+    pub tables: &'a str,
+    pub list: &'a str,
+    pub code: u8,
+    pub certificate: &'a str,
+}
+
+/// The greatest number that a word may tell as the code of an office.
+const GREATEST_NAMED_CODE: u64 = 99;
+
 /// A command, with the names of its files, or its number of voters.
 #[derive(Clone, Copy)]
 pub(crate) enum Command<'a> {
@@ -75,6 +96,8 @@ pub(crate) enum Command<'a> {
     Ensaio(u32),
     Repoe(RepoeNames<'a>),
     Reconta(RecontaNames<'a>),
+    Certifica(CertificaNames<'a>),
+    Verifica(VerificaNames<'a>),
 }
 
 /// The command of some words: the first one says which, and the others are its names.
@@ -94,6 +117,8 @@ pub(crate) fn command_of(words: &[String]) -> Option<Command<'_>>
         "ensaio" => ensaio_of(names),
         "repoe" => repoe_of(names),
         "reconta" => reconta_of(names),
+        "certifica" => certifica_of(names),
+        "verifica" => verifica_of(names),
         _ => None,
     }
 }
@@ -207,6 +232,48 @@ fn reconta_of(names: &[String]) -> Option<Command<'_>>
         report: report.as_str(),
         rdv: rdv.as_str(),
     }))
+}
+
+/// TABLES LIST CODE OUT.
+fn certifica_of(names: &[String]) -> Option<Command<'_>>
+    ensures { option_map meant result ≡ certifica_of (map string_bytes names.now) }
+{
+    let [tables, list, word, out] = names else {
+        return None;
+    };
+    let code = named_code(word.as_str())?;
+    Some(Command::Certifica(CertificaNames {
+        tables: tables.as_str(),
+        list: list.as_str(),
+        code,
+        out: out.as_str(),
+    }))
+}
+
+/// TABLES LIST CODE FILE.
+fn verifica_of(names: &[String]) -> Option<Command<'_>>
+    ensures { option_map meant result ≡ verifica_of (map string_bytes names.now) }
+{
+    let [tables, list, word, certificate] = names else {
+        return None;
+    };
+    let code = named_code(word.as_str())?;
+    Some(Command::Verifica(VerificaNames {
+        tables: tables.as_str(),
+        list: list.as_str(),
+        code,
+        certificate: certificate.as_str(),
+    }))
+}
+
+/// The code of an office: a decimal from 1 to `GREATEST_NAMED_CODE`. Whether an office has it is up to the tables.
+fn named_code(word: &str) -> Option<u8>
+    ensures { result ≡ named_code word.now }
+{
+    match decimal(word.as_bytes()) {
+        Some(number) if 1 <= number && number <= GREATEST_NAMED_CODE => Some(number as u8),
+        _ => None,
+    }
 }
 
 /// A flash: `interna` or `externa`.

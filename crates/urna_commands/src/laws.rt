@@ -1,16 +1,18 @@
 //! The headline (`specs/Headline.antt`), and the same of any calls and exchanges one after the other (`specs/Again.antt`); what is done over a
 //! replaced flash (`specs/Replaced.antt`); laws of what lies at rest
-//! (`specs/AtRest.antt`), of reports that are accepted (`specs/Accepting.antt`) and agree with their records (`specs/Recounts.antt`), of what puts nothing on a flash (`specs/Idle.antt`,
+//! (`specs/AtRest.antt`), of reports that are accepted (`specs/Accepting.antt`) and agree with their records (`specs/Recounts.antt`), of certificates
+//! (`specs/Certificates.antt`), of what puts nothing on a flash (`specs/Idle.antt`,
 //! `specs/NeverBusy.antt`), of what each command may touch (`specs/Touching.antt`), of endings (`specs/Laws.antt`, `specs/Completion.antt`), and of
 //! files that are put (`specs/Putting.antt`, `specs/Ensaio.antt`).
 ghost use Rattle.urna_commands.specs.Accepting.{EmittedIsAccepted, VotedIsAccepted};
 ghost use Rattle.urna_commands.specs.Again.{EitherMayBeExchanged, ExchangeLeavesIt, LedHasBallots, LoadMakesReady, LoadMayFollow, NextIsSafe, OpenedStays, RestStandsAlone, StepsKeepVotes, StillStandsAlone};
 ghost use Rattle.urna_commands.specs.AtRest.{AllAreCounted, DoneIsWhole, LateFaultIsSealed, RestsWhereNoFlashFailed, SameAtRest, SameInAnyOrder};
+ghost use Rattle.urna_commands.specs.Certificates.{CertifiedIsValid, VerifiedTellsSeats};
 ghost use Rattle.urna_commands.specs.Completion.{CompletesWhereItCan, TellsOfRisenCounts};
 ghost use Rattle.urna_commands.specs.Ensaio.{SixAreThere};
 ghost use Rattle.urna_commands.specs.Headline.{AloneFromTheFirstShow, KeysHaveRun, VotesAreKept};
 ghost use Rattle.urna_commands.specs.Idle.{IdleEndings, IdleLeavesNoMore, LoadIsKeptOut, OpenedIsInUse, OthersAreKeptOut};
-ghost use Rattle.urna_commands.specs.Laws.{FoundOnce, OneRecountStatus, OneTotalStatus, RecountEndsSo, RefusedEndSo, RefusedOnce, RefusedOrGiven, TotalEndsSo, VerdictEndsSo};
+ghost use Rattle.urna_commands.specs.Laws.{CertifyEndsSo, FoundOnce, OneCertifyStatus, OneRecountStatus, OneTotalStatus, OneVerifyStatus, RecountEndsSo, RefusedEndSo, RefusedOnce, RefusedOrGiven, TotalEndsSo, VerdictEndsSo, VerifyEndsSo};
 ghost use Rattle.urna_commands.specs.NeverBusy.{LoadIsNotBusy, LoadLeavesFree};
 ghost use Rattle.urna_commands.specs.Putting.{BothAreThere};
 ghost use Rattle.urna_commands.specs.Recounts.{EmittedAgree, SealedAgree, VotedAgree};
@@ -18,8 +20,8 @@ ghost use Rattle.urna_commands.specs.Replaced.{ReplacedIsForeign, ReplacedIsLoad
 ghost use Rattle.urna_commands.specs.Touching.{EachTouchesAtMost};
 
 /// Where the cabinet tells its files, the words and the files determine whether they are refused, with which status, which verdict `confere`
-/// gives, and what `reconta` finds. A command ends so, unless memory was wanted, or the cabinet or, of `confere`, `totaliza` and `reconta`, the
-/// display failed.
+/// gives, what `reconta` finds, whether `certifica` has a certificate to write, and what `verifica` says of one. A command ends so, unless memory was
+/// wanted, or the cabinet or, of `confere`, `totaliza`, `reconta`, `certifica` and `verifica`, the display failed.
 pub fn one_ending()
     ensures once { RefusedOnce }
     ensures either { RefusedOrGiven }
@@ -29,6 +31,10 @@ pub fn one_ending()
     ensures so { TotalEndsSo }
     ensures recount { OneRecountStatus }
     ensures recounted { RecountEndsSo }
+    ensures certificate { OneCertifyStatus }
+    ensures certified { CertifyEndsSo }
+    ensures check { OneVerifyStatus }
+    ensures checked { VerifyEndsSo }
 {
     key_script::laws::names_or_bad_line();
 }
@@ -42,9 +48,9 @@ pub fn one_poll()
 }
 
 /// Where the cabinet tells its files and the machine its flashes, a call that has what its command needs, and in which nothing failed,
-/// does all its steps, or memory was wanted; `confere` may refuse the report besides, `totaliza` some of the listed ones, and `reconta` may find that
-/// both disagree. A rehearsal
-/// does so over any cabinet and machine, and over any a call in which no count rose tells of none.
+/// does all its steps, or memory was wanted; `confere` may refuse the report besides, `totaliza` some of the listed ones, and `verifica` the
+/// certificate, `reconta` may find that both disagree, and `certifica` that there are no seats. A rehearsal does so over any cabinet and machine,
+/// and over any a call in which no count rose tells of none.
 pub fn completion()
     ensures done { CompletesWhereItCan }
     ensures counts { TellsOfRisenCounts }
@@ -122,6 +128,16 @@ pub fn recounts()
     ensures voted { VotedAgree }
     ensures emitted { EmittedAgree }
 {}
+
+/// The certificate that `verifica` finds valid tells the seats to which the law comes over the accepted reports, whoever made it. Of the one that a
+/// `certifica` put that is Done, under a name of its own, `verifica` with the same tables, list and code tells that it is valid; or memory was wanted,
+/// or the cabinet or the display failed.
+pub fn certificates()
+    ensures seats { VerifiedTellsSeats }
+    ensures valid { CertifiedIsValid }
+{
+    key_script::laws::names_or_bad_line();
+}
 
 /// Where neither flash is in use when `carga` has synced both, neither is at any later stop of the call; and where neither is, `carga`
 /// doesn't answer that one is. So a load that is stopped keeps no later load from its work. Where one is in use, `carga` puts nothing, and

@@ -2,7 +2,8 @@
 //!
 //! `urna` is the call by which the program does its command. What it says of the files, of the text that is shown and of each
 //! status stands in `specs/Ending.antt`, and by command in `specs/Vota.antt`, `specs/Carga.antt`, `specs/Emite.antt`,
-//! `specs/Confere.antt`, `specs/Totaliza.antt`, `specs/Ensaio.antt`, `specs/Repoe.antt` and `specs/Reconta.antt` (docs/RULES.md, "The run"; docs/FORMATS.md, "Statuses").
+//! `specs/Confere.antt`, `specs/Totaliza.antt`, `specs/Ensaio.antt`, `specs/Repoe.antt`, `specs/Reconta.antt`, `specs/Certifica.antt` and
+//! `specs/Verifica.antt` (docs/RULES.md, "The run"; docs/FORMATS.md, "Statuses").
 #![tactic(auto)]
 
 ghost use Rattle.std.specs.Prelude.{map, string_bytes};
@@ -12,6 +13,7 @@ ghost use Rattle.urna_commands.specs.Ending.{CommandEnds, Ends};
 ghost use Rattle.urna_commands.specs.Taking.{status_in};
 
 mod carga;
+mod certifica;
 mod command;
 mod confere;
 mod emite;
@@ -20,6 +22,8 @@ mod errors;
 mod fault;
 mod finding;
 mod laws;
+mod offering;
+mod office;
 mod reconta;
 mod repoe;
 mod results;
@@ -27,9 +31,11 @@ mod status;
 mod telling;
 mod totaliza;
 mod verdict;
+mod verifica;
 mod vota;
 
 use carga::carga;
+use certifica::certifica;
 use command::{Command, command_of};
 pub use command_parts::Doc;
 use command_parts::tell_fault;
@@ -44,6 +50,7 @@ use std::alloc::Global;
 use totaliza::totaliza;
 pub use totals::contest_of;
 use urna_outside::{Cabinet, Machine};
+use verifica::verifica;
 use vota::vota;
 
 /// One command: the words after the program's name, over a machine with two flashes of DEVICE_SIZE bytes and a cabinet.
@@ -55,7 +62,9 @@ use vota::vota;
 /// that of each report that the list names, and the sums and the seats, or the elected, of each office over those that are accepted.
 /// `ensaio N` rehearses a whole election of N voters in memory, puts its files and tells its lines. `repoe TABLES ROLL interna` or
 /// `externa` loads the flash that was replaced from the other one. `reconta REPORT RECORD` tells whether the votes of the text of a record are
-/// those of the file of a report. Where the command was refused, a line tells why.
+/// those of the file of a report. `certifica TABLES LIST CODE OUT` puts the certificate of the seats of an office as `OUT.cer` and tells the
+/// substitutes, and `verifica TABLES LIST CODE FILE` tells whether a certificate is the law's for the reports. Where the command was refused,
+/// a line tells why.
 pub fn urna<M: Machine, C: Cabinet>(
     alloc: Global,
     words: &[String],
@@ -93,5 +102,7 @@ fn run_command<M: Machine, C: Cabinet>(
         Some(Command::Ensaio(voters)) => ensaio(alloc, voters, machine, cabinet),
         Some(Command::Repoe(names)) => repoe(alloc, names, machine, cabinet),
         Some(Command::Reconta(names)) => reconta(alloc, names, machine, cabinet),
+        Some(Command::Certifica(names)) => certifica(alloc, names, machine, cabinet),
+        Some(Command::Verifica(names)) => verifica(alloc, names, machine, cabinet),
     }
 }

@@ -8,6 +8,7 @@ use Rattle.urna_commands.specs.Taking.{HasTaken}
 use Rattle.report_lines.specs.Verdicts.{refused_count, verdict_lines}
 use Rattle.command_parts.specs.Documents.{IsListed}
 use Rattle.urna_commands.specs.Totaliza.{TotalizaEnds, list_no_cabinet, list_no_memory, list_refused, refused_status, report_no_memory, totalled, totals_not_told}
+use Rattle.urna_commands.specs.declared.offering.Telling.TheVariants as telling
 use Rattle.urna_commands.specs.declared.status.Status.TheVariants as status
 use Rattle.command_parts.proofs.Calls.{taken_as}
 use Rattle.urna_commands.proofs.Endings.{counts_refused, fault_ends, passed_on, untouched}
@@ -16,7 +17,7 @@ use Rattle.urna_commands.proofs.totaliza.totaliza.Goals as goal
 
 pub total_lines-requires : goal.total_lines-requires
 total_lines-requires g c =
-    (offers_end c.in_ok-tables.tables c.in_ok-tables.list c.offer_all.new.intake c.in_ok-refused.refused (g.C.Cabinet.told c.args.cabinet.now)
+    (offers_end telling.Verdicts c.in_ok-tables.tables c.in_ok-tables.list c.offer_all.new.intake c.in_ok-refused.refused (g.C.Cabinet.told c.args.cabinet.now)
     (g.C.Cabinet.told c.take_tables_and.new.cabinet) (g.C.Cabinet.told c.offer_all.new.cabinet) (g.M.Machine.told c.args.machine.now)
     (g.M.Machine.told c.offer_all.new.machine) c.in_ok-tables.ensures.taken c.in_ok-refused.ensures).made
 
@@ -63,7 +64,7 @@ returns-in_err-lines g c =
     let t = c.in_ok-tables.tables in
     let listed = c.in_ok-tables.list in
     let given : IsListed x.files names.tables names.list t listed = record { tables = c.in_ok-tables.ensures.tables; list = c.in_ok-tables.ensures.other } in
-    let all = offers_end t listed c.offer_all.new.intake c.in_ok-refused.refused x y z m n c.in_ok-tables.ensures.taken c.in_ok-refused.ensures in
+    let all = offers_end telling.Verdicts t listed c.offer_all.new.intake c.in_ok-refused.refused x y z m n c.in_ok-tables.ensures.taken c.in_ok-refused.ensures in
     subst (TotalizaEnds names x z m n) (sym (passed_on c.from_residual-in_err-lines.result status.Memory c.from_residual-in_err-lines.ensures.1 (λ s h. h)))
     (report_no_memory given all.offered (taken_as _ x z (λ same. same) all.taken) all.shown)
 
@@ -82,7 +83,7 @@ returns-in_err-tell_lines g c =
     let refused = c.in_ok-refused.refused in
     let lines = c.in_ok-lines.lines.items in
     let given : IsListed x.files names.tables names.list t listed = record { tables = c.in_ok-tables.ensures.tables; list = c.in_ok-tables.ensures.other } in
-    let all = offers_end t listed i refused x y z m n c.in_ok-tables.ensures.taken c.in_ok-refused.ensures in
+    let all = offers_end telling.Verdicts t listed i refused x y z m n c.in_ok-tables.ensures.taken c.in_ok-refused.ensures in
     let off : IsCutOff lines n o = subst (λ (ls : List (List ℕ)). IsCutOff ls n o) c.deref.ensures.value c.in_err-tell_lines.ensures.shown in
     subst (TotalizaEnds names x z m o)
     (sym (passed_on c.from_residual-in_err-tell_lines.result status.Display c.from_residual-in_err-tell_lines.ensures.1 (λ s h. h ∙ c.in_err-tell_lines.ensures.err)))
@@ -104,7 +105,7 @@ returns g c =
     let refused = c.in_ok-refused.refused in
     let lines = c.in_ok-lines.lines.items in
     let given : IsListed x.files names.tables names.list t listed = record { tables = c.in_ok-tables.ensures.tables; list = c.in_ok-tables.ensures.other } in
-    let all = offers_end t listed i refused x y z m n c.in_ok-tables.ensures.taken c.in_ok-refused.ensures in
+    let all = offers_end telling.Verdicts t listed i refused x y z m n c.in_ok-tables.ensures.taken c.in_ok-refused.ensures in
     let shown : HasShown lines n o = subst (λ (ls : List (List ℕ)). HasShown ls n o) c.deref.ensures.value c.in_ok-tell_lines.ensures.shown in
     subst (TotalizaEnds names x z m o) (sym (c.ended_with.ensures ∙ ap refused_status all.refused_are))
     (totalled given (have_totals t listed i refused x z m n lines all c.in_ok-lines.ensures)

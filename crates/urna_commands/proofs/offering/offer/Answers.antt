@@ -1,6 +1,5 @@
-use Rattle.std.proofs.Common.{◌∷◌, [], ℕ, List, length, refl, ap, subst, ◌∙◌, arith}
+use Rattle.std.proofs.Common.{ℕ, List, length, refl, ap, subst, ◌∙◌, arith}
 use Rattle.std.proofs.lemmas.Result.{err_from_is_err_and}
-use Rattle.urna_outside.specs.ShownLines.{HasShown, IsCutOff}
 use Rattle.section_intake.specs.Accepted.{File, IsVerdictBehind, accepted_with}
 use Rattle.section_intake.specs.Intake.{accepted_files}
 use Rattle.urna_commands.specs.Offering.{HasVerdictBehind, offer_no_memory, offer_not_shown, offered}
@@ -8,7 +7,7 @@ use Rattle.urna_commands.specs.Taking.{HasTaken}
 use Rattle.urna_commands.specs.declared.status.Status.TheVariants as status
 use Rattle.command_parts.proofs.Calls.{taken_as}
 use Rattle.urna_commands.proofs.Offers.{offer_not_taken}
-use Rattle.urna_commands.proofs.totaliza.offer.Goals as goal
+use Rattle.urna_commands.proofs.offering.offer.Goals as goal
 
 pub offer-requires-clause-short : goal.offer-requires-clause-short
 offer-requires-clause-short g c =
@@ -20,7 +19,7 @@ pub returns-in_err-bytes-clause-ends : goal.returns-in_err-bytes-clause-ends
 returns-in_err-bytes-clause-ends g c =
     let p = err_from_is_err_and c.from_residual.result c.from_residual.ensures.1 in
     rw p.1
-    (offer_not_taken c.args.tables.now (accepted_files c.args.intake.now) c.args.name.now c.args.number (g.C.Cabinet.told c.args.cabinet.now)
+    (offer_not_taken c.args.telling c.args.tables.now (accepted_files c.args.intake.now) c.args.name.now c.args.number (g.C.Cabinet.told c.args.cabinet.now)
     (g.C.Cabinet.told c.take_document.new.cabinet) (g.M.Machine.told c.args.machine.now) (accepted_files c.args.intake.now) p.0 c.in_err-bytes.field-0.0 p.2
     c.in_err-bytes.ensures.fault c.in_err-bytes.ensures.taken)
 
@@ -32,12 +31,10 @@ returns-in_err-verdict-clause-ends g c =
     let p = err_from_is_err_and c.from_residual-in_err-verdict.result c.from_residual-in_err-verdict.ensures.1 in
     rw (p.1, p.2) (offer_no_memory (taken_as 1 x y (λ same. same) taken) refl)
 
-pub returns-in_err-tell_line-clause-ends : goal.returns-in_err-tell_line-clause-ends
-returns-in_err-tell_line-clause-ends g c =
+pub returns-in_err-tell_of-clause-ends : goal.returns-in_err-tell_of-clause-ends
+returns-in_err-tell_of-clause-ends g c =
     let x = g.C.Cabinet.told c.args.cabinet.now in
     let y = g.C.Cabinet.told c.take_document.new.cabinet in
-    let m = g.M.Machine.told c.args.machine.now in
-    let n = g.M.Machine.told c.tell_line.new.machine in
     let t = c.args.tables.now in
     let accepted = accepted_files c.args.intake.now in
     let v = c.in_ok-verdict.verdict in
@@ -48,16 +45,12 @@ returns-in_err-tell_line-clause-ends g c =
       taken = c.in_ok-bytes.ensures.read;
       verdict = subst (λ (b : File). IsVerdictBehind t accepted b v) c.deref.ensures.value c.in_ok-verdict.ensures.verdict;
     } in
-    let p = err_from_is_err_and c.from_residual-in_err-tell_line.result c.from_residual-in_err-tell_line.ensures.1 in
-    rw (p.1, p.2, c.in_err-tell_line.ensures.err)
-    (offer_not_shown has (taken_as 1 x y (λ same. same) taken)
-    (subst (λ (line : List ℕ). IsCutOff (line ∷ []) m n) c.numbered_line.ensures c.in_err-tell_line.ensures.shown))
+    let p = err_from_is_err_and c.from_residual-in_err-tell_of.result c.from_residual-in_err-tell_of.ensures.1 in
+    rw (p.1, p.2, c.in_err-tell_of.ensures.err) (offer_not_shown has (taken_as 1 x y (λ same. same) taken) c.in_err-tell_of.ensures.told)
 
 pub returns-clause-ends : goal.returns-clause-ends
 returns-clause-ends g c =
     let x = g.C.Cabinet.told c.args.cabinet.now in
-    let m = g.M.Machine.told c.args.machine.now in
-    let n = g.M.Machine.told c.tell_line.new.machine in
     let t = c.args.tables.now in
     let accepted = accepted_files c.args.intake.now in
     let v = c.in_ok-verdict.verdict in
@@ -67,5 +60,4 @@ returns-clause-ends g c =
       taken = c.in_ok-bytes.ensures.read;
       verdict = subst (λ (b : File). IsVerdictBehind t accepted b v) c.deref.ensures.value c.in_ok-verdict.ensures.verdict;
     } in
-    offered has (c.in_ok-verdict.ensures.accepted ∙ ap (λ (b : File). accepted_with accepted v b) c.deref.ensures.value) c.in_ok-bytes.ensures.taken
-    (subst (λ (line : List ℕ). HasShown (line ∷ []) m n) c.numbered_line.ensures c.in_ok-tell_line.ensures.shown)
+    offered has (c.in_ok-verdict.ensures.accepted ∙ ap (λ (b : File). accepted_with accepted v b) c.deref.ensures.value) c.in_ok-bytes.ensures.taken c.in_ok-tell_of.ensures.told

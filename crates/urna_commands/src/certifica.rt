@@ -1,0 +1,108 @@
+//! The command `certifica TABLES LIST CODE OUT`: writes the certificate of an office's seats, and tells the substitutes.
+ghost use Rattle.std.specs.Prelude.{◌≡◌, ◌++◌, ◌∷◌, [], true, map, IfErr, IfOk};
+ghost use Rattle.election_tables.specs.Offices.{code_proportional};
+ghost use Rattle.seat_remainders.specs.Contest.{IsContest};
+ghost use Rattle.seat_certificate.specs.Text.{HasFewBlocs};
+ghost use Rattle.urna_commands.specs.Certifica.{CertificaEnds, IsCertified, IsNotCertified, certified_line, substitute_line};
+ghost use Rattle.urna_commands.specs.Taking.{status_in};
+
+use crate::command::CertificaNames;
+use crate::office::contest_of_office;
+use crate::results::named;
+use crate::status::Status;
+use crate::telling::tell_lines;
+use seat_certificate::{Substitute, SubstituteList, certificate_text, certify, substitutes};
+use seat_remainders::{Contest, Outcome, distribute};
+use std::alloc::Global;
+use totals::push_numbered;
+use urna_base::{LineBuffer, Memory};
+use urna_outside::{Cabinet, Machine};
+
+/// The text of a certificate, and the lines that tell the substitutes and that it is put; all made before it is.
+#[derive(Drop)]
+struct Certified {
+    text: Vec<u8>,
+    lines: Vec<LineBuffer>,
+}
+
+/// The certificate of these names: the contest of the office over the accepted reports is made, the certificate of its seats is put, and
+/// then lines tell the substitutes and that it is put.
+pub(crate) fn certifica<M: Machine, C: Cabinet>(
+    alloc: Global,
+    names: CertificaNames<'_>,
+    machine: &mut M,
+    cabinet: &mut C,
+) -> Result<(), Status>
+    ensures { CertificaEnds (record { tables = names.entry.tables.now; list = names.entry.list.now; code = names.entry.code; out = names.entry.out.now })
+        (C.told cabinet.old) (C.told cabinet.new) (M.told machine.old) (M.told machine.new) (status_in result) }
+{
+    let contest = contest_of_office(
+        alloc,
+        names.tables,
+        names.list,
+        names.code,
+        machine,
+        cabinet,
+    )?;
+    let certified = certify_contest(alloc, names.code, &contest)?;
+    let name = named(alloc, names.out, ".cer")?;
+    cabinet.put(name.as_str(), &certified.text)?;
+    tell_lines(machine, &certified.lines)
+}
+
+/// The text and the lines of a contest's certificate.
+fn certify_contest(alloc: Global, code: u8, contest: &Contest) -> Result<Certified, Status>
+    requires contest { IsContest contest.now }
+    requires few { HasFewBlocs contest.now }
+    requires office { code_proportional code ≡ true }
+    ensures ok { IfOk result (λ made. IsCertified code contest.now made.text.items made.lines.items) }
+    ensures err { IfErr result (IsNotCertified contest.now) }
+{
+    let Some(certificate) = certify(alloc, contest)? else {
+        return Err(Status::NoSeats);
+    };
+    let Outcome::Seats(seats) = distribute(alloc, contest)? else {
+        return Err(Status::NoSeats);
+    };
+    let text = certificate_text(alloc, code, &certificate)?;
+    let lines = certified_lines(alloc, code, &substitutes(alloc, contest, &seats)?)?;
+    Ok(Certified { text, lines })
+}
+
+/// One line for each substitute, and the last one for the certificate.
+fn certified_lines(
+    alloc: Global,
+    code: u8,
+    substitutes: &SubstituteList,
+) -> Result<Vec<LineBuffer>, Memory>
+    ensures { IfOk result (λ lines. lines.items ≡ map substitute_line substitutes.now ++ certified_line code ∷ []) }
+{
+    let mut lines = Vec::new(alloc);
+    for i in 0..substitutes.len() {
+        lines.push(substitute_line(*substitutes.get(i)))?;
+    }
+    lines.push(certified_line(code))?;
+    Ok(lines)
+}
+
+/// A substitute: the bloc, the rank in it, and the number.
+fn substitute_line(substitute: Substitute) -> LineBuffer
+    ensures { result ≡ substitute_line substitute }
+{
+    let mut line = LineBuffer::new();
+    push_numbered(&mut line, b"SUPLENTE ", u64::from(substitute.bloc));
+    push_numbered(&mut line, b" ", u64::from(substitute.rank));
+    push_numbered(&mut line, b" ", u64::from(substitute.number));
+    line.push_text(b"\n");
+    line
+}
+
+/// The line that tells that the certificate of an office is put.
+fn certified_line(code: u8) -> LineBuffer
+    ensures { result ≡ certified_line code }
+{
+    let mut line = LineBuffer::new();
+    push_numbered(&mut line, b"CERTIFICADO ", u64::from(code));
+    line.push_text(b"\n");
+    line
+}

@@ -1,0 +1,113 @@
+"""What `certifica` and `verifica` answer of some files, worked out by a model of its own: tables, lists and reports are taken and offered as that of
+tests/offers.py does it, the contest of an office is that of the totals (tests/federations.py), and its certificate is written and judged by
+tests/certificates.py. All commands of the script `certificates` (crates/session_tests) are these.
+
+`other_answers` gives the lines of that script under which another answer stands.
+"""
+
+import re
+from collections import Counter
+
+import certificates
+import federations
+import offers
+import recounts
+
+FAULTS = {"quotient": "QUOCIENTE", "first": "PRIMEIRA", "round": "RODADA", "end": "FIM"}
+
+
+def told(code, judged):
+    """The line that tells how a text was judged, and the number with which the command ends."""
+    kind, *number = judged.split(" ")
+    if kind == "valid":
+        return f"CERTIFICADO VALIDO {code}", 0
+    if kind == "line":
+        return f"ERRO CERTIFICADO LINHA {number[0]}", 10
+    return " ".join(["RECUSADO", FAULTS[kind], *number]), 11
+
+
+class Run(offers.Run):
+    """A command over files. The certificate that it puts is among them then, and its name is in `made`."""
+
+    def __init__(self, words, files, faults=offers.NO_FAULTS):
+        self.made = []
+        super().__init__(words, None, files, faults)
+
+    def run(self, words):
+        forms = {"certifica": self.certifica, "verifica": self.verifica}
+        if len(words) != 5 or words[0] not in forms or not re.fullmatch("[1-9][0-9]?", words[3]):
+            self.refuse("ERRO USO", 2)
+        _, tables, listed, code, name = words
+        self.office = int(code)
+        self.contest = self.contest_of(self.tables(tables), listed)
+        forms[words[0]](name)
+
+    def contest_of(self, tables, listed):
+        """The seats and the parties of the office's contest over the reports of a list that are accepted."""
+        offices = [it for it in tables.document["cargo"] if it["codigo"] == self.office and it["regra"] == "proporcional"]
+        if not offices:
+            self.refuse("ERRO CARGO", 36)
+        ledger = offers.Ledger()
+        for name in self.names(listed):
+            _, ledger = ledger.offer(tables, self.take(name, "BOLETIM"))
+        return offices[0]["cadeiras"], federations.contestants(tables.document, self.office, Counter(ledger.sums))
+
+    def certifica(self, out):
+        if not certificates.comes_to_seats(*self.contest):
+            self.refuse("ERRO SEM VAGAS", 37)
+        self.call()
+        self.made.append(f"{out}.cer")
+        self.files[f"{out}.cer"] = certificates.certificate(self.office, *self.contest)
+        for party, rank, number in certificates.substitutes(*self.contest):
+            self.show(f"SUPLENTE {party} {rank} {number}")
+        self.show(f"CERTIFICADO {self.office}")
+
+    def check(self, text):
+        return told(self.office, certificates.judged(self.office, *self.contest, text))
+
+    def verifica(self, name):
+        line, number = self.check(self.take(name, "CERTIFICADO"))
+        if number == 10:
+            self.refuse(line, number)
+        self.show(line)
+        raise offers.End(number)
+
+    def answer(self):
+        return super().answer() + [f"+ {name}" for name in self.made]
+
+
+def run(words, files):
+    """A command over files that are bytes, each of which stands for a character."""
+    return Run(words, {name: content.decode("latin-1") for name, content in files.items()})
+
+
+class Play(offers.Play):
+    """The script as far as it is gone. Its commands write on no flash."""
+
+    def run(self, words):
+        self.last, self.words = Run(words, self.files, self.faults), words
+        return self.last.answer()
+
+    def anew(self, files):
+        return Run(self.words, files, self.faults).answer()
+
+    def told_of(self, text):
+        """What the last command, a `verifica`, tells of another text in the place of the certificate."""
+        line, number = self.last.check(text.decode("latin-1"))
+        return f"{line} = {number}" if number else line
+
+    def step(self, line):
+        word, *rest = line.split(" ")
+        if word == "urna":
+            return self.run(rest)
+        if word == "print":
+            return self.files[rest[0]].splitlines() if rest[0] in self.files else ["is not there"]
+        if word == "same":
+            return ["the same" if self.files[rest[0]] == self.files[rest[1]] else "not the same"]
+        if word == "answers":
+            return recounts.answers(self.told_of, self.files[rest[0]].encode())
+        return super().step(line)
+
+
+def other_answers():
+    yield from offers.others("certificates", Play())
