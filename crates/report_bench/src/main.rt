@@ -1,8 +1,8 @@
 //! Reads, writes or hashes the field text or the file of a report some times, reads the text of a record or counts it against a report,
 //! offers many reports, to an intake or to a ledger, or gives the seats of a contest or checks their certificate, for `make bench`.
 //!
-//! The words are WORK FILE TIMES, `confere` FILE TABLES TIMES, `reconta` REPORT RECORD TIMES, `totaliza` or `recebe` TEXTS TABLES, or
-//! `cadeiras` or `certidao` CONTEST TIMES. `le` reads the text of the file TIMES times, `escreve` reads it once and writes its report TIMES times, and
+//! The words are WORK FILE TIMES, `confere` FILE TABLES TIMES, `reconta` REPORT RECORD TIMES, `totaliza` or `recebe` TEXTS TABLES,
+//! `cadeiras` CONTEST TIMES, or `verifica` CONTEST CERTIFICATE TIMES. `le` reads the text of the file TIMES times, `escreve` reads it once and writes its report TIMES times, and
 //! `hash` takes the SHA-512 of its bytes TIMES times. `junta` joins the parts of the file TIMES times, `parte` joins them once and makes them
 //! TIMES times, and `confere` checks the file by the tables TIMES times. `registro` reads the text of a record TIMES times, and `reconta`
 //! reads the file of a report and the text of a record and compares them as often. It prints a sum over what was made each time. `totaliza`
@@ -10,7 +10,7 @@
 //! office, and tells each step as it is done. `recebe` makes them too, offers them to a ledger over flashes in memory, then does what was
 //! done to the flashes once more, and tells each step. `cadeiras` gives the 200 seats of the contest whose parties stand in the lines of
 //! CONTEST TIMES times, plays its rounds as often, and sorts as many numbers as its table has averages, and as many pairs of them, as often;
-//! it tells each of these works too. `certidao` gives these seats TIMES times, checks their certificate, reads its text and hashes it as
+//! it tells each of these works too. `verifica` gives these seats TIMES times, checks their certificate, reads its text and hashes it as
 //! often, and tells each of these works.
 //!
 //! Its status is 0 where each time or step went well, 1 where one did not, and 3 where the words are others.
@@ -218,12 +218,17 @@ fn seats_status(rt: &HostRuntime, name: &str, times: &str) -> io::Result<u8> {
     Ok(if well { 0 } else { 1 })
 }
 
-/// The certificate of the contest in the file of this name is checked.
-fn certificate_status(rt: &HostRuntime, name: &str, times: &str) -> io::Result<u8> {
+/// The certificate in the file of the second name is checked for the contest in that of the first.
+fn certificate_status(
+    rt: &HostRuntime,
+    contest: &str,
+    certificate: &str,
+    times: &str,
+) -> io::Result<u8> {
     let Some(times) = decimal(times.as_bytes()) else {
         return Ok(3);
     };
-    let well = tell_certificate(rt, name, times)?;
+    let well = tell_certificate(rt, contest, certificate, times)?;
     Ok(if well { 0 } else { 1 })
 }
 
@@ -248,6 +253,9 @@ fn status(rt: &HostRuntime) -> io::Result<u8> {
         Some(times) if work.as_str() == "reconta" => {
             recount_status(rt, name.as_str(), third.as_str(), times.as_str())
         }
+        Some(times) if work.as_str() == "verifica" => {
+            certificate_status(rt, name.as_str(), third.as_str(), times.as_str())
+        }
         Some(_) => Ok(3),
         None if work.as_str() == "totaliza" => {
             let well = tell_reports(rt, name.as_str(), third.as_str())?;
@@ -258,9 +266,6 @@ fn status(rt: &HostRuntime) -> io::Result<u8> {
             Ok(if well { 0 } else { 1 })
         }
         None if work.as_str() == "cadeiras" => seats_status(rt, name.as_str(), third.as_str()),
-        None if work.as_str() == "certidao" => {
-            certificate_status(rt, name.as_str(), third.as_str())
-        }
         None => work_status(rt, work.as_str(), name.as_str(), third.as_str()),
     }
 }
