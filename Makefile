@@ -1,7 +1,8 @@
-.PHONY: list try demo page check-page test check-house bench crash-trial hostile urna urna_ledger programs dist install
+.PHONY: list try demo page check-page test check-house bench country crash-trial hostile urna urna_ledger programs dist install
 
 TRIALS = 25
 MINUTES = 10
+MUNICIPALITIES = 200
 PREFIX = /usr/local
 URNA = $(CURDIR)/crates/urna_app/out/urna_app
 LEDGER = $(CURDIR)/crates/ledger_app/out/ledger_app
@@ -20,6 +21,7 @@ list:
 	@echo "make test         the gate, each proof from nothing, each edit that must be refused, each test and program, and check-house: an hour"
 	@echo "make check-house  names, sessions and lines of the documents and the sources: seconds"
 	@echo "make bench        how long sessions, commits, the reading of tables, the text of a report, its file, a check of it, a recount, the totals of many reports, the ledger of them, the seats and a rehearsal take, as ratios to plainer programs, and what changed since the last time: a few minutes after a demo"
+	@echo "make country      as many municipal elections as MUNICIPALITIES says, drawn by SEED, each totalled by a call of urna that GNU parallel starts, which is killed in the middle and goes on; what 500,000 reports take; status 2 where parallel is not there: a few minutes after a demo"
 	@echo "make crash-trial  both programs on real files, with a lost flash too, and as many killed sessions and ledgers as TRIALS says, drawn by SEED: a few minutes after a demo"
 	@echo "make hostile      both programs with refused memory, failing calls, odd surroundings, power cuts, exchanged flashes, changed inputs and changed certificates of drawn elections, drawn by SEED, for as long as MINUTES says: ten minutes after a demo"
 
@@ -46,6 +48,11 @@ check-house:
 
 bench: programs
 	bench/run
+
+country:
+	@examples/country
+	@$(MAKE) --silent urna
+	examples/country "$(URNA)" $(MUNICIPALITIES) $(SEED)
 
 crash-trial: programs
 	tests/crash-trial "$(URNA)" "$(LEDGER)" $(TRIALS) $(SEED)
