@@ -146,6 +146,12 @@ class Browser:
     def command(self, name, words):
         return self.ask("POST", "/goog/cdp/execute", {"cmd": name, "params": words})
 
+    def controls(self):
+        """What a screen reader is told of all that takes the keyboard, but the page itself."""
+        nodes = self.command("Accessibility.getFullAXTree", {})["nodes"]
+        focusable = [it for it in nodes if any(one["name"] == "focusable" and one["value"]["value"] for one in it.get("properties", []))]
+        return [it for it in focusable if not it["ignored"] and it["role"]["value"] not in ("RootWebArea", "main")]
+
     def log(self):
         """What the browser complained about."""
         return [it["message"] for it in self.ask("POST", "/se/log", {"type": "browser"}) if it["level"] == "SEVERE"]

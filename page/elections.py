@@ -5,7 +5,8 @@ import tomllib
 from programs import EXAMPLES, Refused, content
 
 # What a page can be given: the bounds of the program (docs/FORMATS.md, "Limits"), and of a total those of one request.
-MOST_TABLES, MOST_ROLL, MOST_REPORT, MOST_REPORTS = 4_194_304, 16_384, 1_048_576, 4_096
+MOST_TABLES, MOST_ROLL, MOST_REPORT, MOST_REPORTS, MOST_CERTIFICATE = 4_194_304, 16_384, 1_048_576, 4_096, 1_048_576
+MOST_TITLES = 600
 REHEARSED = "400"
 # The documents of an example in `examples`, and its section.
 EXAMPLE_POLLS = {"dia": ("tabelas.toml", "rol.txt", "1", "42"), "senado": ("senado.toml", "senado-rol.txt", "1", "42")}
@@ -44,16 +45,16 @@ def reports(program, folder, name):
 
 
 def names_in(tables):
-    """What tables call their parties, candidates and federations. These are looked up to be shown, and no line goes by them."""
+    """What tables call their parties, candidates and federations, and how many seats an office has, each as text. These are looked up to be
+    shown, and no line goes by them."""
     try:
         read = tomllib.loads(tables.decode())
         return {
-            "data": read["data"],
-            "turno": read["turno"],
-            "cargos": [{it: office[it] for it in ("codigo", "regra", "cadeiras")} for office in read["cargo"]],
-            "partidos": {str(it["numero"]): it["nome"] for it in read["partido"]},
-            "candidatos": {f"{it['cargo']} {it['numero']}": it["nome"] for it in read["candidato"]},
-            "federacoes": {str(min(it["partidos"])): it["nome"] for it in read.get("federacao", [])},
+            "data": str(read["data"]),
+            "cadeiras": {str(it["codigo"]): str(it["cadeiras"]) for it in read["cargo"]},
+            "partidos": {str(it["numero"]): str(it["nome"]) for it in read["partido"]},
+            "candidatos": {f"{it['cargo']} {it['numero']}": str(it["nome"]) for it in read["candidato"]},
+            "federacoes": {str(min(it["partidos"])): str(it["nome"]) for it in read.get("federacao", [])},
         }
     except (ValueError, KeyError, TypeError, AttributeError, RecursionError):
         return {}
@@ -61,4 +62,4 @@ def names_in(tables):
 
 def titles_in(roll):
     """The titles of a roll, to choose from."""
-    return [it for it in roll.decode(errors="replace").splitlines() if it.isdigit()][:600]
+    return [it.decode() for it in roll.split(b"\n") if it.isdigit()][:MOST_TITLES]

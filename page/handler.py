@@ -1,10 +1,13 @@
 """What the page's server answers. It is for the browsers of this machine: another host name, or a request that another page sent, is
 refused, and so is what is too large or has another form."""
 
+import contextlib
 import http.cookies
 import http.server
 import json
 import os
+import socket
+import time
 
 from programs import Refused, content
 from session import Session
@@ -28,8 +31,11 @@ ASKED = {
     "/api/confere": (Session.check, SMALL),
     "/api/reconta": (Session.recount, SMALL),
     "/api/totais": (Session.totals, LARGE),
+    "/api/verifica": (Session.verify, 1_400_000),
 }
 RESULTS = "/arquivo/"
+# Of a refused request, how many bytes more are taken, and for how many seconds.
+MOST_LEFT, LONGEST_LEFT = 67_108_864, 10
 HEADERS = {
     "Cache-Control": "no-store",
     "Content-Security-Policy": "default-src 'none'; script-src 'self'; style-src 'self'; img-src 'self' data:; connect-src 'self'; "
@@ -148,14 +154,24 @@ class Handler(http.server.BaseHTTPRequestHandler):
             # What of the request was not read is not taken for another one.
             self.close_connection = True
             self.send_object(refused.status, {"erro": refused.why})
+            self.let_finish()
         except ConnectionError:
             self.close_connection = True
         except OSError:
             self.close_connection = True
             self.send_object(500, {"erro": "um arquivo da sessão não pôde ser lido ou gravado"})
 
+    def let_finish(self):
+        """Takes what a refused request still sends, for a while: one that is cut off would lose its answer too."""
+        left, until = MOST_LEFT, time.monotonic() + LONGEST_LEFT
+        with contextlib.suppress(OSError):
+            self.connection.shutdown(socket.SHUT_WR)
+            self.connection.settimeout(1)
+            while left > 0 and time.monotonic() < until and (piece := self.rfile.read1(65_536)):
+                left -= len(piece)
+
     def send_object(self, status, told):
-        self.send(status, "application/json; charset=utf-8", json.dumps(told, ensure_ascii=False).encode(), {})
+        self.send(status, "application/json; charset=utf-8", json.dumps(told).encode(), {})
 
     def send(self, status, kind, data, more):
         self.send_response(status)

@@ -8,7 +8,7 @@ import os
 import random
 import shutil
 
-from programs import Refused, content, put
+from programs import Refused, anew, content, put
 from runs import calls_of
 
 TABLES, ROLL, KEYS, RESULT = "tabelas.toml", "rol.txt", "teclas", "urna"
@@ -57,8 +57,7 @@ class Machine:
 
     def load(self, tables, roll, zone, section):
         """A machine of these documents, with two new flashes. The one before it is gone."""
-        shutil.rmtree(self.folder, ignore_errors=True)
-        os.mkdir(self.folder)
+        anew(self.folder)
         put(tables, self.folder, TABLES)
         put(roll, self.folder, ROLL)
         self.is_loaded, self.is_on, self.armed, self.cut = False, False, None, None

@@ -1,6 +1,7 @@
 """The built program, run over the files of a folder. Its words go to it as they are, and nothing reaches a shell."""
 
 import os
+import shutil
 import subprocess
 import sys
 from typing import NamedTuple
@@ -19,6 +20,12 @@ class Refused(Exception):
     def __init__(self, status, why):
         super().__init__(why)
         self.status, self.why = status, why
+
+
+def lines_of(shown):
+    """The lines that a command showed. Nothing but a line feed ends one, whatever else a name may have."""
+    lines = shown.decode(errors="replace").split("\n")
+    return lines if lines[-1] else lines[:-1]
 
 
 class Ended(NamedTuple):
@@ -50,7 +57,13 @@ class Program:
         finally:
             run.kill()
             run.wait()
-        return Ended(words, run.returncode, shown.decode(errors="replace").splitlines())
+        return Ended(words, run.returncode, lines_of(shown))
+
+
+def anew(folder):
+    """An empty folder. What was in it is gone."""
+    shutil.rmtree(folder, ignore_errors=True)
+    os.mkdir(folder)
 
 
 def content(*path):

@@ -1,7 +1,6 @@
 """The sessions of the page: one for each browser, known by a token, with its files in a folder of its own."""
 
 import base64
-import binascii
 import collections
 import os
 import secrets
@@ -10,9 +9,9 @@ import tempfile
 import threading
 
 import elections
-import totals
 from machine import REPORT, WORDS, Machine
-from programs import Refused
+from programs import Refused, anew
+from totals import Totals
 
 MOST_SESSIONS = 32
 # Of what the browser gives, by its key: the type.
@@ -31,7 +30,7 @@ def file_given(asked, key, most):
     """The bytes of a file of a request."""
     try:
         data = base64.b64decode(given(asked, key, TEXT), validate=True)
-    except binascii.Error:
+    except ValueError:
         raise Refused(400, f"{key} não é base64")
     if len(data) > most:
         raise Refused(413, f"{key} é grande demais")
@@ -59,6 +58,7 @@ class Session:
         if not self.folder:
             self.folder = tempfile.mkdtemp(dir=self.top)
             self.machine, self.tables, self.names, self.titles = Machine(self.program, self.folder), None, {}, []
+            self.totalled = Totals(self.program, self.path("totais"))
 
     def close(self):
         with self.lock:
@@ -80,7 +80,7 @@ class Session:
     def begin(self, asked):
         """Another election, which is there to begin with, or whose tables and roll are given."""
         if "exemplo" in asked:
-            totals.anew(self.path("ensaio"))
+            anew(self.path("ensaio"))
             tables, roll, zone, section = elections.poll(self.program, self.path("ensaio"), given(asked, "exemplo", TEXT))
         else:
             tables = file_given(asked, "tabelas", elections.MOST_TABLES)
@@ -129,19 +129,30 @@ class Session:
         return {"resposta": self.machine.recount().told()}
 
     def totals(self, asked):
-        """The totals of an example, of the example day with the report of this machine, or of the files that are given; of these under the tables of the machine, where no others are."""
-        folder = self.path("totais")
+        """The totals of an example, of the example day with the report of this machine, or of the files that are given; of these under the
+        tables of the machine, where no others are."""
         if "exemplo" in asked:
-            totals.anew(folder)
-            tables, reports = elections.reports(self.program, folder, given(asked, "exemplo", TEXT))
-            if asked["exemplo"] == "dia" and self.machine.is_sealed():
-                reports = [(REPORT, self.machine.result(REPORT)), *reports]
-            return totals.tell(self.program, folder, tables, reports)
+            return self.totalled.tell(*self.example(given(asked, "exemplo", TEXT)))
         tables = file_given(asked, "tabelas", elections.MOST_TABLES) if asked.get("tabelas") is not None else self.tables
         if tables is None:
             raise Refused(409, "faltam as tabelas: carregar uma urna, ou dar também o arquivo das tabelas")
         reports = [(given(it, "nome", TEXT), file_given(it, "base64", elections.MOST_REPORT)) for it in self.files_given(asked)]
-        return totals.tell(self.program, folder, tables, reports)
+        return self.totalled.tell(tables, reports)
+
+    def example(self, name):
+        """The tables and the reports of an example."""
+        anew(self.path("ensaio"))
+        tables, reports = elections.reports(self.program, self.path("ensaio"), name)
+        if name == "dia" and self.machine.is_sealed():
+            reports = [(REPORT, self.machine.result(REPORT)), *reports]
+        return tables, reports
+
+    def verify(self, asked):
+        """What the program says of a certificate of these totals, or of a file that is given in its place."""
+        name = given(asked, "certificado", TEXT)
+        if "base64" not in asked:
+            return {"resposta": self.totalled.check(name).told()}
+        return {"resposta": self.totalled.check_given(name, file_given(asked, "base64", elections.MOST_CERTIFICATE)).told()}
 
     def files_given(self, asked):
         files = given(asked, "boletins", LIST)
@@ -150,7 +161,7 @@ class Session:
         return files
 
     def result(self, name):
-        return self.machine.result(name)
+        return self.totalled.certificate(name) if name.endswith(".cer") else self.machine.result(name)
 
 
 class Sessions:
@@ -175,3 +186,10 @@ class Sessions:
         if oldest:
             oldest.close()
         return token
+
+    def close(self):
+        """Closes each session, behind the request that it does."""
+        with self.lock:
+            kept = list(self.kept.values())
+        for it in kept:
+            it.close()

@@ -1,38 +1,94 @@
-"""The totals of reports that were dropped on the page: `totaliza` over files in a folder of the session, under names of the server.
+"""The totals of reports that were dropped on the page: `totaliza` over files in a folder of the session, under names of the server; of each
+office whose seats are given in proportion the certificate, which `certifica` makes; and the check of it, or of a file that is given as one,
+by `verifica`.
 
-What else is to be told of these files, as a certificate of the seats, is one more command of `tell`, and one more part of
-static/totais.js.
+What else is to be told of these files is one more command of `tell`, and one more part of static/totais.js.
 """
 
 import os
-import shutil
 
 import elections
-from programs import Refused, put
+from programs import Refused, anew, content, put
 
-TABLES, LIST = "tabelas.toml", "lista.txt"
+TABLES, LIST, GIVEN = "tabelas.toml", "lista.txt", "dado.cer"
 MOST_TOLD = 255
 
 
-def anew(folder):
-    shutil.rmtree(folder, ignore_errors=True)
-    os.mkdir(folder)
+def proportional(lines):
+    """The codes of the offices whose seats are given in proportion: the totals tell a quotient of them, or that there is none."""
+    code, found = None, []
+    for line in lines:
+        if line.startswith("CARGO "):
+            code = line.split(" ")[1]
+        elif line.startswith(("QUOCIENTE ", "SEM QUOCIENTE ")):
+            found.append(code)
+    return found
 
 
-def tell(program, folder, tables, reports):
-    """The reports, each with the name by which it is told, totalled in their order."""
-    if len(tables) > elections.MOST_TABLES or any(len(data) > elections.MOST_REPORT for _, data in reports):
-        raise Refused(413, "o arquivo é grande demais")
-    if len(reports) > elections.MOST_REPORTS:
-        raise Refused(413, "são boletins demais")
-    anew(folder)
-    put(tables, folder, TABLES)
-    files = [f"boletim-{number}.bu" for number in range(1, len(reports) + 1)]
-    for file, (_, data) in zip(files, reports):
-        put(data, folder, file)
-    put("".join(f"{it}\n" for it in files).encode(), folder, LIST)
-    return {
-        "totaliza": program.run(folder, ["totaliza", TABLES, LIST]).told(),
-        "nomes": elections.names_in(tables),
-        "arquivos": [name[:MOST_TOLD] for name, _ in reports],
-    }
+class Totals:
+    """The totals that a session saw last. Those before them are gone, and no name of a certificate stands for two."""
+
+    def __init__(self, program, folder):
+        self.program, self.folder = program, folder
+        self.number, self.certificates = 0, {}
+
+    def run(self, *words):
+        return self.program.run(self.folder, list(words))
+
+    def begin(self):
+        """An empty folder."""
+        self.number, self.certificates = self.number + 1, {}
+        anew(self.folder)
+
+    def tell(self, tables, reports):
+        """The reports, each with the name by which it is told, totalled in their order."""
+        if len(tables) > elections.MOST_TABLES or any(len(data) > elections.MOST_REPORT for _, data in reports):
+            raise Refused(413, "o arquivo é grande demais")
+        if len(reports) > elections.MOST_REPORTS:
+            raise Refused(413, "são boletins demais")
+        self.begin()
+        put(tables, self.folder, TABLES)
+        files = [f"boletim-{number}.bu" for number in range(1, len(reports) + 1)]
+        for file, (_, data) in zip(files, reports):
+            put(data, self.folder, file)
+        put("".join(f"{it}\n" for it in files).encode(), self.folder, LIST)
+        totalled = self.run("totaliza", TABLES, LIST)
+        return {
+            "totaliza": totalled.told(),
+            "certificados": [self.certify(code) for code in proportional(totalled.lines)],
+            "nomes": elections.names_in(tables),
+            "arquivos": [name[:MOST_TOLD] for name, _ in reports],
+        }
+
+    def certify(self, code):
+        """The certificate of an office's seats: its name, what the command showed, and its text, where it made one."""
+        name = f"cargo-{code}-{self.number}"
+        ended = self.run("certifica", TABLES, LIST, code, name)
+        text = content(self.folder, f"{name}.cer").decode(errors="replace") if ended.status == 0 else None
+        self.certificates[f"{name}.cer"] = code
+        return {"cargo": code, "arquivo": f"{name}.cer", "certifica": ended.told(), "texto": text}
+
+    def office_of(self, name):
+        """The office of a certificate of these totals."""
+        if name not in self.certificates:
+            raise Refused(409, "estes totais não estão mais no servidor: totalizar outra vez")
+        return self.certificates[name]
+
+    def check(self, name):
+        """What the program says of the certificate of this name."""
+        return self.run("verifica", TABLES, LIST, self.office_of(name), name)
+
+    def check_given(self, name, data):
+        """What the program says of a file that is given in the place of the certificate of this name."""
+        code = self.office_of(name)
+        put(data, self.folder, GIVEN)
+        try:
+            return self.run("verifica", TABLES, LIST, code, GIVEN)
+        finally:
+            os.remove(os.path.join(self.folder, GIVEN))
+
+    def certificate(self, name):
+        """The bytes of a certificate."""
+        if name not in self.certificates or not os.path.exists(os.path.join(self.folder, name)):
+            raise Refused(404, "não há este certificado")
+        return content(self.folder, name)

@@ -1,17 +1,24 @@
-"""The page in a browser: a whole day by clicks and by keys, the power pulled, a flash replaced, the report, the totals, and a hostile name."""
+"""The page in a browser: a whole day by clicks and by keys, the power pulled, a flash replaced, the report, the totals, a hostile name, and each
+control by the keyboard."""
 
+import base64
 import os
 import re
 
+import certificate_views
+import elections
+import handler
 from client import fields
 from commands import want
 from elections import names_in
 from programs import EXAMPLES, content
 
 # Keys of the keyboard that have no character.
-ENTER, BACKSPACE = "\ue007", "\ue003"
+ENTER, BACKSPACE, TAB = "\ue007", "\ue003", "\ue004"
 PHONE = 390
-HOSTILE = '<script>hacked=1</script><img src=x onerror=hacked=1>'
+HOSTILE = certificate_views.MARKUP
+# It is no line feed, and ends no line of the program.
+SEPARATOR = "\u2028"
 
 
 class Page:
@@ -59,6 +66,22 @@ class Page:
     def texts(self, selector):
         return self.browser.run("return [...document.querySelectorAll(arguments[0])].map((it) => it.textContent)", selector)
 
+    def choose(self, *paths):
+        """Files for the totals, in the place of those that were chosen before."""
+        self.browser.run("const it = document.querySelector('#soma [name=arquivos]'); it.value = ''; it.dispatchEvent(new Event('change'))")
+        if paths:
+            self.browser.give("#soma [name=arquivos]", "\n".join(paths))
+
+    def drop(self, selector, files):
+        """Files, each with its text, dropped at a place of the page."""
+        self.browser.run(
+            "const held = new DataTransfer();"
+            "for (const [name, text] of arguments[1]) { held.items.add(new File([text], name)); }"
+            "document.querySelector(arguments[0]).dispatchEvent(new DragEvent('drop', { dataTransfer: held, cancelable: true, bubbles: true }))",
+            selector,
+            files,
+        )
+
     def file(self, name):
         return self.browser.run("return fetch(arguments[0]).then((it) => it.text())", f"/arquivo/{name}")
 
@@ -78,10 +101,21 @@ def opened(page):
     page.clerk("LIBERA", "RECUSA 7")
 
 
+def count_sayings(page):
+    """Counts how often a screen reader is told of the clerk's terminal."""
+    page.browser.run(
+        "window.sayings = 0;"
+        "const seen = new MutationObserver(() => { window.sayings += 1; });"
+        "for (const it of ['passo', 'resposta']) { seen.observe(document.getElementById(it), { childList: true, characterData: true, subtree: true }); }"
+    )
+
+
 def by_clicks(page):
     page.identify(1)
+    count_sayings(page)
     page.click_keys("1300")
     page.screen("VOTO DE LEGENDA", "a vote for the party is not told")
+    want(page.browser.run("return window.sayings") == 0, "a reader says again what stays")
     page.click_keys("1")
     page.screen("ANA", "the candidate is not told")
     page.picture("urna")
@@ -100,10 +134,12 @@ def by_keys(page):
     page.browser.run("document.querySelector('#terminal').focus()")
     page.browser.press("b")
     page.screen("BRANCO", "the key for blank")
-    # CONFIRMA with one digit, which is not taken, changes nothing.
+    # CONFIRMA with one digit, which is not taken, changes nothing; nor does a key that is held down.
     page.browser.press(ENTER, "1", ENTER)
     page.screen("Prefeito", "the second office is not called")
-    page.browser.press(BACKSPACE, "1", "3", ENTER)
+    page.browser.press(BACKSPACE, "1")
+    page.browser.run("document.querySelector('#terminal').dispatchEvent(new KeyboardEvent('keydown', { key: '1', repeat: true, bubbles: true, cancelable: true }))")
+    page.browser.press("3", ENTER)
     page.screen("FIM", "the second voter sees no FIM")
 
 
@@ -129,7 +165,8 @@ def suspended(page):
 
 def sealed(page):
     """The paper has the counts of the file."""
-    page.clerk("ENCERRA", "ENCERRADA 20261004170000 4")
+    page.browser.give('[data-palavra="ENCERRA"] input', ENTER)
+    page.reply("ENCERRADA 20261004170000 4", "the seal by keys")
     page.view("boletim")
     for command, answer in (("confere", "ACEITO 1 42"), ("reconta", "CONFERE")):
         page.browser.click(f"#{command}")
@@ -156,21 +193,31 @@ def printed(page):
     want(page.browser.run(seen) == ["boletim"], f"more than the report is printed: {page.browser.run(seen)}")
     page.picture("papel")
     page.browser.command("Emulation.setEmulatedMedia", {"media": ""})
+    paper = base64.b64decode(page.browser.command("Page.printToPDF", {})["data"])
+    want(len(re.findall(rb"/Type\s*/Page\b", paper)) == 1, "the report of a small section is not one page")
     page.browser.run("dispatchEvent(new Event('afterprint'))")
 
 
-def totalled(page):
-    """With the other section of the example, the report of this day."""
+def totalled(page, program, work):
+    """With the other section of the example, the report of this day. Three of the seats are vacant."""
     page.view("totais")
     page.browser.click('#exemplos [value="dia"]')
     page.browser.wait("#totalizado", lambda text: "ACEITO 1 42" in text and "2 de 2 seções" in text, "the day is not totalled")
+    certificate_views.put_down(work, "urna.bu", page.file("urna.bu").encode())
+    tables, listed = listed_files(work, ["tabelas.toml", os.path.join(work, "urna.bu"), "secao43.bu"])
+    lines = program.run(work, ["totaliza", tables, listed]).lines
+    want("VAGAS VAZIAS 3" in lines, "no seat is vacant")
+    want_totals(page, lines, names_in(content(tables)))
+    certificate_views.want_certificate(page, program, work, work, tables, listed)
+    page.picture("vazias")
 
 
-def day(page):
+def day(page, program, work):
     """A whole day by clicks and by keys"""
     begin(page, "dia")
-    for part in (opened, by_clicks, by_keys, suspended, sealed, printed, totalled):
+    for part in (opened, by_clicks, by_keys, suspended, sealed, printed):
         part(page)
+    totalled(page, program, work)
 
 
 def pulled(page):
@@ -208,8 +255,8 @@ def pairs_in(text):
 
 def want_totals(page, lines, names):
     """The numbers of the page are those of the lines."""
-    page.browser.run("document.querySelector('#totalizado details').open = true")
-    want(page.browser.run("return document.querySelector('#totalizado pre').textContent") == "\n".join(lines), "other lines are shown")
+    page.browser.run("document.querySelector('#totalizado > details').open = true")
+    want(page.browser.run("return document.querySelector('#totalizado > details pre').textContent") == "\n".join(lines), f"other lines are shown than {lines[:12]}")
     code, candidates, blocs, seats = "", {}, {}, {}
     for line in lines:
         word, *rest = line.split(" ")
@@ -227,62 +274,65 @@ def want_totals(page, lines, names):
     want({it: drawn.count(it) for it in drawn} == seats, f"the seats are {drawn} and not {seats}")
     vacant = sum(int(it.split()[2]) for it in lines if it.startswith("VAGAS VAZIAS"))
     want(page.browser.run("return document.querySelectorAll('circle.vacant').length") == vacant, "other seats are vacant")
-    page.browser.run("document.querySelector('#totalizado details').open = false")
-    rounds = [it.split() for it in lines if it.startswith("SOBRA")]
-    shown = [page.texts(f".contest tbody tr td:nth-child({at})") for at in (1, 2)]
-    for it in rounds:
-        want(it[1] in shown[0] and it[3] in shown[1], f"the round {it} is not told")
+    page.browser.run("document.querySelector('#totalizado > details').open = false")
+    rounds = [[it.split()[at] for at in (1, 3, 5)] for it in lines if it.startswith("SOBRA")]
+    shown = [page.texts(f".rounds tbody td:nth-child({at})") for at in (1, 2, 4)]
+    want([[number, phase, certificate_views.bloc_in(winner)] for number, phase, winner in zip(*shown)] == rounds, f"the rounds are {shown} and not {rounds}")
 
 
 def rehearsed(page, program, work):
     """The totals of the rehearsal, of a federation, and of files that are chosen and dropped, as `totaliza` tells them"""
     page.view("totais")
     program.run(work, ["ensaio", "400"])
-    with open(os.path.join(work, "lista"), "w") as file:
-        file.write("ensaio.bu\n")
+    certificate_views.put_down(work, "lista", b"ensaio.bu\n")
     page.browser.click('#exemplos [value="ensaio"]')
     page.browser.wait("#totalizado", lambda text: "C10100" in text, "the rehearsal is not totalled")
     want_totals(page, program.run(work, ["totaliza", "ensaio.toml", "lista"]).lines, names_in(content(work, "ensaio.toml")))
+    certificate_views.want_certificate(page, program, work, work, "ensaio.toml", "lista")
     page.picture("totais")
     page.browser.click('#exemplos [value="federacao"]')
     page.browser.wait("#totalizado", lambda text: "FRENTE" in text, "the federation is not totalled")
     lines = program.run(EXAMPLES, ["totaliza", "federacao.toml", "federacao-lista.txt"]).lines
     want_totals(page, lines, names_in(content(EXAMPLES, "federacao.toml")))
     page.picture("federacao")
+    chosen(page, program, work)
+
+
+def chosen(page, program, work):
+    """Files that are chosen, and such that are dropped at the place for them and beside it."""
     names = ["tabelas.toml", "secao43.bu", "federacao-42.bu"]
-    lines = chosen_lines(program, work, names)
-    page.browser.give("#soma [name=arquivos]", "\n".join(os.path.join(EXAMPLES, it) for it in names))
+    page.choose(*(os.path.join(EXAMPLES, it) for it in names))
+    want_listed(page, program, work, names)
+    for place, files in (("#solta", names[:2]), ("h1", names)):
+        page.drop(place, [(it, content(EXAMPLES, it).decode()) for it in files])
+        want_listed(page, program, work, files)
+    page.drop("#solta", [("longo.bu", "x" * 1_048_577)])
     page.browser.click("#soma button")
-    page.browser.wait("#totalizado", lambda text: "ESTRANHO" in text, "the chosen files are not totalled")
-    want_totals(page, lines, names_in(content(EXAMPLES, names[0])))
-    drop(page, [(it, content(EXAMPLES, it).decode()) for it in names[:2]])
+    page.browser.wait("#falha", lambda text: "longo.bu é grande demais" in text, "a large report")
+
+
+def listed_files(work, names):
+    """The tables, and a list of reports, of such files of the examples."""
+    tables, *reports = (os.path.join(EXAMPLES, it) for it in names)
+    return tables, certificate_views.put_down(work, "lista-dada", "".join(f"{it}\n" for it in reports).encode())
+
+
+def want_listed(page, program, work, names):
+    """The files that were given are totalled as the program totals them; a report of another election is a stranger among them."""
+    page.browser.run("document.querySelector('#totalizado').replaceChildren()")
     page.browser.click("#soma button")
-    page.browser.wait("#totalizado", lambda text: "secao43.bu" in text and "ESTRANHO" not in text, "the dropped files are not totalled")
-    want_totals(page, chosen_lines(program, work, names[:2]), names_in(content(EXAMPLES, names[0])))
-
-
-def chosen_lines(program, work, names):
-    """What `totaliza` tells of these examples, of which the first is the tables."""
-    with open(os.path.join(work, "lista"), "w") as file:
-        file.write("".join(os.path.join(EXAMPLES, it) + "\n" for it in names[1:]))
-    return program.run(work, ["totaliza", os.path.join(EXAMPLES, names[0]), "lista"]).lines
-
-
-def drop(page, files):
-    """Files dropped on the page."""
-    page.browser.run(
-        "const held = new DataTransfer();"
-        "for (const [name, text] of arguments[0]) { held.items.add(new File([text], name)); }"
-        "document.querySelector('#solta').dispatchEvent(new DragEvent('drop', { dataTransfer: held, cancelable: true, bubbles: true }))",
-        files,
-    )
+    strange = "federacao-42.bu" in names
+    page.browser.wait("#totalizado", lambda text: "secao43.bu" in text and ("ESTRANHO" in text) == strange, f"{names} are not totalled")
+    tables, listed = listed_files(work, names)
+    want_totals(page, program.run(work, ["totaliza", tables, listed]).lines, names_in(content(tables)))
 
 
 def hostile(page, work):
     """A name that is markup is shown as text"""
-    tables = content(EXAMPLES, "tabelas.toml").decode().replace('"ANA"', f"'{HOSTILE}'").replace('"PA"', f"'{HOSTILE}'")
-    with open(os.path.join(work, "<b>tabelas.toml"), "w") as file:
-        file.write(tables)
+    name = f"{HOSTILE}{SEPARATOR}FIM"
+    tables = content(EXAMPLES, "tabelas.toml").decode().replace('"ANA"', f"'{name}'").replace('"PA"', f"'{HOSTILE}'")
+    tables = tables.replace('"PB"', f"'{'W' * 70}'").replace('"BRUNO"', f"'{'W' * 70}'").replace("cadeiras = 5", "cadeiras = 1")
+    certificate_views.put_down(work, "<b>tabelas.toml", tables.encode())
     page.view("urna")
     page.browser.run("const it = document.querySelector('#comeca select'); it.value = 'propria'; it.dispatchEvent(new Event('change'))")
     page.browser.give("#comeca [name=tabelas]", os.path.join(work, "<b>tabelas.toml"))
@@ -292,7 +342,7 @@ def hostile(page, work):
     page.clerk("ABRE", "ABERTA")
     page.identify(1)
     page.click_keys("13001")
-    page.screen(re.escape(HOSTILE), "the name is not shown as text")
+    page.screen(re.escape(name), "the name is not shown as text")
     page.picture("nome")
     page.click_keys("C45C")
     page.screen("FIM", "no FIM")
@@ -301,16 +351,59 @@ def hostile(page, work):
     want(any(HOSTILE in it for it in page.texts(".paper span")), "the name is not on the paper")
     page.view("totais")
     page.browser.click("#soma [name=desta]")
-    page.browser.run("document.querySelector('#soma [name=arquivos]').value = ''; document.querySelector('#soma [name=arquivos]').dispatchEvent(new Event('change'))")
+    page.choose()
     page.browser.click("#soma button")
     page.browser.wait("#totalizado", lambda text: "ACEITO 1 42" in text and "hacked" in text, "the report is not totalled")
+    want(any(HOSTILE in it for it in page.texts(".first td")), "the name is not in the certificate's table")
+    page.picture("nome-totais")
     found = page.browser.run("return [typeof hacked, document.querySelectorAll('main script, main img, main b').length]")
     want(found == ["undefined", 0], f"a name became markup: {found}")
 
 
+def controls(page):
+    """Each control is reached by the Tab key, and has a name for a screen reader; the first link of a view leads into that view"""
+    page.view("totais")
+    page.browser.click('#exemplos [value="federacao"]')
+    page.browser.wait("#totalizado", lambda text: "FRENTE" in text, "the federation is not totalled")
+    for view in ("urna", "tomada", "boletim", "totais"):
+        page.view(view)
+        want(page.texts('nav [aria-current="page"]') == page.texts(f'nav [href="#{view}"]'), f"{view}: it is not told which view it is")
+        page.browser.run("document.querySelector('.skip').focus()")
+        page.browser.press(ENTER)
+        shown = "return [document.activeElement.id, document.body.dataset.view]"
+        want(page.browser.run(shown) == ["conteudo", view], f"{view}: the first link leads to {page.browser.run(shown)}")
+        page.browser.run("for (const it of document.querySelectorAll('main details')) { it.open = it.open || it.checkVisibility(); }")
+        count = page.browser.run(
+            "const wanted = 'a[href], button:not(:disabled), input, select, summary, pre, .paper, #terminal';"
+            "window.left = new Set([...document.querySelectorAll(wanted)].filter((it) => it.checkVisibility() && !it.matches('.skip')));"
+            "document.addEventListener('focusin', (event) => window.left.delete(event.target));"
+            "document.querySelector('.skip').focus(); return window.left.size"
+        )
+        page.browser.press(*[TAB] * (count + 5))
+        left = page.browser.run("return [...window.left].map((it) => it.outerHTML.slice(0, 80))")
+        want(count >= 4 and not left, f"{view}: not reached by the Tab key: {left}")
+        nameless = [it for it in page.browser.controls() if not it.get("name", {}).get("value")]
+        want(not nameless, f"{view}: without a name: {[it['role']['value'] for it in nameless]}")
+
+
+def bounds(page):
+    """The page and its server have the same bounds"""
+    found = page.browser.run("return import('/parts.js').then((it) => it.MOST)")
+    wanted = [elections.MOST_TABLES, elections.MOST_ROLL, elections.MOST_REPORT, elections.MOST_CERTIFICATE, handler.LARGE]
+    want([found[it] for it in ("tables", "roll", "report", "certificate", "asked")] == wanted, f"the page has the bounds {found}")
+
+
 def tried(new, program, address, pictures, work):
     page = Page(new(), address, pictures)
-    for part, words in ((day, ()), (pulled, ()), (rehearsed, (program, work)), (hostile, (work,))):
+    for part, words in (
+        (day, (program, work)),
+        (pulled, ()),
+        (rehearsed, (program, work)),
+        (certificate_views.tried, (program, work)),
+        (controls, ()),
+        (bounds, ()),
+        (hostile, (work,)),
+    ):
         part(page, *words)
         yield part.__doc__
     other = Page(new(), address, pictures)
@@ -320,6 +413,16 @@ def tried(new, program, address, pictures, work):
     page.clerk("LIBERA", "RECUSA 3")
     yield "Two browsers have two sessions"
     for it in (page, other):
-        complaints = [line for line in it.browser.log() if "favicon" not in line]
+        # What the server refuses is said there too.
+        complaints = [line for line in it.browser.log() if "favicon" not in line and "/api/verifica" not in line]
         want(not complaints, f"the browser complains: {complaints[:3]}")
-    yield "The browser complains of nothing"
+    yield "The browser complains of nothing else"
+
+
+def unprepared(new, address, pictures):
+    """Where there is no C compiler the page says so, and the power is not pulled"""
+    page = Page(new(), address, pictures)
+    page.view("tomada")
+    page.browser.wait("#energia", lambda text: "Sem compilador de C" in text, "it is not said")
+    want(page.browser.run("return document.querySelector('#arma').disabled"), "the power can be pulled")
+    yield unprepared.__doc__

@@ -1,6 +1,6 @@
 // The zero report and the report as they are printed, the two files, and what the program says of them.
 
-import { ask, find, make, moment, number, office } from "./parts.js";
+import { ask, find, make, moment, number, office, renew } from "./parts.js";
 import { told } from "./urna.js";
 
 const TITLES = { ZERESIMA: "ZERÉSIMA", BOLETIM: "BOLETIM DE URNA" };
@@ -47,7 +47,7 @@ function paper(kind, lines, page) {
     window.print();
   });
   inside.splice(1, 0, section(page.state));
-  return make("div", { class: "sheet" }, print, make("article", { class: "paper", "data-paper": kind, tabindex: "0" }, ...inside));
+  return make("div", { class: "sheet" }, print, make("article", { class: "paper", "data-paper": kind, tabindex: "0", "aria-label": kind === "zeresima" ? "Zerésima" : "Boletim de urna" }, ...inside));
 }
 
 export function show(page) {
@@ -60,7 +60,7 @@ export function show(page) {
   if (count.length) {
     papers.push(paper("boletim", [...count.slice(1, 2), count[0], ...count.slice(2)], page));
   }
-  find("papeis").replaceChildren(...papers);
+  renew(find("papeis"), ...papers);
   find("sem-boletim").hidden = papers.length > 0 || Boolean(state.lacrada);
   find("resultados").hidden = !state.lacrada;
   find("texto-boletim").hidden = !state.lacrada;

@@ -46,21 +46,36 @@ function places(count) {
   return { seats: seats.sort((one, other) => one.turn - other.turn || other.radius - one.radius), size, outer };
 }
 
+// Whose colour is which, and how many seats each has.
+function legend(entries) {
+  const items = entries.map((it) => {
+    const kind = it.colour ? { class: "seat", fill: it.colour } : { class: "seat vacant" };
+    const sample = make("svg:svg", { viewBox: "0 0 16 16", width: 16, height: 16, "aria-hidden": "true" }, make("svg:rect", { x: 1, y: 1, width: 14, height: 14, rx: 4, ...kind }));
+    return make("li", {}, sample, ` ${it.label}: ${it.seats}`);
+  });
+  return make("ul", { class: "legend" }, ...items);
+}
+
+// A seat at its place, with the number of its party.
+function seat(place, owner, size) {
+  const angle = Math.PI * (1 - place.turn);
+  const [x, y] = [place.radius * Math.cos(angle), -place.radius * Math.sin(angle)];
+  if (!owner) {
+    return [make("svg:circle", { cx: x, cy: y, r: size, class: "seat vacant" })];
+  }
+  const circle = make("svg:circle", { cx: x, cy: y, r: size, class: "seat", fill: owner.colour, "data-bloc": owner.number });
+  return [circle, make("svg:text", { x, y: y + size * 0.36, "text-anchor": "middle", "font-size": Math.min(18, size), class: "on-seat" }, owner.number)];
+}
+
 // The seats by party, the vacant ones hollow.
 export function halfCircle(groups, vacant) {
-  const owners = groups.flatMap((it, at) => Array.from({ length: it.seats }, () => ({ ...it, colour: COLOURS[at % COLOURS.length] })));
-  const all = [...owners, ...Array.from({ length: vacant }, () => null)];
-  const { seats, size, outer } = places(all.length);
-  const drawn = seats.flatMap((it, at) => {
-    const angle = Math.PI * (1 - it.turn);
-    const [x, y] = [it.radius * Math.cos(angle), -it.radius * Math.sin(angle)];
-    const owner = all[at];
-    const kind = owner ? { class: "seat", fill: owner.colour, "data-bloc": owner.number } : { class: "seat vacant" };
-    const circle = make("svg:circle", { cx: x, cy: y, r: size, ...kind });
-    return owner && size >= 11 ? [circle, make("svg:text", { x, y: y + 5, "text-anchor": "middle", class: "on-seat" }, owner.number)] : [circle];
-  });
-  const said = [...groups.filter((it) => it.seats).map((it) => `${it.label}: ${it.seats}`), `vazias: ${vacant}`].join("; ");
+  const seated = groups.filter((it) => it.seats).map((it, at) => ({ ...it, colour: COLOURS[at % COLOURS.length] }));
+  const owners = seated.flatMap((it) => Array.from({ length: it.seats }, () => it));
+  const { seats, size, outer } = places(owners.length + vacant);
+  const drawn = seats.flatMap((it, at) => seat(it, owners[at], size));
+  const entries = [...seated, { label: "vazias", seats: vacant }];
+  const said = entries.map((it) => `${it.label}: ${it.seats}`).join("; ");
   const box = `${-outer - 40} ${-outer - 34} ${2 * outer + 80} ${outer + 68}`;
   const picture = make("svg:svg", { viewBox: box, width: 2 * outer + 80, class: "half", role: "img" }, make("svg:title", {}, "As vagas por partido"), make("svg:desc", {}, said), ...drawn);
-  return make("figure", {}, picture, make("figcaption", {}, said));
+  return make("figure", {}, picture, make("figcaption", {}, legend(entries)));
 }

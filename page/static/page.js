@@ -1,6 +1,6 @@
 // The page: its views, and the state of the session, which each of them shows after every request.
 
-import { ask, encoded, find, read } from "./parts.js";
+import { MOST, ask, encoded, find, read } from "./parts.js";
 import * as boletim from "./boletim.js";
 import * as tomada from "./tomada.js";
 import * as totais from "./totais.js";
@@ -26,13 +26,14 @@ function change(what, words) {
 
 function go() {
   const asked = location.hash.slice(1);
-  const view = VIEWS.includes(asked) ? asked : "urna";
+  // Another place, as the one to which the first link of the page leads, is inside the view that is shown.
+  const view = VIEWS.includes(asked) ? asked : document.body.dataset.view;
   document.body.dataset.view = view;
   for (const it of document.querySelectorAll("[data-views]")) {
     it.hidden = !it.dataset.views.split(" ").includes(view);
   }
   for (const it of document.querySelectorAll("nav a")) {
-    it.toggleAttribute("aria-current", it.hash === `#${view}`);
+    it.setAttribute("aria-current", it.hash === `#${view}` ? "page" : "false");
   }
 }
 
@@ -59,7 +60,10 @@ async function beginOwn(form) {
     return;
   }
   const [zone, section] = [form.elements.zona.value, form.elements.secao.value].map(Number);
-  await begin({ tabelas: await encoded(tables), rol: await encoded(roll), zona: zone, secao: section });
+  const files = await Promise.all([encoded(tables, MOST.tables), encoded(roll, MOST.roll)]).catch(() => null);
+  if (files) {
+    await begin({ tabelas: files[0], rol: files[1], zona: zone, secao: section });
+  }
 }
 
 find("comeca").addEventListener("submit", (event) => {

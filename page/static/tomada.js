@@ -1,6 +1,6 @@
 // The power pulled inside a commit, and a flash that is lost.
 
-import { find, make, number } from "./parts.js";
+import { find, make, number, renew } from "./parts.js";
 import { told } from "./urna.js";
 import { inWords } from "./words.js";
 
@@ -83,7 +83,7 @@ function choices(state) {
 export function show(page) {
   const state = page.state;
   const isOn = state.carregada && state.ligada;
-  find("energia").textContent = power(state);
+  renew(find("energia"), power(state));
   find("energia").className = !state.carregada || state.ligada ? (state.armada ? "power armed" : "power on") : "power off";
   choices(state);
   find("arma").textContent = state.armada ? "Não tirar da tomada" : "Tirar da tomada na próxima gravação";
@@ -93,7 +93,7 @@ export function show(page) {
   for (const it of find("trocas").querySelectorAll("button")) {
     it.disabled = !state.carregada || isOn;
   }
-  find("corte").replaceChildren(...report(page));
+  renew(find("corte"), ...report(page));
 }
 
 export function start(page, change) {

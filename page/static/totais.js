@@ -1,7 +1,8 @@
-// The totals of reports: the verdicts, the votes, the seats and the rounds, all of them out of the lines of `totaliza`.
+// The totals of reports: the verdicts, the votes and the seats, all of them out of the lines of `totaliza`.
 
-import { ask, encoded, find, make, number, office, table } from "./parts.js";
+import { certified } from "./certificado.js";
 import { bars, halfCircle } from "./drawing.js";
+import { MOST, ask, blocName, candidateName, dropZone, encoded, find, make, number, office, table, textBlock } from "./parts.js";
 import { inWords, ofNumber } from "./words.js";
 
 const pairs = (words) => Object.fromEntries(words.flatMap((it, at) => (at % 2 ? [] : [[it, words[at + 1]]])));
@@ -35,7 +36,7 @@ function take(contest, word, rest, line) {
     const [bloc, , votes, , quotient, , seats] = rest;
     contest.blocs.push({ kind: word, number: bloc, votes: Number(votes), quotient, seats: Number(seats) });
   } else if (word === "SOBRA") {
-    contest.rounds.push({ round: rest[0], phase: rest[2], kind: rest[3], number: rest[4] });
+    contest.rounds.push({ round: rest[0], phase: rest[2], winner: rest[4], averages: [] });
   } else if (word === "ELEITO") {
     contest.elected.push({ number: rest[0], votes: rest[2] });
   } else if (word === "QUOCIENTE" && rest.length === 1) {
@@ -50,14 +51,6 @@ function take(contest, word, rest, line) {
 function verdicts(totals, files) {
   const rows = totals.verdicts.map((it, at) => [String(at + 1), files[at] || "", make("code", {}, it), inWords(it)]);
   return rows.length ? table(["linha", "arquivo", "veredito", "em palavras"], rows, "Os boletins") : make("p", {}, "Nenhum boletim foi lido.");
-}
-
-const candidateName = (names, code, it) => (names.candidatos || {})[`${code} ${it}`] || "";
-
-function blocName(names, it) {
-  const federation = it.kind === "FEDERACAO";
-  const name = (federation ? names.federacoes : names.partidos)?.[it.number] || "";
-  return `${federation ? "federação" : "partido"} ${it.number}${name ? ` ${name}` : ""}`;
 }
 
 function votes(contest, names) {
@@ -87,26 +80,6 @@ function seats(contest, names) {
   ];
 }
 
-const PHASES = {
-  2: ["art. 109, I, II e § 2º", "A fase 2 é da maior média, entre os partidos com 80% do quociente e um candidato ainda sem vaga com 20%."],
-  3: ["art. 109, III", "A fase 3 é da maior média, entre todos os partidos com votos e um candidato ainda sem vaga."],
-};
-
-// The rounds of the remaining seats. What else a lawyer is to be shown of a contest, as its certificate, comes behind them.
-function rounds(contest, names) {
-  if (!contest.blocs.length) {
-    return [];
-  }
-  const rows = contest.rounds.map((it) => [it.round, it.phase, blocName(names, it), (PHASES[it.phase] || [""])[0]]);
-  const said = Object.keys(PHASES).filter((phase) => contest.rounds.some((it) => it.phase === phase)).map((phase) => make("p", { class: "hint" }, PHASES[phase][1]));
-  return [
-    make("h4", {}, "As sobras, vaga por vaga"),
-    rows.length ? table(["sobra", "fase", "a vaga vai para", "Código Eleitoral"], rows, "As rodadas") : make("p", {}, "Nenhuma vaga sobrou."),
-    ...said,
-    make("p", {}, contest.vacant ? `${number(contest.vacant)} ${contest.vacant === 1 ? "vaga fica vazia" : "vagas ficam vazias"}.` : "Nenhuma vaga fica vazia."),
-  ];
-}
-
 const TOLD = [
   [/^SEGUNDO TURNO (\d+) (\d+)$/, (name, a, b) => `segundo turno, entre ${name(a)} e ${name(b)}`],
   [/^NINGUEM$/, () => "ninguém tem votos"],
@@ -130,26 +103,38 @@ function sums(contest) {
   return make("dl", { class: "sums" }, ...cells);
 }
 
-function contestOf(contest, names) {
-  const parts = [sums(contest), ...outcome(contest, names), ...seats(contest, names), ...rounds(contest, names), ...votes(contest, names)];
+function contestOf(contest, told, sections) {
+  const names = told.nomes;
+  const certificate = told.certificados.find((it) => it.cargo === contest.code);
+  const certificates = certificate ? certified(certificate, contest, names, sections) : [];
+  const parts = [sums(contest), ...outcome(contest, names), ...seats(contest, names), ...certificates, ...votes(contest, names)];
   return make("section", { class: "contest", "data-cargo": contest.code }, make("h3", {}, office(contest.code)), ...parts);
+}
+
+// The lines of a command as it showed them.
+function linesOf(answer) {
+  const summary = make("summary", {}, `As linhas de ${answer.comando}, que terminou com ${answer.numero}`);
+  return make("details", {}, summary, textBlock(`As linhas de ${answer.comando}`, {}, answer.linhas.join("\n")));
 }
 
 function show(told) {
   const totals = read(told.totaliza.linhas);
-  const names = told.nomes;
   const faults = totals.faults.map((it) => make("p", { class: "bad" }, make("code", {}, it), ` ${inWords(it)}`));
-  const counted = totals.sections ? make("p", {}, `Estão na soma ${number(totals.sections[0])} de ${number(totals.sections[1])} seções.`) : null;
+  const counted = totals.sections ? `Estão na soma ${number(totals.sections[0])} de ${number(totals.sections[1])} seções.` : "";
   const silent = told.totaliza.linhas.length ? [] : [make("p", { class: "bad" }, ofNumber(told.totaliza.numero))];
-  const lines = make("details", {}, make("summary", {}, `As linhas de ${told.totaliza.comando}, que terminou com ${told.totaliza.numero}`), make("pre", { class: "lines", tabindex: "0" }, told.totaliza.linhas.join("\n")));
-  const parts = [verdicts(totals, told.arquivos), ...faults, ...silent, counted, ...totals.contests.map((it) => contestOf(it, names)), lines];
-  find("totalizado").replaceChildren(...parts.filter((it) => it));
+  const contests = totals.contests.map((it) => contestOf(it, told, totals.sections));
+  const lines = [told.totaliza, ...told.certificados.map((it) => it.certifica)].map(linesOf);
+  find("totalizado").replaceChildren(verdicts(totals, told.arquivos), ...faults, ...silent, make("p", {}, counted), ...contests, ...lines);
+  find("somado").textContent = "O programa terminou: os totais estão abaixo.";
 }
 
 async function asked(words) {
+  find("somado").textContent = "O programa soma os boletins…";
   const told = await ask("totais", words).catch(() => null);
   if (told) {
     show(told);
+  } else {
+    find("somado").textContent = "Nada foi somado.";
   }
 }
 
@@ -160,15 +145,34 @@ function choose(files) {
   find("escolhidos").replaceChildren(...chosen.map((it) => make("li", {}, `${it.name}, ${number(it.size)} bytes`)));
 }
 
-async function total(page) {
+async function given(page) {
   const files = [...chosen];
   if (find("soma").elements.desta.checked && page.state.lacrada) {
     files.push(new File([await (await fetch("/arquivo/urna.bu")).blob()], "urna.bu"));
   }
   const tables = files.find((it) => it.name.endsWith(".toml"));
   const reports = files.filter((it) => it !== tables);
-  const boletins = await Promise.all(reports.map(async (it) => ({ nome: it.name, base64: await encoded(it) })));
-  await asked({ tabelas: tables ? await encoded(tables) : null, boletins });
+  const boletins = await Promise.all(reports.map(async (it) => ({ nome: it.name, base64: await encoded(it, MOST.report) })));
+  return { tabelas: tables ? await encoded(tables, MOST.tables) : null, boletins };
+}
+
+async function total(page) {
+  const words = await given(page).catch(() => null);
+  return words ? asked(words) : null;
+}
+
+// Files that fall beside a place for them are reports in this view, and are never opened in the place of the page.
+function dropBeside() {
+  const hasFiles = (event) => !event.defaultPrevented && event.dataTransfer?.types.includes("Files");
+  document.addEventListener("dragover", (event) => hasFiles(event) && event.preventDefault());
+  document.addEventListener("drop", (event) => {
+    if (hasFiles(event)) {
+      event.preventDefault();
+      if (document.body.dataset.view === "totais") {
+        choose(event.dataTransfer.files);
+      }
+    }
+  });
 }
 
 export function start(page) {
@@ -178,15 +182,6 @@ export function start(page) {
     event.preventDefault();
     return total(page);
   });
-  const zone = find("solta");
-  zone.addEventListener("dragover", (event) => {
-    event.preventDefault();
-    zone.classList.add("over");
-  });
-  zone.addEventListener("dragleave", () => zone.classList.remove("over"));
-  zone.addEventListener("drop", (event) => {
-    event.preventDefault();
-    zone.classList.remove("over");
-    choose(event.dataTransfer.files);
-  });
+  dropZone(find("solta"), choose);
+  dropBeside();
 }

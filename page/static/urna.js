@@ -1,6 +1,6 @@
 // The two terminals, and the two flashes.
 
-import { OFFICES, find, make, number, office } from "./parts.js";
+import { OFFICES, find, make, number, office, renew } from "./parts.js";
 import { inWords, ofNumber } from "./words.js";
 
 const KEYS = ["1", "2", "3", "4", "5", "6", "7", "8", "9", "0"];
@@ -66,7 +66,7 @@ function voting(visit, names) {
     make("p", { class: "office" }, `${office(visit.code)}${visit.code === "5" ? ` · ${visit.vote}º voto da cédula` : ""}`),
     visit.field === "BRANCO" ? null : boxes(typed, (OFFICES[visit.code] || ["", 2])[1]),
     labelled("Nome", visit.kind === "CANDIDATO" ? visit.name : ""),
-    labelled("Partido", isNamed ? parties[typed.slice(0, 2)] || visit.name : ""),
+    labelled("Partido", isNamed ? parties[typed.slice(0, 2)] || (visit.kind === "LEGENDA" ? visit.name : "") : ""),
     countsAs(visit) ? make("p", { class: "counts" }, countsAs(visit)) : null,
     confirmable ? make("p", { class: "foot" }, "Aperte CONFIRMA para confirmar este voto, ou CORRIGE para reiniciá-lo") : null,
   ];
@@ -140,11 +140,11 @@ export function memory(it) {
 export function show(page) {
   const [kind, inside] = screen(page);
   find("tela").className = `screen ${kind}`;
-  find("tela").replaceChildren(...inside.filter((it) => it));
-  find("passo").textContent = step(page.state);
-  find("resposta").replaceChildren(...reply(page.state.mesario));
-  find("memorias").replaceChildren(...(page.state.memorias || []).map(memory));
-  find("linhas").textContent = (page.state.visita || []).join("\n");
+  renew(find("tela"), ...inside);
+  renew(find("passo"), step(page.state));
+  renew(find("resposta"), ...reply(page.state.mesario));
+  renew(find("memorias"), ...(page.state.memorias || []).map(memory));
+  renew(find("linhas"), (page.state.visita || []).join("\n"));
   const isOff = !page.state.carregada || !page.state.ligada;
   for (const it of document.querySelectorAll(".machine button")) {
     it.disabled = isOff;
@@ -154,8 +154,9 @@ export function show(page) {
 // The names of another election.
 export function name(page) {
   const day = String(page.names.data || "20261004");
-  find("momentos").elements.abre.value = `${day}080000`;
-  find("momentos").elements.encerra.value = `${day}170000`;
+  const [opening, closing] = find("momentos").querySelectorAll("input");
+  opening.value = `${day}080000`;
+  closing.value = `${day}170000`;
   find("titulo").elements.titulo.value = page.titles[0] || "";
   find("titulos").replaceChildren(...page.titles.map((it) => make("option", { value: it })));
 }
@@ -196,7 +197,11 @@ export function start(page, change) {
     const own = event.target === document.body || find("terminal").contains(event.target);
     const onButton = event.target.tagName === "BUTTON" && event.key === "Enter";
     const meant = /^\d$/.test(event.key) ? event.key : KEYBOARD[event.key];
-    if (isShown && own && meant && !onButton && !event.ctrlKey && !event.altKey && !event.metaKey) {
+    const isPress = isShown && own && meant && !event.ctrlKey && !event.altKey && !event.metaKey;
+    if (isPress && event.repeat) {
+      // A key that is held down is one press.
+      event.preventDefault();
+    } else if (isPress && !onButton) {
       event.preventDefault();
       vote(meant);
     }
@@ -209,7 +214,6 @@ export function start(page, change) {
   });
   find("momentos").addEventListener("submit", (event) => {
     event.preventDefault();
-    const word = (event.submitter && event.submitter.value) || "ABRE";
-    press(`M ${word} ${event.target.elements[word.toLowerCase()].value}`);
+    press(`M ${event.target.dataset.palavra} ${event.target.elements.momento.value}`);
   });
 }

@@ -24,6 +24,10 @@ const FAULTS = [
   [/^ERRO EM USO (\w+)$/, (f) => `a memória ${FLASH[f]} está em uso, e não é apagada`],
   [/^ERRO TABELAS/, () => "o arquivo não tem as tabelas de uma eleição"],
   [/^ERRO ROL/, () => "o rol não tem a forma: um título de 12 algarismos em cada linha, em ordem crescente"],
+  [/^ERRO CARGO$/, () => "as tabelas não têm um cargo proporcional com esse código"],
+  [/^ERRO SEM VAGAS$/, () => "nenhuma vaga é dada nesse cargo sobre estes boletins: não há certificado"],
+  [/^ERRO CERTIFICADO LINHA (\d+)$/, (k) => `a linha ${k} do arquivo é a primeira que não pode estar em um certificado deste cargo, ou falta, ou não tem a sua quebra de linha`],
+  [/^ERRO TAMANHO CERTIFICADO$/, () => "é grande demais para um certificado"],
   [/^ERRO SECAO$/, () => "as tabelas não têm esta seção, ou ela tem outro número de eleitores que o rol"],
 ];
 
@@ -50,6 +54,11 @@ const LINES = [
   [/^ESTRANHO$/, () => "é um boletim, mas não desta eleição"],
   [/^CONFERE$/, () => "o registro e o boletim dizem o mesmo"],
   [/^DIFERE /, () => "o registro e o boletim não dizem o mesmo"],
+  [/^CERTIFICADO VALIDO \d+$/, () => "cada linha é a que as regras dão, sobre os boletins aceitos"],
+  [/^RECUSADO QUOCIENTE$/, () => "o quociente não é o destes boletins"],
+  [/^RECUSADO PRIMEIRA (\d+)$/, (i) => `a linha ${i} da primeira fase não é a que as regras dão, ou falta, ou sobra`],
+  [/^RECUSADO RODADA (\d+)$/, (k) => `a sobra ${k} é a primeira que não é a que as regras dão`],
+  [/^RECUSADO FIM$/, () => "as vagas não são todas, ou uma fica vazia enquanto alguém ainda concorre"],
   ...FAULTS,
 ];
 
