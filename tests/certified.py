@@ -1,6 +1,7 @@
 """Drawn elections of which each office that is decided in proportion is certified: the certificate that `certifica` puts, and the substitutes that it
 tells, are those of a writer of its own; and where a line of a certificate is left out, doubled or swapped with the next one, or a number is one
-more or one less, `verifica` tells what a reader of its own does (tests/contests.py). Of a long certificate some of these changes are drawn."""
+more or one less, `verifica` tells what a reader of its own does (tests/contests.py). Of the first ten certificates that aren't long each such change
+is judged, and of any other one as many as are drawn."""
 
 import itertools
 import re
@@ -16,6 +17,8 @@ from polls import HEADER, HOURS
 DIGITS, OTHER = {6: 4, 7: 5, 8: 5, 13: 5}, 11
 # How many bytes of changed certificates of a contest are judged.
 MOST_BYTES = 300_000
+# Of how many certificates each change is judged, and how long one of them is at most.
+WHOLE, LONGEST_WHOLE = 10, 4_000
 
 
 def drawn_federations(draw, parties):
@@ -161,24 +164,28 @@ def judge(runs, files, model, text, what):
     want_end(runs, {**files, "c.cer": text.encode()}, words, (number, f"{line}\n"), {}, f"the office {model.office} with a certificate, {what}")
 
 
-def office(runs, draw, files, code):
-    """An office is certified, and certificates are judged."""
-    model = certify(runs, files, code)
-    yield "certified offices" if model.made else "offices that come to no seats"
-    text = some_text(model)
+def judged(runs, files, model, text, changes):
+    """A text is judged, and then each of these changes of it."""
     judge(runs, files, model, text, "unchanged")
     # The last round once more, which is one too many, is always judged.
-    found, more = changes_of(text), ("doubled", text.count("\n") - 3, True)
-    for change in [more, *draw.sample(found, min(len(found), MOST_BYTES // len(text)))]:
+    for change in [("doubled", text.count("\n") - 3, True), *changes]:
         judge(runs, files, model, changed(text, *change), f"changed: {change}")
         yield "judged certificates"
 
 
 def trials(runs, drawn):
+    whole = 0
     for number in itertools.count():
         draw = drawn(number)
         election = Election(draw)
         files = election.files(draw)
         certify(runs, files, OTHER)
         for code in election.seats:
-            yield from office(runs, draw, files, code)
+            model = certify(runs, files, code)
+            yield "certified offices" if model.made else "offices that come to no seats"
+            text = some_text(model)
+            changes, is_whole = changes_of(text), bool(model.made) and whole < WHOLE and len(text) <= LONGEST_WHOLE
+            whole += is_whole
+            yield from judged(runs, files, model, text, changes if is_whole else draw.sample(changes, min(len(changes), MOST_BYTES // len(text))))
+            if is_whole:
+                yield "certificates of which each change was judged"
