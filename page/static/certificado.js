@@ -117,7 +117,7 @@ function marked(text, answer) {
   return at < 0 ? [text] : [before.join(""), make("mark", {}, lines[at]), behind.join("")];
 }
 
-const answered = (answer) => [make("code", {}, answer.comando), ": ", ...told(answer.linhas[0] || "", answer.numero)];
+const answered = (answer) => [`${answer.comando}: `, ...told(answer.linhas[0] || "", answer.numero)];
 
 // The certificate that the program made: to be checked, taken away and read.
 function own(it) {
@@ -159,7 +159,7 @@ function other(it) {
   field.addEventListener("change", () => take([...field.files]));
   // So that a file that was changed can be chosen once more.
   field.addEventListener("click", () => { field.value = ""; });
-  const label = make("label", {}, "Conferir outro certificado deste cargo, sobre os mesmos boletins ", field);
+  const label = make("label", {}, make("span", {}, "Conferir outro certificado deste cargo, sobre os mesmos boletins"), field);
   const zone = make("div", { class: "drop", "data-solta": it.cargo }, label, make("p", {}, "ou soltar o arquivo aqui"), said, shown);
   dropZone(zone, take);
   return zone;
