@@ -23,6 +23,7 @@ ghost use Rattle.contingency.specs.Restored.{AreBroughtUp, Brings, IsRestored, R
 
 use crate::find::beside;
 use election_tables::Tables;
+use gate_slot::Changes;
 use image_codec::{BODY_SIZE, State, encode_into};
 use twin_image::{lay_on, mend_twin, renew_on};
 use urna_outside::{Dev, Machine};
@@ -66,7 +67,7 @@ pub(crate) fn bring_up<M: Machine>(
     if body == bytes {
         return Ok(());
     }
-    let _renewed = renew_on(m, dev, lives, body, bytes)?;
+    let _renewed = renew_on(m, dev, lives, body, bytes, &Changes::of(body, bytes))?;
     Ok(())
 }
 

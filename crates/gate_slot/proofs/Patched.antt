@@ -19,12 +19,12 @@ in_page bytes k i low high =
 
 module _ (old new : List ℕ) (d : Dev) (at : ℕ) where
   -- the first n pages of what stands there are new, and the others old
-  record IsPagedTo (n : ℕ) (f : Flash) : Type 0 where
-    fits : at + length new ≤ length f.content
-    done : (i : ℕ) → i < n * page_size → get_or f.content (at + i) 0 ≡ get_or new i 0
-    ahead : (i : ℕ) → n * page_size ≤ i → i < length new → get_or f.content (at + i) 0 ≡ get_or old i 0
+  pub record IsPagedTo (n : ℕ) (f : Flash) : Type 0 where
+    pub fits : at + length new ≤ length f.content
+    pub done : (i : ℕ) → i < n * page_size → get_or f.content (at + i) 0 ≡ get_or new i 0
+    pub ahead : (i : ℕ) → n * page_size ≤ i → i < length new → get_or f.content (at + i) 0 ≡ get_or old i 0
 
-  page_put : (k : ℕ) (f : Flash) → (k + 1) * page_size ≤ length new → IsPagedTo k f → IsPagedTo (k + 1) (put (at + k * page_size) (page k new) f)
+  pub page_put : (k : ℕ) (f : Flash) → (k + 1) * page_size ≤ length new → IsPagedTo k f → IsPagedTo (k + 1) (put (at + k * page_size) (page k new) f)
   page_put k f within paged =
       let from = at + k * page_size in
       let long = length-part new (k * page_size) page_size (omega arith) in
@@ -42,7 +42,7 @@ module _ (old new : List ℕ) (d : Dev) (at : ℕ) where
         ahead = λ i over low. overwrite_outside f.content from (page k new) place (at + i) 0 (λ above. omega (arith, long, over)) ∙ paged.ahead i (omega (arith, over)) low;
       }
 
-  page_kept : (k : ℕ) (f : Flash) → (k + 1) * page_size ≤ length new → page k old ≡ page k new → IsPagedTo k f → IsPagedTo (k + 1) f
+  pub page_kept : (k : ℕ) (f : Flash) → (k + 1) * page_size ≤ length new → page k old ≡ page k new → IsPagedTo k f → IsPagedTo (k + 1) f
   page_kept k f within same paged =
       record {
         fits = paged.fits;
@@ -56,6 +56,14 @@ module _ (old new : List ℕ) (d : Dev) (at : ℕ) where
         ];
         ahead = λ i over low. paged.ahead i (omega (arith, over)) low;
       }
+
+  -- it is so of any flash with this content
+  pub same_content : (n : ℕ) (f g : Flash) → f.content ≡ g.content → IsPagedTo n f → IsPagedTo n g
+  same_content n f g same paged = record {
+    fits = subst (λ (l : List ℕ). at + length new ≤ length l) same paged.fits;
+    done = λ i below. subst (λ (l : List ℕ). get_or l (at + i) 0 ≡ get_or new i 0) same (paged.done i below);
+    ahead = λ i over low. subst (λ (l : List ℕ). get_or l (at + i) 0 ≡ get_or old i 0) same (paged.ahead i over low);
+  }
 
   paged_from : (k m : ℕ) (fs : Flashes) → (k + m) * page_size ≤ length new → IsPagedTo k (flash_of d fs) → IsPagedTo (k + m) (flash_of d (after (puts_from old new d at k m) fs))
   paged_from k zero fs within paged =

@@ -1,11 +1,12 @@
 -- The pages of a body, and the step that writes those of them which change.
-use Rattle.std.specs.Prelude.{◌≡◌, ℕ, ◌+◌, ◌*◌, ◌/◌, ◌<◌, ◌≤◌, List, [], ◌∷◌, ◌++◌, length, map, filter, not, Bool, true}
+use Rattle.std.specs.Prelude.{◌≡◌, ℕ, ◌+◌, ◌*◌, ◌/◌, ◌<◌, ◌≤◌, List, [], ◌∷◌, ◌++◌, length, map, filter, not, Bool, true, false, get_or}
 use Rattle.std.specs.List.{range_with_len}
 use Rattle.std.specs.Str.{bytes_eq}
 use Rattle.urna_outside.specs.Flash.{Op, Put, Sync, Show, part}
 use Rattle.urna_outside.specs.Confined.{AreWithin, IsInRange, count_syncs}
 use Rattle.urna_outside.specs.declared.device.Dev.{Dev}
 use Rattle.gate_slot.specs.Slot.{body_offset}
+use Rattle.gate_slot.specs.declared.changes.Changes.{Changes}
 
 -- how many bytes a page has
 abbrev pub page_size : ℕ
@@ -26,6 +27,11 @@ changed_below n old new = filter (is_changed old new) (range_with_len 0 n)
 -- and among all of them
 abbrev pub changed_pages : List ℕ → List ℕ → List ℕ
 changed_pages old new = changed_below (length new / page_size) old new
+
+-- these changes have a mark for each of the first pages, which says whether the bodies differ in it
+abbrev pub AreChanges : Changes → List ℕ → List ℕ → Type 0
+AreChanges changes old new =
+    (k : ℕ) → k < length changes.marks → k < length new / page_size → get_or changes.marks k false ≡ is_changed old new k
 
 -- a place of a page in which they differ, where the bodies begin at that place
 abbrev pub IsOfChanged : ℕ → List ℕ → List ℕ → ℕ → Type 0

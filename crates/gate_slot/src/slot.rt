@@ -6,11 +6,12 @@ ghost use Rattle.urna_outside.specs.Faults.{FailsAt};
 ghost use Rattle.urna_outside.specs.Told.{Does, Runs, size_of, port_of};
 ghost use Rattle.gate_slot.specs.Device.{OnFlash, KeepsRest};
 ghost use Rattle.gate_slot.specs.Front.{IsFrontOf};
-ghost use Rattle.gate_slot.specs.Page.{IsOfChanged, IsPatch, changed_pages, page_size, patch_ops};
+ghost use Rattle.gate_slot.specs.Page.{AreChanges, IsOfChanged, IsPatch, changed_pages, page_size, patch_ops};
 ghost use Rattle.gate_slot.specs.Slot.{room, IsGate, IsBody, IsGateShut, IsGateOpen, HasBody, IsFilled, IsOneWrite, open_gate, gate_in, body_in, shut_ops, fill_ops, publish_ops};
 ghost use Rattle.gate_slot.specs.Token.{slot_of_live, IsTornAt, torn_port};
 ghost use Rattle.gate_slot.specs.declared.slot.Step.TheVariants.{Shutting, Filling, Publishing};
 
+use crate::changes::Changes;
 use crate::write::{patch_through, write_through};
 use urna_outside::{Dev, Machine};
 
@@ -289,9 +290,57 @@ impl<const SIZE: usize> Shut<SIZE> {
             (M.told m.old) (M.told m.new) }
         ensures fails { FailsAt torn_port result (M.told m.old) (M.told m.new) }
     {
+        self.patch_found(m, old, new, &Changes::of(old, new))
+    }
+
+    /// Patches the slot's body as `patch` does, by the pages that were found before to change.
+    ///
+    /// The caller owes what `patch` asks for, and that `changes` are those of these two bodies.
+    pub fn patch_found<M: Machine>(
+        self,
+        m: &mut M,
+        old: &[u8],
+        new: &[u8],
+        changes: &Changes,
+    ) -> Result<Filled<SIZE>, Torn<SIZE>>
+        requires index { (slot_of_shut self).index < 2 }
+        requires room { room SIZE ≤ size_of (slot_of_shut self).dev (M.told m.old).sizes }
+        requires pages { SIZE % page_size ≡ 0 }
+        requires old { length old.now ≡ SIZE }
+        requires new { length new.now ≡ SIZE }
+        requires changes { AreChanges changes.now old.now new.now }
+        requires shut { OnFlash (slot_of_shut self).dev (IsGateShut SIZE (slot_of_shut self).index) (M.told m.old) }
+        requires body { OnFlash (slot_of_shut self).dev
+            (λ flash. body_in SIZE (slot_of_shut self).index flash.content ≡ old.now) (M.told m.old) }
+
+        ensures slot { IfOk result (λ filled. slot_of_filled filled ≡ slot_of_shut self.entry) }
+        ensures torn { IfErr result (IsTornAt (slot_of_shut self.entry) Filling) }
+
+        ensures body { OnOk result (OnFlash (slot_of_shut self.entry).dev
+            (HasBody SIZE (slot_of_shut self.entry).index new.now) (M.told m.new)) }
+        ensures clean { OnOk result (OnFlash (slot_of_shut self.entry).dev IsClean (M.told m.new)) }
+        // Ok or Torn, the gate is still shut.
+        ensures shut { OnFlash (slot_of_shut self.entry).dev
+            (IsGateShut SIZE (slot_of_shut self.entry).index) (M.told m.new) }
+
+        ensures ran { Runs (IsPatch (slot_of_shut self.entry).dev (IsBody SIZE (slot_of_shut self.entry).index)
+            (page_size * length (changed_pages old.now new.now))) (M.told m.old) (M.told m.new) }
+        ensures exact { OnOk result (Does
+            (patch_ops SIZE (slot_of_shut self.entry).dev (slot_of_shut self.entry).index old.now new.now)
+            (M.told m.old) (M.told m.new)) }
+        ensures cut { OnErr result (Runs
+            (IsFrontOf (patch_ops SIZE (slot_of_shut self.entry).dev (slot_of_shut self.entry).index old.now new.now))
+            (M.told m.old) (M.told m.new)) }
+
+        // Ok or Torn, every byte but those of the pages that change is as before.
+        ensures rest { KeepsRest (slot_of_shut self.entry).dev
+            (IsOfChanged (body_offset SIZE (slot_of_shut self.entry).index) old.now new.now)
+            (M.told m.old) (M.told m.new) }
+        ensures fails { FailsAt torn_port result (M.told m.old) (M.told m.new) }
+    {
         let slot = self.slot;
         let at = slot.body(m.size(slot.dev));
-        let Ok(()) = patch_through(m, slot.dev, at, old, new) else {
+        let Ok(()) = patch_through(m, slot.dev, at, old, new, changes) else {
             return Err(slot.torn(Step::Filling));
         };
         Ok(Filled { slot })

@@ -5,13 +5,11 @@ ghost use Rattle.urna_outside.specs.Confined.{IsInRange};
 ghost use Rattle.urna_outside.specs.Faults.{FailsAt};
 ghost use Rattle.urna_outside.specs.Told.{Does, Runs, size_of, port_of};
 ghost use Rattle.gate_slot.specs.Front.{IsFrontOf};
-ghost use Rattle.gate_slot.specs.Page.{IsOfChanged, IsPatch, changed_pages, page_size, put_pages};
+ghost use Rattle.gate_slot.specs.Page.{AreChanges, IsOfChanged, IsPatch, changed_pages, page_size, put_pages};
 ghost use Rattle.gate_slot.specs.Slot.{IsOneWrite};
 
+use crate::changes::{Changes, PAGE_SIZE};
 use urna_outside::{Dev, Failed, Machine};
-
-/// The bytes of a page, the least that a patch writes.
-pub const PAGE_SIZE: usize = 512;
 
 /// Writes bytes and syncs their device.
 pub(crate) fn write_through<M: Machine>(
@@ -30,42 +28,45 @@ pub(crate) fn write_through<M: Machine>(
     m.sync(dev)
 }
 
-/// Writes each page in which two bodies differ, rising.
+/// Writes each page in which two bodies differ, rising; `changes` says which.
 pub(crate) fn write_pages<M: Machine>(
     m: &mut M,
     dev: Dev,
     at: u32,
     old: &[u8],
     new: &[u8],
+    changes: &Changes,
 ) -> Result<(), Failed>
     requires room { at + length new.now ≤ size_of dev (M.told m.old).sizes }
     requires same_length { length old.now ≡ length new.now }
     requires pages { length new.now % page_size ≡ 0 }
+    requires changes { AreChanges changes.now old.now new.now }
     ensures ok { OnOk result (Does (put_pages dev at old.now new.now) (M.told m.old) (M.told m.new)) }
     ensures cut { OnErr result (Runs (IsFrontOf (put_pages dev at old.now new.now)) (M.told m.old) (M.told m.new)) }
     ensures fails { FailsAt (λ failed. port_of dev) result (M.told m.old) (M.told m.new) }
 {
     for page in 0..new.len() / PAGE_SIZE {
         let from = page * PAGE_SIZE;
-        let bytes = &new[from..from + PAGE_SIZE];
-        if &old[from..from + PAGE_SIZE] != bytes {
-            m.write(dev, at + from as u32, bytes)?;
+        if changes.has(page, old, new) {
+            m.write(dev, at + from as u32, &new[from..from + PAGE_SIZE])?;
         }
     }
     Ok(())
 }
 
-/// Writes each page in which two bodies differ, and syncs their device.
+/// Writes each page in which two bodies differ, and syncs their device; `changes` says which.
 pub(crate) fn patch_through<M: Machine>(
     m: &mut M,
     dev: Dev,
     at: u32,
     old: &[u8],
     new: &[u8],
+    changes: &Changes,
 ) -> Result<(), Failed>
     requires room { at + length new.now ≤ size_of dev (M.told m.old).sizes }
     requires same_length { length old.now ≡ length new.now }
     requires pages { length new.now % page_size ≡ 0 }
+    requires changes { AreChanges changes.now old.now new.now }
     ensures ok { OnOk result (Does (put_pages dev at old.now new.now ++ Sync dev ∷ []) (M.told m.old) (M.told m.new)) }
     ensures cut { OnErr result (Runs (IsFrontOf (put_pages dev at old.now new.now ++ Sync dev ∷ []))
         (M.told m.old) (M.told m.new)) }
@@ -73,6 +74,6 @@ pub(crate) fn patch_through<M: Machine>(
         (M.told m.old) (M.told m.new) }
     ensures fails { FailsAt (λ failed. port_of dev) result (M.told m.old) (M.told m.new) }
 {
-    write_pages(m, dev, at, old, new)?;
+    write_pages(m, dev, at, old, new, changes)?;
     m.sync(dev)
 }

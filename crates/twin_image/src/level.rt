@@ -4,11 +4,12 @@ ghost use Rattle.std.specs.Option.{ForSome};
 ghost use Rattle.urna_outside.specs.Faults.{FailsAt};
 ghost use Rattle.urna_outside.specs.Told.{Runs, port_of};
 ghost use Rattle.gate_slot.specs.Front.{RunsUpTo};
+ghost use Rattle.gate_slot.specs.Page.{AreChanges};
 ghost use Rattle.twin_image.specs.Held.{IsNotOutranked};
 
 use crate::Ranked;
 use crate::renewal::renew_on;
-use gate_slot::Live;
+use gate_slot::{Changes, Live, PAGE_SIZE};
 use urna_outside::{Dev, Machine};
 
 /// All four slots are live with one body, whatever a power cut leaves: slots 0 and 1 of the internal flash, and those
@@ -19,6 +20,19 @@ pub struct Level<const SIZE: usize> {
     external: (Live<SIZE>, Live<SIZE>),
     body: Vec<u8>,
     ghost room: { vec_capacity body ≡ SIZE },
+}
+
+/// Brings a body to the next one, by the pages that change where a body is whole pages.
+fn bring(changes: &Changes, body: &mut [u8], next: &[u8])
+    requires same_length { length body.old ≡ length next.now }
+    requires changes { AreChanges changes.now body.old next.now }
+    ensures { body.new ≡ next.now }
+{
+    if next.len() % PAGE_SIZE == 0 {
+        changes.bring(body, next);
+    } else {
+        body.copy_from_slice(next);
+    }
 }
 
 impl<const SIZE: usize> Level<SIZE> {
@@ -87,9 +101,10 @@ impl<const SIZE: usize> Level<SIZE> {
             external,
             mut body,
         } = self;
-        let internal = renew_on(m, Dev::Internal, internal, &body, next)?;
-        let external = renew_on(m, Dev::External, external, &body, next)?;
-        body.copy_from_slice(next);
+        let changes = Changes::of(&body, next);
+        let internal = renew_on(m, Dev::Internal, internal, &body, next, &changes)?;
+        let external = renew_on(m, Dev::External, external, &body, next, &changes)?;
+        bring(&changes, &mut body, next);
         Ok(Level {
             internal,
             external,

@@ -6,7 +6,7 @@ ghost use Rattle.urna_outside.specs.Faults.{FailsAt};
 ghost use Rattle.urna_outside.specs.Told.{Does, Runs, port_of, size_of};
 ghost use Rattle.gate_slot.specs.Device.{OnFlash, KeepsRest};
 ghost use Rattle.gate_slot.specs.Front.{IsFrontOf, RunsUpTo};
-ghost use Rattle.gate_slot.specs.Page.{IsPatch};
+ghost use Rattle.gate_slot.specs.Page.{AreChanges, IsPatch};
 ghost use Rattle.gate_slot.specs.Slot.{HasBody, IsBody, IsGateShut, room, body_in, gate_in};
 ghost use Rattle.gate_slot.specs.Token.{slot_of_filled, slot_of_live, slot_of_shut, IsTornAt, torn_port};
 ghost use Rattle.gate_slot.specs.declared.slot.Step.TheVariants.{Filling};
@@ -16,7 +16,7 @@ ghost use Rattle.twin_image.specs.Pair.{AreOf};
 ghost use Rattle.twin_image.specs.Rewrite.{PutsAtMost, rewrite_bytes, rewrite_ops};
 ghost use Rattle.twin_image.specs.Twin.{IsLive, IsOfTwin, IsTwin, Renews, StepLeaves, Turns, turning_ops};
 
-use gate_slot::{Filled, Live, PAGE_SIZE, Shut, Slot, Torn};
+use gate_slot::{Changes, Filled, Live, PAGE_SIZE, Shut, Slot, Torn};
 use urna_outside::{Dev, Machine};
 
 /// Shuts a slot, fills it with a body and publishes it, whatever the slot held.
@@ -61,11 +61,13 @@ fn rewrite<M: Machine, const SIZE: usize>(
     shut: Shut<SIZE>,
     old: &[u8],
     new: &[u8],
+    changes: &Changes,
 ) -> Result<Filled<SIZE>, Torn<SIZE>>
     requires index { (slot_of_shut shut).index < 2 }
     requires room { room SIZE ≤ size_of (slot_of_shut shut).dev (M.told m.old).sizes }
     requires old { length old.now ≡ SIZE }
     requires new { length new.now ≡ SIZE }
+    requires changes { AreChanges changes.now old.now new.now }
     requires shut { OnFlash (slot_of_shut shut).dev (IsGateShut SIZE (slot_of_shut shut).index) (M.told m.old) }
     requires body { OnFlash (slot_of_shut shut).dev
         (λ flash. body_in SIZE (slot_of_shut shut).index flash.content ≡ old.now) (M.told m.old) }
@@ -88,7 +90,7 @@ fn rewrite<M: Machine, const SIZE: usize>(
     ensures fails { FailsAt torn_port result (M.told m.old) (M.told m.new) }
 {
     if SIZE % PAGE_SIZE == 0 {
-        shut.patch(m, old, new)
+        shut.patch_found(m, old, new, changes)
     } else {
         shut.fill(m, new)
     }
@@ -101,11 +103,13 @@ pub(crate) fn turn_over<M: Machine, const SIZE: usize>(
     slot: Slot<SIZE>,
     old: &[u8],
     new: &[u8],
+    changes: &Changes,
 ) -> Result<Live<SIZE>, Torn<SIZE>>
     requires index { slot.index < 2 }
     requires room { room SIZE ≤ size_of slot.dev (M.told m.old).sizes }
     requires old { length old.now ≡ SIZE }
     requires new { length new.now ≡ SIZE }
+    requires changes { AreChanges changes.now old.now new.now }
     requires clean { OnFlash slot.dev IsClean (M.told m.old) }
     requires live { OnFlash slot.dev (IsLive SIZE slot.index old.now) (M.told m.old) }
 
@@ -127,7 +131,7 @@ pub(crate) fn turn_over<M: Machine, const SIZE: usize>(
     ensures fails { FailsAt torn_port result (M.told m.old) (M.told m.new) }
 {
     let shut = slot.shut(m)?;
-    let filled = rewrite(m, shut, old, new)?;
+    let filled = rewrite(m, shut, old, new, changes)?;
     filled.publish(m)
 }
 
@@ -173,23 +177,68 @@ pub fn renew<M: Machine, const SIZE: usize>(
     ensures rest { KeepsRest (slot_of_live first.entry).dev (IsOfTwin SIZE) (M.told m.old) (M.told m.new) }
     ensures fails { FailsAt torn_port result (M.told m.old) (M.told m.new) }
 {
-    let first_new = turn_over(m, first.slot(), old, new)?;
-    let second_new = turn_over(m, second.slot(), old, new)?;
+    renew_found(m, first, second, old, new, &Changes::of(old, new))
+}
+
+/// Renews the two slots of a device, as `renew` does, by the pages that were found before to change.
+///
+/// The caller owes what `renew` asks for, and that `changes` are those of these two bodies.
+fn renew_found<M: Machine, const SIZE: usize>(
+    m: &mut M,
+    first: Live<SIZE>,
+    second: Live<SIZE>,
+    old: &[u8],
+    new: &[u8],
+    changes: &Changes,
+) -> Result<(Live<SIZE>, Live<SIZE>), Torn<SIZE>>
+    requires pair { AreOf (slot_of_live first).dev first second }
+    requires room { room SIZE ≤ size_of (slot_of_live first).dev (M.told m.old).sizes }
+    requires old { length old.now ≡ SIZE }
+    requires new { length new.now ≡ SIZE }
+    requires changes { AreChanges changes.now old.now new.now }
+    requires clean { OnFlash (slot_of_live first).dev IsClean (M.told m.old) }
+    requires twin { OnFlash (slot_of_live first).dev (IsTwin SIZE old.now) (M.told m.old) }
+
+    ensures pair { IfOk result (λ lives. AreOf (slot_of_live first.entry).dev lives.0 lives.1) }
+    ensures twin { OnOk result (OnFlash (slot_of_live first.entry).dev (IsTwin SIZE new.now) (M.told m.new)) }
+    ensures clean { OnOk result (OnFlash (slot_of_live first.entry).dev IsClean (M.told m.new)) }
+
+    ensures torn_dev { IfErr result (λ torn. torn.slot.dev ≡ (slot_of_live first.entry).dev) }
+    ensures torn_index { IfErr result (λ torn. torn.slot.index < 2) }
+    ensures torn { IfErr result (λ torn. OnFlash (slot_of_live first.entry).dev
+        (StepLeaves torn.step SIZE torn.slot.index old.now new.now) (M.told m.new)) }
+
+    ensures ran { Runs (Renews (M.told m.old) (slot_of_live first.entry).dev SIZE old.now new.now)
+        (M.told m.old) (M.told m.new) }
+    ensures bytes { Runs (PutsAtMost (2 * (rewrite_bytes SIZE old.now new.now + 2))) (M.told m.old) (M.told m.new) }
+    ensures order { ForSome (M.told m.old).flashes (λ start.
+        RunsUpTo result (IsRenewal SIZE (slot_of_live first.entry).dev old.now new.now) (M.told m.old) (M.told m.new)) }
+    ensures cut { IfErr result (λ torn. ForSome (M.told m.old).flashes (λ start.
+        Runs (IsRenewalCutIn SIZE (slot_of_live first.entry).dev old.now new.now torn.slot.index torn.step)
+        (M.told m.old) (M.told m.new))) }
+    ensures rest { KeepsRest (slot_of_live first.entry).dev (IsOfTwin SIZE) (M.told m.old) (M.told m.new) }
+    ensures fails { FailsAt torn_port result (M.told m.old) (M.told m.new) }
+{
+    let first_new = turn_over(m, first.slot(), old, new, changes)?;
+    let second_new = turn_over(m, second.slot(), old, new, changes)?;
     Ok((first_new, second_new))
 }
 
-/// Renews the two slots of a device, as `renew` does. The device is answered only where its count rose.
+/// Renews the two slots of a device, as `renew` does, by the pages that were found before to change. The device is answered
+/// only where its count rose.
 pub fn renew_on<M: Machine, const SIZE: usize>(
     m: &mut M,
     dev: Dev,
     lives: (Live<SIZE>, Live<SIZE>),
     old: &[u8],
     new: &[u8],
+    changes: &Changes,
 ) -> Result<(Live<SIZE>, Live<SIZE>), Dev>
     requires pair { AreOf dev lives.0 lives.1 }
     requires room { room SIZE ≤ size_of dev (M.told m.old).sizes }
     requires old { length old.now ≡ SIZE }
     requires new { length new.now ≡ SIZE }
+    requires changes { AreChanges changes.now old.now new.now }
     requires clean { OnFlash dev IsClean (M.told m.old) }
     requires twin { OnFlash dev (IsTwin SIZE old.now) (M.told m.old) }
 
@@ -205,7 +254,7 @@ pub fn renew_on<M: Machine, const SIZE: usize>(
     ensures fails { FailsAt port_of result (M.told m.old) (M.told m.new) }
 {
     let (first, second) = lives;
-    match renew(m, first, second, old, new) {
+    match renew_found(m, first, second, old, new, changes) {
         Ok(renewed) => Ok(renewed),
         Err(_) => Err(dev),
     }

@@ -1,4 +1,4 @@
-use Rattle.std.proofs.Common.{◌≡◌, ◌≢◌, ◌⊎◌, inl, inr, ℕ, List, length, refl, sym, subst, ◌∙◌, arith}
+use Rattle.std.proofs.Common.{inl, inr, ℕ, List, length, sym, subst, ◌∙◌, arith}
 use Rattle.urna_outside.specs.Flash.{Op, Put, Sync, Show, Flash, Flashes, flash_of, put, synced, after_one, Stably}
 use Rattle.urna_outside.specs.Confined.{IsInRange}
 use Rattle.urna_outside.specs.declared.device.Dev.{Dev}

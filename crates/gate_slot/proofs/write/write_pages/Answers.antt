@@ -9,7 +9,7 @@ use Rattle.urna_outside.proofs.Places.{length-part}
 use Rattle.gate_slot.specs.Page.{page_size}
 use Rattle.gate_slot.proofs.Paging.{whole_pages, cut_page, does_changed, does_same}
 use Rattle.gate_slot.proofs.write.write_pages.Goals as goal
-use Rattle.gate_slot.proofs.write.write_pages.Goals.{then-ne+in_ok-write, else-ne}
+use Rattle.gate_slot.proofs.write.write_pages.Goals.{then-has+in_ok-write, else-has}
 
 -- one call, by its result
 fails_one : {T E : Type 0} (port : Port) (r q : Result T E) (a b : Told) → r ≡ q → Counts port r a.faults b.faults → IsCalled r a b → FailsAt (λ (e : E). port) q a b
@@ -35,7 +35,7 @@ write-requires g c =
 
 pub returns-in_err-write-clause-cut : goal.returns-in_err-write-clause-cut
 returns-in_err-write-clause-cut g c =
-    let cut = cut_page c.args.old.now c.args.new.now c.args.dev c.args.at c.loop-page.page _ _ _ _ c.loop-page-test.true (sym c.ne.ensures ∙ c.if-ne.true) c.loop-page.invariant.0 c.in_err-write.ensures.torn in search rules
+    let cut = cut_page c.args.old.now c.args.new.now c.args.dev c.args.at c.loop-page.page _ _ _ _ c.loop-page-test.true (sym c.has.ensures ∙ c.if-has.true) c.loop-page.invariant.0 c.in_err-write.ensures.torn in search rules
 
 pub returns-in_err-write-clause-fails : goal.returns-in_err-write-clause-fails
 returns-in_err-write-clause-fails g c =
@@ -43,16 +43,16 @@ returns-in_err-write-clause-fails g c =
     let ends = ends_later _ _ _ _ c.loop-page.invariant.1 call in search rules
 
 pub loop-page-preserved : goal.loop-page-preserved
-loop-page-preserved g c = elim c.if-ne.branch [
-  | then-ne+in_ok-write w ↦
+loop-page-preserved g c = elim c.if-has.branch [
+  | then-has+in_ok-write w ↦
       let call = fails_one (port_of c.args.dev) w.write.result (Ok _) (g.M.Machine.told c.loop-page.m) (g.M.Machine.told w.write.new.self) w.in_ok-write.was w.write.ensures.counts w.write.ensures.calls in
       rw w.m-is (
-        does_changed c.args.old.now c.args.new.now c.args.dev c.args.at c.loop-page.page _ _ _ (sym c.ne.ensures ∙ w.if-ne.true) c.loop-page.invariant.0 w.in_ok-write.ensures.ok,
+        does_changed c.args.old.now c.args.new.now c.args.dev c.args.at c.loop-page.page _ _ _ (sym c.has.ensures ∙ w.if-has.true) c.loop-page.invariant.0 w.in_ok-write.ensures.ok,
         faultless_trans _ _ _ c.loop-page.invariant.1 call,
       )
-  | else-ne w ↦
+  | else-has w ↦
       rw w.m-is (
-        does_same c.args.old.now c.args.new.now c.args.dev c.args.at c.loop-page.page _ _ (sym c.ne.ensures ∙ w.if-ne.false) c.loop-page.invariant.0,
+        does_same c.args.old.now c.args.new.now c.args.dev c.args.at c.loop-page.page _ _ (sym c.has.ensures ∙ w.if-has.false) c.loop-page.invariant.0,
         c.loop-page.invariant.1,
       )
 ]

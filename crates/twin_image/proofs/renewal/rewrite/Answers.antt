@@ -12,7 +12,7 @@ pub returns-then-this-eq0-clause-cut : goal.returns-then-this-eq0-clause-cut
 returns-then-this-eq0-clause-cut g c =
     let slot = slot_of_shut c.args.shut in
     let same = in_pages g.row.SIZE slot.dev slot.index c.args.old.now c.args.new.now c.if-this-eq0.true in
-    subst (λ (ops : List Op). OnErr c.patch.result (Runs (IsFrontOf ops) (g.M.Machine.told c.args.m.now) (g.M.Machine.told c.patch.new.m))) (sym same) c.patch.ensures.cut
+    subst (λ (ops : List Op). OnErr c.patch_found.result (Runs (IsFrontOf ops) (g.M.Machine.told c.args.m.now) (g.M.Machine.told c.patch_found.new.m))) (sym same) c.patch_found.ensures.cut
 
 pub returns-else-this-eq0-clause-cut : goal.returns-else-this-eq0-clause-cut
 returns-else-this-eq0-clause-cut g c =

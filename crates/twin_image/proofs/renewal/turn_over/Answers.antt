@@ -72,9 +72,12 @@ rewrite-requires g c =
                 (
                   r.new,
                   (
-                    subst (λ s. OnFlash s.dev (IsGateShut g.row.SIZE s.index) (g.M.Machine.told c.shut.new.m)) same c.in_ok-shut.ensures.shut,
-                    subst (λ s. OnFlash s.dev (λ flash. body_in g.row.SIZE s.index flash.content ≡ c.args.old.now) (g.M.Machine.told c.shut.new.m)) same
-                        (λ fs told. body_image g.row.SIZE slot.index c.args.old.now (flash_of slot.dev fs) (flash_of slot.dev fs).content r.old (still fs told) (content_image (flash_of slot.dev fs))),
+                    r.changes,
+                    (
+                      subst (λ s. OnFlash s.dev (IsGateShut g.row.SIZE s.index) (g.M.Machine.told c.shut.new.m)) same c.in_ok-shut.ensures.shut,
+                      subst (λ s. OnFlash s.dev (λ flash. body_in g.row.SIZE s.index flash.content ≡ c.args.old.now) (g.M.Machine.told c.shut.new.m)) same
+                          (λ fs told. body_image g.row.SIZE slot.index c.args.old.now (flash_of slot.dev fs) (flash_of slot.dev fs).content r.old (still fs told) (content_image (flash_of slot.dev fs))),
+                    ),
                   ),
                 ),
               ),

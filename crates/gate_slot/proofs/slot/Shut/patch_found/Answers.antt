@@ -1,6 +1,6 @@
 use Rattle.gate_slot.proofs.Patched.{patched}
 use Rattle.gate_slot.proofs.Written.{body_fits, pages_bounded, patch_in_body, patch_within, stays_shut, writes_keep}
-use Rattle.gate_slot.proofs.slot.Shut.patch.Goals as goal
+use Rattle.gate_slot.proofs.slot.Shut.patch_found.Goals as goal
 
 pub returns-clause-body : goal.returns-clause-body
 returns-clause-body g c = λ fs told.

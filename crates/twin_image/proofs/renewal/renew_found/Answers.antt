@@ -13,7 +13,7 @@ use Rattle.twin_image.specs.Twin.{IsLive}
 use Rattle.twin_image.proofs.Ordering.{cut_early, cut_in_row, in_row, renewal_cut_first, renewal_cut_second, turn_is, turn_ops, turns_join}
 use Rattle.twin_image.proofs.Renewing.{turn_stage, other_live, renewed_first, renewed, stage_rest, twin_bounded, leaves_at}
 use Rattle.twin_image.proofs.Rewriting.{puts-append, puts_more}
-use Rattle.twin_image.proofs.renewal.renew.Goals as goal
+use Rattle.twin_image.proofs.renewal.renew_found.Goals as goal
 
 pub turn_over-requires-2 : goal.turn_over-requires-2
 turn_over-requires-2 g c =
@@ -39,9 +39,12 @@ turn_over-requires-2 g c =
                 (
                   r.new,
                   (
-                    subst (λ (e : Dev). OnFlash e IsClean (g.M.Machine.told c.turn_over.new.m)) (sym dev) clean,
-                    subst (λ (e : Dev). OnFlash e (IsLive g.row.SIZE c.slot-2.result.index c.args.old.now) (g.M.Machine.told c.turn_over.new.m)) (sym dev)
-                        (subst (λ (k : ℕ). OnFlash d (IsLive g.row.SIZE k c.args.old.now) (g.M.Machine.told c.turn_over.new.m)) (sym index) other),
+                    r.changes,
+                    (
+                      subst (λ (e : Dev). OnFlash e IsClean (g.M.Machine.told c.turn_over.new.m)) (sym dev) clean,
+                      subst (λ (e : Dev). OnFlash e (IsLive g.row.SIZE c.slot-2.result.index c.args.old.now) (g.M.Machine.told c.turn_over.new.m)) (sym dev)
+                          (subst (λ (k : ℕ). OnFlash d (IsLive g.row.SIZE k c.args.old.now) (g.M.Machine.told c.turn_over.new.m)) (sym index) other),
+                    ),
                   ),
                 ),
               ),
