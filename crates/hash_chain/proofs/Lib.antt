@@ -13,4 +13,5 @@ pub mod CutText
 pub mod LineParts
 pub mod PutLaws
 pub mod Joining
+pub mod Feeds
 pub mod Rows

@@ -151,7 +151,7 @@ line_place (r ∷ s ∷ rs) (suc n) (suc i) e =
     let same : nat_le (suc (suc i)) (suc n) ≡ nat_le (suc i) n = grind (arith, nat_tests) in
     rw same rest
 
-count_rows : (bytes : List ℕ) → length (rows bytes) ≡ feeds_in bytes + 1
+pub count_rows : (bytes : List ℕ) → length (rows bytes) ≡ feeds_in bytes + 1
 count_rows bytes = length-slice_split (λ (b : ℕ). b == 10) bytes
 
 line_is : (bytes : List ℕ) (i : ℕ) → link_at bytes (suc i) ≡ line_in (rows bytes) i

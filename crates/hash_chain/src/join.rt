@@ -15,6 +15,7 @@ use crate::cut::PART_SIZE;
 use crate::fault::{PartError, PartFault};
 use crate::hash::hash_of;
 use crate::line::{Line, VERSION, read_line, split_piece};
+use memchr::memchr;
 use std::alloc::Global;
 use urna_base::Memory;
 
@@ -36,7 +37,8 @@ fn read_parts(alloc: Global, bytes: &[u8]) -> Result<Vec<u8>, PartError>
     ensures { MatchRead result (λ text. ArePartsOf bytes.now text.items) (λ f. IsPartFault bytes.now f) }
 {
     let feeds = count_feeds(bytes);
-    let mut text = Vec::new(alloc);
+    // the text is shorter than the file
+    let mut text = with_room(alloc, bytes.len())?;
     let mut before = None;
     let mut place = 1;
     let mut rest = bytes;
@@ -54,15 +56,22 @@ fn read_parts(alloc: Global, bytes: &[u8]) -> Result<Vec<u8>, PartError>
     }
 }
 
+/// No text, with room for so many bytes.
+fn with_room(alloc: Global, bytes: usize) -> Result<Vec<u8>, Memory>
+    ensures { IfOk result (λ text. text.items ≡ []) }
+{
+    Ok(Vec::with_capacity(alloc, bytes)?)
+}
+
 /// How many line feeds a file has.
 fn count_feeds(bytes: &[u8]) -> u64
     ensures { result ≡ feeds_in bytes.now }
 {
     let mut feeds = 0;
-    for byte in bytes {
-        if *byte == b'\n' {
-            feeds += 1;
-        }
+    let mut rest = bytes;
+    while let Some((_row, behind)) = split_row(rest) {
+        feeds += 1;
+        rest = behind;
     }
     feeds
 }
@@ -82,7 +91,7 @@ fn split_row(bytes: &[u8]) -> Option<(&[u8], &[u8])>
 fn first_feed(bytes: &[u8]) -> Option<usize>
     ensures { result ≡ position (λ b. b == 10) bytes.now }
 {
-    bytes.iter().position(|byte| *byte == b'\n')
+    memchr(b'\n', bytes)
 }
 
 /// Appends the fields of a part, behind a space where others stand before.

@@ -6,6 +6,7 @@ ghost use Rattle.qr_text.specs.Table.{row_text};
 ghost use Rattle.qr_text.specs.Writing.{HasRoom, spaced_vote};
 
 use crate::table::{Form, Row};
+use crate::value::first_two;
 use election_tables::code_digits;
 use poll_report::Count;
 use urna_base::{Memory, put_decimal, put_digits};
@@ -50,10 +51,5 @@ pub(crate) fn put_vote(out: &mut Vec<u8>, count: Count) -> Result<(), Memory>
 pub(crate) fn party_of(code: u8, number: u32) -> u32
     ensures { result ≡ first_two (digits_in code) number }
 {
-    match code_digits(code) {
-        Some(3) => number / 10,
-        Some(4) => number / 100,
-        Some(5) => number / 1000,
-        _ => number,
-    }
+    first_two(code_digits(code).unwrap_or(0), number)
 }

@@ -8,7 +8,7 @@ ghost use Rattle.qr_text.specs.Votes.{belongs, party_after, places_of, vote_afte
 ghost use Rattle.qr_text.specs.declared.table.TheConstants.{TABLE};
 
 use crate::table::{Form, Row, TABLE};
-use election_tables::may_have_places;
+use election_tables::{has_digits, may_have_places};
 use poll_report::Count;
 use urna_base::{after, date_ok, decimal, digits};
 
@@ -105,9 +105,7 @@ fn is_vote(digits: u8, number: u64, votes: u64) -> bool
     requires { digits ≤ 5 }
     ensures { result ≡ is_vote digits (record { number = number; votes = votes }) }
 {
-    let low = power_of_ten(digits.saturating_sub(1));
-    let high = power_of_ten(digits);
-    (u64::from(low) <= number && number < u64::from(high)) && fits(TABLE.votes, votes)
+    has_digits(digits, number) && fits(TABLE.votes, votes)
 }
 
 /// Whether a candidate is one of the party, if one is named.
@@ -116,23 +114,22 @@ fn belongs(digits: u8, party: Option<u32>, number: u32) -> bool
     ensures { result ≡ belongs digits party number }
 {
     match party {
-        Some(party) => number / power_of_ten(digits.saturating_sub(2)) == party,
+        Some(party) => first_two(digits, number) == party,
         None => true,
     }
 }
 
-fn power_of_ten(exponent: u8) -> u32
-    requires { exponent ≤ 5 }
-    ensures power { result ≡ 10 ^ exponent }
-    ensures some { 0 < result }
+/// The first two digits of a number of so many.
+pub(crate) fn first_two(digits: u8, number: u32) -> u32
+    requires { digits ≤ 5 }
+    ensures { result ≡ first_two digits number }
 {
-    match exponent {
-        0 => 1,
-        1 => 10,
-        2 => 100,
-        3 => 1_000,
-        4 => 10_000,
-        _ => 100_000,
+    // a divisor that is known costs a tenth of one that isn't
+    match digits {
+        3 => number / 10,
+        4 => number / 100,
+        5 => number / 1_000,
+        _ => number,
     }
 }
 

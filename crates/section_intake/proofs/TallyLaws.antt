@@ -1,5 +1,5 @@
 -- Lists of tallies: what more counts make of them, and what is found in them.
-use Rattle.std.proofs.Common.{◌≡◌, ◌==◌, ℕ, zero, suc, ◌+◌, ◌<◌, true, false, if◌then◌else◌, List, [], ◌∷◌, ◌++◌, length, map, get_or, set, take, Option, None, Some, Less, Equal, nat_cmp, find, option_map, slice_get, unwrap_or, refl, sym, ap, ◌∙◌, subst, inl, inr, arith}
+use Rattle.std.proofs.Common.{◌≡◌, ◌==◌, ℕ, zero, suc, ◌+◌, ◌<◌, true, false, if◌then◌else◌, List, [], ◌∷◌, ◌++◌, length, map, get_or, set, take, Option, None, Some, Less, nat_cmp, find, option_map, slice_get, unwrap_or, refl, sym, ap, ◌∙◌, subst, inl, inr, arith}
 use Rattle.std.specs.List.{AllByRecursion, HoldsAt, list_any}
 use Rattle.std.specs.List.Sorted.{IsStrictlyIncreasing, IsStrictlySortedBy}
 use Rattle.std.specs.Ordering.{eq_by_cmp}
@@ -9,7 +9,6 @@ use Rattle.std.proofs.lemmas.Bool.Decides.{nat_tests}
 use Rattle.std.proofs.lemmas.List.{length-map, map-append, take_more}
 use Rattle.std.proofs.lemmas.List.Sums.{sum_by-append, sum_by_more_le_part}
 use Rattle.std.proofs.lemmas.Map.Keys.{below_from_sorted, sorted_from_strictly_increasing, sorted_head, sorted_tail}
-use Rattle.std.proofs.lemmas.Map.Lookups.{exact_unsigned}
 use Rattle.std.proofs.lemmas.Option.{get_or_from_slice_get, slice_get-map, slice_get_cases, slice_get_within}
 use Rattle.election_tables.specs.TablesData.{IsPanel, IsTables, TablesData, candidates_at}
 use Rattle.election_tables.specs.declared.tables.candidates.NamedCandidate.{NamedCandidate}
@@ -116,10 +115,10 @@ added_at (x ∷ xs) c (suc i) t rise lt is same =
 
 -- at the place that a search for the number found
 pub added_there : (ts : List Tally) (c : Count) (i : ℕ) (t : Tally) (votes : ℕ) → IsStrictlyIncreasing (map (λ t. t.number) ts) → i < length ts → t ≡ get_or ts i t
-    → HoldsAt (λ y. nat_cmp y.number c.number ≡ Equal) ts i → votes ≡ c.votes
+    → HoldsAt (λ y. y.number ≡ c.number) ts i → votes ≡ c.votes
     → set ts i (record { number = t.number; votes = t.votes + votes }) ≡ with_counts (c ∷ []) ts
 added_there ts c i t votes rise lt is at same =
-    let number : t.number ≡ c.number = ap (λ (y : Tally). y.number) is ∙ exact_unsigned _ _ (at t) in
+    let number : t.number ≡ c.number = ap (λ (y : Tally). y.number) is ∙ at t in
     ap (λ (n : ℕ). set ts i (record { number = t.number; votes = t.votes + n })) same
     ∙ added_at ts c i t (sorted_from_strictly_increasing (map (λ t. t.number) ts) rise) lt is number
 

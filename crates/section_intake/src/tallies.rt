@@ -1,5 +1,8 @@
 //! The votes of each of some numbers.
-ghost use Rattle.std.specs.Prelude.{◌≡◌, ◌+◌, ◌<◌, ◌^◌, [], ◌∷◌, length, map, IfOk};
+ghost use Rattle.std.specs.Prelude.{◌≡◌, ◌==◌, ◌+◌, ◌<◌, ◌^◌, [], ◌∷◌, length, map, IfOk, IfSome, None};
+ghost use Rattle.std.specs.List.{HoldsAt, find};
+ghost use Rattle.std.specs.List.Sorted.{IsStrictlyIncreasing};
+ghost use Rattle.std.specs.Option.{IfNone};
 ghost use Rattle.election_tables.specs.TablesData.{IsTables};
 ghost use Rattle.poll_report.specs.Report.{votes_of};
 ghost use Rattle.vote_kinds.specs.Ballot.{line_of};
@@ -78,36 +81,71 @@ impl Tallies {
     pub(crate) fn votes(&self, number: u32) -> u64
         ensures { result ≡ votes_at number self.now }
     {
-        match self
-            .items
-            .binary_search_by_key(&number, |tally| tally.number)
-        {
-            Ok(i) => self.items[i].votes,
-            Err(_) => 0,
+        match place_of(&self.items, number) {
+            Some(i) => self.items[i].votes,
+            None => 0,
         }
     }
 
-    /// The votes of one count more.
-    fn add_one(&mut self, count: Count)
+    /// The votes of one count more, whose number is looked for from a place on. Answers where it is, or
+    /// the place given where it is nowhere.
+    fn add_one(&mut self, count: Count, place: usize) -> usize
         requires { HaveRoom count.votes self.old }
         ensures { self.new ≡ with_counts (count ∷ []) self.old }
     {
-        match self
-            .items
-            .binary_search_by_key(&count.number, |tally| tally.number)
-        {
-            Ok(i) => self.items[i].votes += u64::from(count.votes),
-            Err(_) => {}
+        match place_from(&self.items, count.number, place) {
+            Some(i) => {
+                self.items[i].votes += u64::from(count.votes);
+                i
+            }
+            None => place,
         }
     }
 
-    /// The votes of these counts more.
+    /// The votes of these counts more. As the numbers of a report and those of the tallies rise, one walk over both finds them.
     pub(crate) fn add(&mut self, counts: &[Count])
         requires { HaveRoom (votes_of counts.now) self.old }
         ensures { self.new ≡ with_counts counts.now self.old }
     {
+        let mut place = 0;
         for count in counts {
-            self.add_one(*count);
+            place = self.add_one(*count, place);
         }
+    }
+}
+
+/// The place of a number.
+fn place_of(tallies: &[Tally], number: u32) -> Option<usize>
+    requires { IsStrictlyIncreasing (map (λ t. t.number) tallies.now) }
+    ensures found { IfSome result (λ i. (i < length tallies.now) × HoldsAt (λ t. t.number ≡ number) tallies.now i) }
+    ensures none { IfNone result (find (λ t. t.number == number) tallies.now ≡ None) }
+{
+    match tallies.binary_search_by_key(&number, |tally| tally.number) {
+        Ok(i) => Some(i),
+        Err(_) => None,
+    }
+}
+
+/// The first place from this one on where a tally has this number or a greater one. It is a guess, on which no answer rests.
+fn next_place(tallies: &[Tally], number: u32, from: usize) -> usize {
+    for place in from..tallies.len() {
+        if number <= tallies[place].number {
+            return place;
+        }
+    }
+    tallies.len()
+}
+
+/// The place of a number, which is looked for from a place on first.
+fn place_from(tallies: &[Tally], number: u32, from: usize) -> Option<usize>
+    requires { IsStrictlyIncreasing (map (λ t. t.number) tallies.now) }
+    ensures found { IfSome result (λ i. (i < length tallies.now) × HoldsAt (λ t. t.number ≡ number) tallies.now i) }
+    ensures none { IfNone result (find (λ t. t.number == number) tallies.now ≡ None) }
+{
+    let place = next_place(tallies, number, from);
+    if place < tallies.len() && tallies[place].number == number {
+        Some(place)
+    } else {
+        place_of(tallies, number)
     }
 }

@@ -1,7 +1,13 @@
-use Rattle.std.proofs.Common.{◌≡◌, take}
+use Rattle.std.proofs.Common.{◌≡◌, ◌+◌, ◌≤◌, length}
 use Rattle.hash_chain.proofs.join.count_feeds.Given as goal
-use Rattle.hash_chain.specs.Lines.{feeds_in}
+use Rattle.hash_chain.specs.Lines.{rows}
 
--- those among the first bytes were counted
-abbrev pub invariant-loop-byte : goal.invariant-loop-byte
-invariant-loop-byte l = l.feeds ≡ feeds_in (take l.byte-index l.bytes)
+-- the rows before the rest were counted
+abbrev pub invariant-loop-row : goal.invariant-loop-row
+invariant-loop-row l = record {
+  count : l.feeds + length (rows l.rest) ≡ length (rows l.bytes);
+  few : l.feeds + length l.rest ≤ length l.bytes;
+}
+
+abbrev pub decreases-loop-row : goal.decreases-loop-row
+decreases-loop-row l = length l.rest

@@ -12,13 +12,13 @@ use Rattle.hash_chain.specs.declared.fault.PartFault.TheVariants.{Form}
 use Rattle.hash_chain.specs.Reading.{said, said_before, with_part}
 
 pub loop-row-init : goal.loop-row-init
-loop-row-init c = (text_begins c.count_feeds-feeds.result c.args.bytes.now c.new-text.result.items c.count_feeds-feeds.ensures c.new-text.ensures.items, lit< tt, omega arith)
+loop-row-init c = (text_begins c.count_feeds-feeds.result c.args.bytes.now c.in_ok-text.text.items c.count_feeds-feeds.ensures c.in_ok-text.ensures, lit< tt, omega arith)
 
 pub returns-in_err-line : goal.returns-in_err-line
 returns-in_err-line c =
     let feeds : ℕ = c.count_feeds-feeds.result in
     let before : Option Link = said_before c.loop-row.before in
-    let p = err_from_is_err_and c.from_residual.result c.from_residual.ensures.1 in
+    let p = err_from_is_err_and c.from_residual-in_err-line.result c.from_residual-in_err-line.ensures.1 in
     rw (p.1, p.2) (fault_above _ _ _ _ c.in_err-line.field-0.0 c.in_err-line.ensures.fault (λ f h. fault_is c.args.bytes.now f (c.loop-row.invariant.0
     ∙ (ap (λ (rs : List (List ℕ)). text_from feeds c.loop-row.place before c.loop-row.text.items rs) c.in-Some.ensures.row
     ∙ line_fails feeds c.loop-row.place before c.loop-row.text.items c.in-Some.row.now (rows c.in-Some.behind.now) f (some_piece (λ b. b == 10) c.in-Some.behind.now) h))))

@@ -9,8 +9,8 @@ use Rattle.section_intake.proofs.tallies.Tallies.add.Goals as goal
 pub loop-count-init : goal.loop-count-init
 loop-count-init c = sym (no_counts c.args.self.now)
 
-pub add_one-requires : goal.add_one-requires
-add_one-requires c =
+pub add_one-place-requires : goal.add_one-place-requires
+add_one-place-requires c =
     let i : ℕ = c.loop-count.count-index in
     let x : Count = get_or c.args.counts.now i (record { number = 0; votes = 0 }) in
     let lt = c.loop-count-test.true in
@@ -23,6 +23,6 @@ loop-count-preserved c =
     let i : ℕ = c.loop-count.count-index in
     let x : Count = get_or c.args.counts.now i (record { number = 0; votes = 0 }) in
     let lt = c.loop-count-test.true in
-    c.add_one.ensures
+    c.add_one-place.ensures
     ∙ ap (with_counts (x ∷ [])) c.loop-count.invariant
     ∙ next_count c.args.counts.now i x c.args.self.now (omega arith) (get_or_default c.args.counts.now i (record { number = 0; votes = 0 }) x (omega arith))
