@@ -1,5 +1,5 @@
 -- No candidate has two votes in a ballot
-use Rattle.std.proofs.Common.{◌≡◌, ◌==◌, ◌+◌, ◌-◌, ◌<◌, ℕ, zero, suc, Bool, true, false, List, [], ◌∷◌, ◌++◌, Option, Some, None, length, nat_eq, replicate, slice_get, inl, inr, refl, sym, ap, subst, ◌∙◌, arith}
+use Rattle.std.proofs.Common.{◌≡◌, ◌+◌, ◌-◌, ◌<◌, ℕ, zero, suc, Bool, true, false, List, [], ◌∷◌, ◌++◌, Option, Some, length, nat_eq, replicate, slice_get, inl, inr, refl, sym, ap, ◌∙◌, arith}
 use Rattle.std.specs.List.{AllByRecursion}
 use Rattle.std.specs.Prelude.{not, ◌&&◌, if◌then◌else◌}
 use Rattle.std.proofs.lemmas.Bool.{eq-eqb}
@@ -18,8 +18,8 @@ use Rattle.voter_term.specs.Field.{field_after}
 use Rattle.image_codec.specs.CodecLaws.{Ballot}
 use Rattle.image_codec.specs.State.{State, filled_up}
 use Rattle.station.specs.Cast.{GivesOneVoteEach, ballot_of, ballots_of}
-use Rattle.station.specs.Output.{Output, earlier_for, earlier_of}
-use Rattle.station.specs.Run.{IsOpen, IsRun, Visit, Votes, cancels, cut_off, ends, ignores, open_at, opens, refuses, seals, start, suspended, visits, voted, waits, whole}
+use Rattle.station.specs.Output.{Output, earlier_for}
+use Rattle.station.specs.Run.{IsRun, Visit, Votes, cancels, cut_off, ends, ignores, open_at, opens, refuses, seals, start, suspended, visits, voted, waits, whole}
 use Rattle.station.specs.Setting.{Setting, setting_of}
 use Rattle.station.proofs.LastScreens.{get_more}
 

@@ -1,6 +1,6 @@
 -- One event at a station, and events one by one: the terminals' tables as a plain program, which computes. The code is proved
 -- against it; the laws of runs tie it to whole visits.
-use Rattle.std.specs.Prelude.{ℕ, List, [], ◌∷◌, ◌++◌, Option, Some, None}
+use Rattle.std.specs.Prelude.{◌≡◌, ℕ, List, [], ◌∷◌, ◌++◌, Option, Some, None}
 use Rattle.key_script.specs.declared.keys.Key.{Key}
 use Rattle.key_script.specs.declared.keys.Event.{Event}
 use Rattle.key_script.specs.declared.keys.Event.TheVariants.{Clerk, Voter}
@@ -104,6 +104,10 @@ answered v x c (answer.Seals m) =
 abbrev pub press : Setting → Standing → Event → Pressed
 press v x (Voter k) = typed v x.state x.mode x.choices x.field k
 press v x (Clerk c) = answered v x c (reply_at v x.state x.mode c)
+
+-- an event changes nothing and puts nothing out
+abbrev pub ChangesNothing : Setting → Standing → Event → Type 0
+ChangesNothing v x e = press v x e ≡ record { standing = x; out = [] }
 
 -- events one by one: where the station stands in the end, and what they put out
 abbrev pub after : Setting → Standing → List Event → Standing

@@ -1,5 +1,6 @@
 //! The terminals in memory: what one event changes, and what it asks to be done.
 ghost use Rattle.std.specs.Prelude.{◌≡◌, ◌<◌, ◌^◌, [], ◌∷◌, length, map};
+ghost use Rattle.std.specs.Bool.{OnTrue};
 ghost use Rattle.election_tables.specs.TablesData.{IsTables, places_of};
 ghost use Rattle.key_script.specs.Event.{IsClerkKey, IsEvent, IsKey};
 ghost use Rattle.vote_kinds.specs.Ballot.{ballot_lines};
@@ -7,7 +8,7 @@ ghost use Rattle.image_codec.specs.State.{AreFirst, MayVote};
 ghost use Rattle.station.specs.Session.{FitsLine};
 ghost use Rattle.station.specs.Setting.{Setting, reply_at, setting_of};
 ghost use Rattle.station.specs.Run.{after_suspension, suspension};
-ghost use Rattle.station.specs.Press.{answered, calls_next, idle_at, press, title_of, typed};
+ghost use Rattle.station.specs.Press.{ChangesNothing, answered, calls_next, idle_at, press, title_of, typed};
 ghost use Rattle.station.specs.Acts.{act_of};
 ghost use Rattle.station.specs.Valid.{IsAnswer, IsStanding};
 
@@ -90,6 +91,16 @@ impl Session {
         ensures { result ≡ self.now.standing.mode }
     {
         self.mode
+    }
+
+    /// Whether an event is a key of the voter's terminal while nobody votes there, which changes nothing. No answer rests on it.
+    pub(crate) fn passes_over(&self, event: Event) -> bool
+        ensures { (v : Setting) → OnTrue result (ChangesNothing v self.now.standing event) }
+    {
+        match (event, self.mode) {
+            (Event::Voter(_), Mode::Idle | Mode::Identified(_)) => true,
+            _ => false,
+        }
     }
 
     /// One event.

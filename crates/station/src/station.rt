@@ -152,6 +152,10 @@ impl Station {
     {
         let mut station = self;
         for event in script.events() {
+            // quicker than to take the event, which would ask for nothing
+            if station.session.passes_over(event) {
+                continue;
+            }
             let acts = station.take_event(tables, roll, event);
             // a key that asks for nothing doesn't move the station
             if acts.is_empty() {

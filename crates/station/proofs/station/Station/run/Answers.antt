@@ -2,7 +2,7 @@ use Rattle.std.proofs.Common.{◌≡◌, ◌==◌, ◌++◌, ◌∷◌, [], List
 use Rattle.urna_outside.specs.Told.{Told}
 use Rattle.election_tables.specs.Roll.{RollData}
 use Rattle.election_tables.specs.TablesData.{TablesData}
-use Rattle.std.proofs.lemmas.Bool.{eqb-true}
+use Rattle.std.proofs.lemmas.Bool.{OnTrue_at, eqb-true}
 use Rattle.std.proofs.lemmas.List.{append-nil}
 use Rattle.key_script.specs.declared.keys.Event.{Event}
 use Rattle.key_script.proofs.EventLaws.{yielded_more}
@@ -13,7 +13,8 @@ use Rattle.state_store.specs.declared.load.Load.{Load}
 use Rattle.flash_store.proofs.Playing.{put_nothing, put_to, stopped_within}
 use Rattle.state_store.proofs.Stored.{stored}
 use Rattle.station.specs.Setting.{setting_of}
-use Rattle.station.specs.Press.{Standing, press, after, outputs, idle_at}
+use Rattle.station.specs.Output.{Output}
+use Rattle.station.specs.Press.{ChangesNothing, Pressed, Standing, press, after, outputs, idle_at}
 use Rattle.station.specs.Station.{IsAsked, IsStationed, StationData}
 use Rattle.station.specs.declared.perform.Act.{Act}
 use Rattle.station.specs.Text.{session_pieces}
@@ -61,6 +62,24 @@ event_done t r from x y script yielded left rest e old before new done split sta
           (subst (λ (s : State). HasPut t from.store.load s piece before new) (state ∙ sym (pieces_after t v from.standing yielded))
           (subst (λ (l : Load). HasPut t l x.standing.state piece before new) done.load put));
     }
+
+-- a key that is passed over
+pub loop-event-preserved-then-passes_over : goal.loop-event-preserved-then-passes_over
+loop-event-preserved-then-passes_over g c =
+    let t = c.args.tables.now in
+    let r = c.args.roll.now in
+    let v = setting_of t r.titles in
+    let e = c.in-Some.event in
+    let done = c.loop-event.invariant in
+    let told = g.M.Machine.told c.loop-event.m in
+    let x = c.loop-event.station in
+    let is = done.stationed in
+    let nothing : ChangesNothing v x.standing e =
+    subst (λ (y : Standing). ChangesNothing v y e) (ap (λ (z : StationData). z.standing) c.station.view_is) (OnTrue_at c.if-passes_over.true (c.passes_over.ensures v)) in
+    event_done t r c.args.self x x c.args.script.now c.loop-event.yielded c.loop-event.event-iterator c.next.new.self e (g.M.Machine.told c.args.m.now) told told done
+    c.in-Some.ensures.steps (sym (ap (λ (p : Pressed). p.standing) nothing)) is refl
+    (subst (λ (out : List Output). HasPut t x.store.load x.standing.state (session_pieces t out) told told) (sym (ap (λ (p : Pressed). p.out) nothing))
+    (put_nothing (kept_poll t x.store.load) x.standing.state told (stored t r x.store.load x.standing.state is.load is.kept.state) is.kept.rest))
 
 no_acts : (acts : List Act) → true ≡ (length acts == 0) → acts ≡ []
 no_acts [] e = refl
