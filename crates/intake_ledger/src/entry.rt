@@ -152,7 +152,7 @@ fn votes_for(counts: &[Count], number: u32, at: &mut usize) -> u32
     requires { IsStrictlyIncreasing (numbers_of counts.now) }
     ensures { result ≡ votes_for number counts.now }
 {
-    // the place is that of another list of counts
+    // the place is too far, as one of another list may be
     if *at >= counts.len() || number < counts[*at].number {
         *at = 0;
     }

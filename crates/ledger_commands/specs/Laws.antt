@@ -16,7 +16,7 @@ AreRefused (Some (ToBegin tables)) files e = IsFault (Some files) tables doc.Tab
 AreRefused (Some (ToReceive names)) files e = IsFirstFault (Some files) names.tables doc.List names.list e
 AreRefused (Some (ToTotal tables)) files e = IsFault (Some files) tables doc.Tables e
 
--- They are refused with one status.
+-- They are refused with one status at most.
 abbrev pub RefusedOnce : Type 0
 RefusedOnce = (command : Option Command) (files : Files) (s u : LedgerStatus) → AreRefused command files s → AreRefused command files u → s ≡ u
 

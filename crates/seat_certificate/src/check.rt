@@ -15,7 +15,7 @@ use seat_remainders::{Averages, Contest, Contestant, standing_of, valid_votes};
 
 /// The first fault of a certificate: the electoral quotient; the line of the first phase with this number, counted from 1, where a missing line
 /// and one too many are faults too; the round with this number, counted from 1, where one for which no seat is left is a fault too; or the
-/// end, where the seats don't add up, as where a round is missing, or one is vacant though a bloc competes.
+/// end, where the seats don't add up, as where the last round is missing, or one is vacant though a bloc competes.
 #[derive(Clone, Copy, Debug, PartialEq, Eq)]
 pub enum CertFault {
     Quotient,

@@ -14,7 +14,7 @@ use Rattle.urna_commands.specs.Certifica.{CertificaEnds, HasNoSeats, IsByContest
 use Rattle.urna_commands.specs.Command.{Certifica, Verifica}
 use Rattle.urna_commands.specs.Documents.{IsFault}
 use Rattle.urna_commands.specs.Laws.{CertifyEndsSo, OneCertifyStatus, OneVerifyStatus, VerifyEndsSo}
-use Rattle.urna_commands.specs.Office.{ContestStops, HasContest, IsContestFault, contest_no_cabinet, contest_no_memory, contest_refused}
+use Rattle.urna_commands.specs.Office.{ContestStops, HasContest, HasOfficeAndReports, IsContestFault, contest_no_cabinet, contest_no_memory, contest_refused}
 use Rattle.urna_commands.specs.Verifica.{Check, HasContestAndCertificate, IsCertificateFault, IsChecked, IsVerifyFault, IsVerifyStatus, VerificaEnds, certificate_at_fault, checked_line, checked_status, first_contest, of_file, of_other_office, then_certificate, verified, verify_at_fault, verify_by_check, verify_no_cabinet, verify_no_contest, verify_no_memory}
 use Rattle.command_parts.specs.declared.error.Doc.TheVariants as doc
 use Rattle.urna_commands.specs.declared.status.Status.{Status}
@@ -22,7 +22,7 @@ use Rattle.urna_commands.specs.declared.status.Status.TheVariants as status
 use Rattle.command_parts.proofs.Ending.{error_told}
 use Rattle.command_parts.proofs.Once.{certificate_not_fault as no_certificate_fault, same_certificate}
 use Rattle.urna_commands.specs.Errors.{error_of}
-use Rattle.urna_commands.proofs.Offices.{fault_or_contest, one_contest_fault, same_contest}
+use Rattle.urna_commands.proofs.Offices.{fault_or_contest, fault_or_office, one_contest_fault, same_contest}
 use Rattle.urna_commands.proofs.Once.{fault_once}
 
 -- ---- certifica
@@ -98,6 +98,11 @@ module _ (answers : OneListAnswers) (files : Files) (names : Verifica) where
   one_verify_fault s u (first_contest h) (then_certificate {contest} has i) = absurd (fault_or_contest answers files names.tables names.list names.code s contest h has)
   one_verify_fault s u (then_certificate {contest} has h) (first_contest i) = absurd (fault_or_contest answers files names.tables names.list names.code u contest i has)
   one_verify_fault s u (then_certificate has h) (then_certificate also i) = certificate_once s u h i
+
+  pub fault_or_certificate : (s : Status) (x : Certificate) → IsVerifyFault (Some files) names s → HasOfficeAndReports (Some files) names.tables names.list names.code
+      → HasCertificate (Some files) names.certificate names.code x → ⊥
+  fault_or_certificate s x (first_contest h) has read = fault_or_office answers files names.tables names.list names.code s h has
+  fault_or_certificate s x (then_certificate also h) has read = certificate_or_read s x h read
 
   pub fault_or_check : (s : Status) (contest : Contest) (x : Certificate) → IsVerifyFault (Some files) names s → HasContestAndCertificate (Some files) names contest x → ⊥
   fault_or_check s contest x (first_contest h) has = fault_or_contest answers files names.tables names.list names.code s contest h has.contest_is

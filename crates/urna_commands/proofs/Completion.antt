@@ -55,7 +55,7 @@ use Rattle.urna_commands.specs.FaultLines.{fault_text}
 use Rattle.urna_commands.specs.Findings.{finding_line, finding_status}
 use Rattle.urna_commands.specs.Laws.{FoundOnce}
 use Rattle.urna_commands.specs.Putting.{PutsResults, StopPutting, no_results, result_files, results_not_made, results_not_put, results_put}
-use Rattle.urna_commands.specs.Office.{ContestStops, HasContest, IsContestFault, contest_no_cabinet, contest_no_memory, contest_refused, of_list, of_office, of_report, of_tables}
+use Rattle.urna_commands.specs.Office.{ContestStops, HasContest, HasOfficeAndReports, IsContestFault, contest_no_cabinet, contest_no_memory, contest_refused, of_list, of_office, of_report, of_tables}
 use Rattle.urna_commands.specs.Reconta.{HasRecordAndReport, HasNoReport, IsNoReport, RecontaEnds, fields_fault, no_recount, parts_fault, recount_no_cabinet, recount_no_memory, record_at_fault, recounted, report_at_fault}
 use Rattle.urna_commands.specs.Repoe.{RepoeEnds, not_replaced, replace_no_cabinet, replace_no_memory, replace_refused, replaced, replaced_untold}
 use Rattle.urna_commands.specs.Taking.{HasTaken}
@@ -72,8 +72,8 @@ use Rattle.urna_commands.specs.declared.status.Status.{Status}
 use Rattle.urna_commands.specs.declared.status.Status.TheVariants as status
 use Rattle.command_parts.proofs.Calls.{since}
 use Rattle.command_parts.proofs.Once.{same_names, same_roll, same_tables}
-use Rattle.urna_commands.proofs.Certifying.{fault_or_check}
-use Rattle.urna_commands.proofs.Offices.{fault_or_contest}
+use Rattle.urna_commands.proofs.Certifying.{fault_or_certificate}
+use Rattle.urna_commands.proofs.Offices.{fault_or_office}
 use Rattle.urna_commands.proofs.Once.{record_not_fault, refused_or_documents, refused_or_given, refused_or_listed, refused_or_taken, report_not_fault}
 use Rattle.urna_commands.proofs.Recounts.{no_report_not_read}
 use Rattle.urna_commands.proofs.Totals.{none_at_fault}
@@ -356,19 +356,19 @@ reconta_completes names c d m b s files told none calm can (recounted {r} {p} gi
 
 -- ---- certifica and verifica
 
--- where the files give the contest, it is missing only for want of memory
-contest_completes : OneListAnswers → (tables list : List ℕ) (code : ℕ) (c d : CabinetTold) (m b : Told) (s : Status) (files : Files) (contest : Contest) → {X : Type 0}
-    → c.files ≡ Some files → ¬ Rose c.tally.faults d.tally.faults → HasContest (Some files) tables list code contest → ContestStops tables list code c d m b s → X ⊎ (s ≡ status.Memory)
-contest_completes answers tables list code c d m b s files contest told none has (contest_refused why taken untouched) =
-    absurd (fault_or_contest answers files tables list code s contest (subst (λ (f : Option Files). IsContestFault f tables list code s) told why) has)
-contest_completes answers tables list code c d m b s files contest told none has (contest_no_memory taken untouched) = inr refl
-contest_completes answers tables list code c d m b s files contest told none has (contest_no_cabinet (k, of, taken) untouched) = absurd (none taken.counts.faults.rose)
+-- where the files have all that the contest needs, it is missing only for want of memory
+contest_completes : OneListAnswers → (tables list : List ℕ) (code : ℕ) (c d : CabinetTold) (m b : Told) (s : Status) (files : Files) → {X : Type 0}
+    → c.files ≡ Some files → ¬ Rose c.tally.faults d.tally.faults → HasOfficeAndReports (Some files) tables list code → ContestStops tables list code c d m b s → X ⊎ (s ≡ status.Memory)
+contest_completes answers tables list code c d m b s files told none has (contest_refused why taken untouched) =
+    absurd (fault_or_office answers files tables list code s (subst (λ (f : Option Files). IsContestFault f tables list code s) told why) has)
+contest_completes answers tables list code c d m b s files told none has (contest_no_memory taken untouched) = inr refl
+contest_completes answers tables list code c d m b s files told none has (contest_no_cabinet (k, of, taken) untouched) = absurd (none taken.counts.faults.rose)
 
 certifica_completes : OneListAnswers → (names : Certifica) (c d : CabinetTold) (m b : Told) (s : Status) (files : Files) → c.files ≡ Some files
     → ¬ Rose c.tally.faults d.tally.faults → Calm s m b → CanCertify names (Some files) → CertificaEnds names c d m b s
     → IsByContest (Some files) names s ⊎ (s ≡ status.Memory)
 certifica_completes answers names c d m b s files told none calm can (certify_no_contest stops) =
-    contest_completes answers names.tables names.list names.code c d m b s files can.contest told none can.given stops
+    contest_completes answers names.tables names.list names.code c d m b s files told none can stops
 certifica_completes answers names c d m b s files told none calm can (certify_no_seats {contest} has nobody taken untouched) =
     inl (by_no_seats (subst (λ (f : Option Files). HasContest f names.tables names.list names.code contest) told has) nobody)
 certifica_completes answers names c d m b s files told none calm can (certify_no_memory has taken untouched) = inr refl
@@ -382,11 +382,11 @@ verifica_completes : OneListAnswers → (names : Verifica) (c d : CabinetTold) (
     → ¬ Rose c.tally.faults d.tally.faults → Calm s m b → CanVerify names (Some files) → VerificaEnds names c d m b s
     → IsByCheck (Some files) names s ⊎ (s ≡ status.Memory)
 verifica_completes answers names c d m b s files told none calm can (verify_no_contest stops) =
-    contest_completes answers names.tables names.list names.code c d m b s files can.contest told none can.given.contest_is stops
+    contest_completes answers names.tables names.list names.code c d m b s files told none can.given stops
 verifica_completes answers names c d m b s files told none calm can (certificate_at_fault {contest} has why taken untouched) =
-    absurd (fault_or_check answers files names s can.contest can.certificate
+    absurd (fault_or_certificate answers files names s can.certificate
     (then_certificate (subst (λ (f : Option Files). HasContest f names.tables names.list names.code contest) told has)
-    (subst (λ (f : Option Files). IsCertificateFault f names s) told why)) can.given)
+    (subst (λ (f : Option Files). IsCertificateFault f names s) told why)) can.given can.certificate_is)
 verifica_completes answers names c d m b s files told none calm can (verify_no_memory taken untouched) = inr refl
 verifica_completes answers names c d m b s files told none calm can (verify_no_cabinet (k, of, taken) untouched) = absurd (none taken.counts.faults.rose)
 verifica_completes answers names c d m b s files told none calm can (verified {contest} {certificate} found has is taken tells) =

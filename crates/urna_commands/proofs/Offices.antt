@@ -30,7 +30,7 @@ use Rattle.command_parts.specs.Documents.{AreTaken, HasNames, HasTables, IsFault
 use Rattle.urna_commands.specs.Documents.{IsFault}
 use Rattle.urna_commands.specs.Offered.{HasOffered, HasTakenReports}
 use Rattle.urna_commands.specs.Offering.{OffersEnd, one_at_fault, one_no_cabinet, one_no_memory, one_not_shown}
-use Rattle.urna_commands.specs.Office.{ContestStops, HasContest, HasNoOffice, IsContestFault, IsOfficeAt, contest_no_cabinet, contest_no_memory, contest_refused, of_list, of_office, of_report, of_tables}
+use Rattle.urna_commands.specs.Office.{ContestStops, HasContest, HasNoOffice, HasOfficeAndReports, IsContestFault, IsOfficeAt, contest_no_cabinet, contest_no_memory, contest_refused, of_list, of_office, of_report, of_tables}
 use Rattle.urna_commands.specs.Taking.{HasTaken}
 use Rattle.command_parts.specs.declared.error.CommandError.{CommandError}
 use Rattle.command_parts.specs.declared.error.CommandError.TheVariants as error
@@ -134,14 +134,24 @@ no_office_not_there files name code panel t u h none i office =
 -- ---- the contest
 
 module _ (answers : OneListAnswers) (files : Files) (tables list : List ℕ) (code : ℕ) where
-  pub fault_or_contest : (s : Status) (contest : Contest) → IsContestFault (Some files) tables list code s → HasContest (Some files) tables list code contest → ⊥
-  fault_or_contest s contest (of_tables h) has = tables_not_fault files tables s has.t h has.given.tables
-  fault_or_contest s contest (of_office {t} h none) has = no_office_not_there files tables code has.panel t has.t h none has.given.tables has.office
-  fault_or_contest s contest (of_list _ _ h) has = names_not_fault answers files list s has.listed h has.given.list
-  fault_or_contest s contest (of_report {listed} {left} {name} given office offered fault) has =
+  pub fault_or_office : (s : Status) → IsContestFault (Some files) tables list code s → HasOfficeAndReports (Some files) tables list code → ⊥
+  fault_or_office s (of_tables h) has = tables_not_fault files tables s has.t h has.given.tables
+  fault_or_office s (of_office {t} h none) has = no_office_not_there files tables code has.panel t has.t h none has.given.tables has.office
+  fault_or_office s (of_list _ _ h) has = names_not_fault answers files list s has.listed h has.given.list
+  fault_or_office s (of_report {listed} {left} {name} given office offered fault) has =
       let same = same_names files list listed has.listed given.list has.given.list in
-      none_at_fault files offered.names name left has.offered.names has.offered.reports s
-      (sym offered.all ∙ (same ∙ (has.offered.all ∙ append-nil has.offered.names))) has.offered.taken fault
+      none_at_fault files offered.names name left has.listed has.reports s (sym offered.all ∙ same) has.taken fault
+
+  pub fault_or_contest : (s : Status) (contest : Contest) → IsContestFault (Some files) tables list code s → HasContest (Some files) tables list code contest → ⊥
+  fault_or_contest s contest fault has = fault_or_office s fault (record {
+    t = has.t;
+    listed = has.listed;
+    given = has.given;
+    panel = has.panel;
+    office = has.office;
+    reports = has.offered.reports;
+    taken = subst (λ (l : List (List ℕ)). AreTaken (Some files) l has.offered.reports) (sym (has.offered.all ∙ append-nil has.offered.names)) has.offered.taken;
+  })
 
   pub one_contest_fault : (s u : Status) → IsContestFault (Some files) tables list code s → IsContestFault (Some files) tables list code u → s ≡ u
   one_contest_fault s u (of_tables h) (of_tables i) = fault_once files tables doc.Tables s u h i

@@ -13,7 +13,6 @@ use Rattle.image_codec.specs.State.{State}
 use Rattle.section_intake.specs.Accepted.{File}
 use Rattle.section_intake.specs.declared.verdict.Verdict.{Verdict}
 use Rattle.poll_report.specs.declared.report.Report.{Report}
-use Rattle.seat_remainders.specs.declared.contest.Contest.{Contest}
 use Rattle.seat_certificate.specs.declared.certificate.Certificate.{Certificate}
 use Rattle.record_audit.specs.Finding.{finding}
 use Rattle.record_audit.specs.declared.text.RecordText.{RecordText}
@@ -24,16 +23,16 @@ use Rattle.command_parts.specs.Taking.{NothingFailed}
 use Rattle.urna_commands.specs.Carga.{IsSectionAsked}
 use Rattle.urna_commands.specs.Certifica.{IsByContest}
 use Rattle.urna_commands.specs.Command.{Carga, Certifica, Command, Confere, Emite, Reconta, Repoe, ToCertify, ToCheck, ToEmit, ToLoad, ToRecount, ToRehearse, ToReplace, ToTotal, ToVerify, ToVote, Totaliza, Verifica, Vota, command_of}
-use Rattle.command_parts.specs.Documents.{HasDocuments, HasTables, IsTaken}
+use Rattle.command_parts.specs.Documents.{HasCertificate, HasDocuments, HasTables, IsTaken}
 use Rattle.urna_commands.specs.Ending.{Ends}
 use Rattle.urna_commands.specs.Findings.{finding_status}
-use Rattle.urna_commands.specs.Office.{HasContest}
+use Rattle.urna_commands.specs.Office.{HasOfficeAndReports}
 use Rattle.urna_commands.specs.Reconta.{HasRecordAndReport}
 use Rattle.report_lines.specs.Verdicts.{refused_count}
 use Rattle.command_parts.specs.Documents.{AreTaken, IsListed}
 use Rattle.urna_commands.specs.Offered.{HasOffered}
 use Rattle.urna_commands.specs.Totaliza.{refused_status}
-use Rattle.urna_commands.specs.Verifica.{HasContestAndCertificate, IsByCheck}
+use Rattle.urna_commands.specs.Verifica.{IsByCheck}
 use Rattle.urna_commands.specs.Vota.{IsGiven}
 use Rattle.command_parts.specs.declared.error.Doc.TheVariants as doc
 use Rattle.urna_commands.specs.declared.status.Status.{Status}
@@ -138,16 +137,16 @@ pub record CanRecount (names : Reconta) (files : Option Files) : Type 0 where
   pub p : Report
   pub given : HasRecordAndReport files names r p
 
--- the files of these names give the contest of an office
-pub record CanCertify (names : Certifica) (files : Option Files) : Type 0 where
-  pub contest : Contest
-  pub given : HasContest files names.tables names.list names.code contest
+-- the files of these names are tables with the proportional office of that code, and a list, and each listed report is there and no longer than a
+-- report may be
+abbrev pub CanCertify : Certifica → Option Files → Type 0
+CanCertify names files = HasOfficeAndReports files names.tables names.list names.code
 
--- they give it, and a certificate of that office
+-- they are so, and the certificate's is one of that office
 pub record CanVerify (names : Verifica) (files : Option Files) : Type 0 where
-  pub contest : Contest
+  pub given : HasOfficeAndReports files names.tables names.list names.code
   pub certificate : Certificate
-  pub given : HasContestAndCertificate files names contest certificate
+  pub certificate_is : HasCertificate files names.certificate names.code certificate
 
 -- the status that the verdicts on all listed reports give
 pub record IsByVerdicts (names : Totaliza) (files : Option Files) (s : Status) : Type 0 where

@@ -12,7 +12,7 @@ use Rattle.section_intake.specs.declared.verdict.Verdict.{Verdict}
 use Rattle.seat_remainders.specs.declared.contest.Contest.{Contest}
 use Rattle.totals.specs.Contest.{contest_in}
 use Rattle.vote_kinds.specs.Ballot.{panel_at}
-use Rattle.command_parts.specs.Documents.{HasTables, IsListed}
+use Rattle.command_parts.specs.Documents.{AreTaken, HasTables, IsListed}
 use Rattle.urna_commands.specs.Documents.{IsFault}
 use Rattle.urna_commands.specs.Offered.{HasOffered, HasTakenReports}
 use Rattle.command_parts.specs.declared.error.Doc.TheVariants as doc
@@ -43,6 +43,17 @@ pub record HasContest (files : Option Files) (tables list : List ℕ) (code : �
   pub reports : List Report
   pub read : AreReportsOf accepted reports
   pub is : contest ≡ contest_in t reports panel
+
+-- The files of these names are tables with the proportional office of a code, and a list, and each listed report is there and no longer than a
+-- report may be. This is all that the contest needs.
+pub record HasOfficeAndReports (files : Option Files) (tables list : List ℕ) (code : ℕ) : Type 0 where
+  pub t : TablesData
+  pub listed : List (List ℕ)
+  pub given : IsListed files tables list t listed
+  pub panel : ℕ
+  pub office : IsOfficeAt t code panel
+  pub reports : List File
+  pub taken : AreTaken files listed reports
 
 -- Why the files of these names give no such contest, and the status that says so: the tables are at fault, or have no such office; the list is at
 -- fault; or the first of the listed reports whose file is at fault.

@@ -1,6 +1,5 @@
 //! The contest of an office over the accepted reports of a list.
 ghost use Rattle.std.specs.Prelude.{◌≡◌, ◌≢◌, ℕ, ◌<◌, IfErr, IfOk, MatchOption, MatchResult};
-ghost use Rattle.election_tables.specs.TablesData.{IsTables};
 ghost use Rattle.seat_remainders.specs.Contest.{IsContest};
 ghost use Rattle.command_parts.specs.Documents.{HasNames, HasTables};
 ghost use Rattle.urna_commands.specs.Office.{ContestStops, HasNoOffice, IsContestFault, IsContestKnown, IsOfficeAt};
@@ -55,7 +54,6 @@ fn take_office<C: Cabinet>(
     code: u8,
 ) -> Result<(Tables, u32, Names), Status>
     ensures tables { IfOk result (λ all. HasTables (C.told cabinet.old).files tables.now all.0) }
-    ensures valid { IfOk result (λ all. IsTables all.0) }
     ensures office { IfOk result (λ all. IsOfficeAt all.0 code all.1) }
     ensures list { IfOk result (λ all. HasNames (C.told cabinet.old).files list.now all.2) }
     ensures fault { IfErr result (λ s. s ≢ Status.Memory → s ≢ Status.Cabinet → IsContestFault (C.told cabinet.old).files tables.now list.now code s) }
