@@ -8,7 +8,7 @@
 //! Its status is 0 where each time went well, 1 where one did not, and 3 where the words are others.
 #![tactic(auto)]
 
-ghost use Rattle.std.specs.Prelude.{◌≡◌, ◌≤◌, Some, codes, IfOk, IfSome, length};
+ghost use Rattle.std.specs.Prelude.{◌≤◌, IfOk, IfSome, length};
 ghost use Rattle.election_tables.specs.Limits.{most_voters};
 ghost use Rattle.image_codec.specs.Encoding.{IsStateOf};
 ghost use Rattle.state_store.specs.Load.{IsSectionOf};
@@ -17,6 +17,7 @@ mod bank;
 mod steps;
 
 use bank::Bank;
+use bench_works::DayWork;
 use election_tables::{MOST_VOTERS, Roll, Section, Tables};
 use gate_slot::{FRONT_SIZE, HEADER_SIZE};
 use image_codec::{BODY_SIZE, State, decode, encode_into};
@@ -35,31 +36,6 @@ const FIRST_BODY: u32 = (HEADER_SIZE + FRONT_SIZE) as u32;
 
 /// The longest keys that are read.
 const LONGEST_KEYS: usize = 16_777_216;
-
-/// What is done with the day.
-#[derive(Clone, Copy, Debug, PartialEq, Eq)]
-enum Work {
-    Press,
-    Encode,
-    Decode,
-    Copy,
-}
-
-/// The work that a word names.
-fn work_of(word: &str) -> Option<Work>
-    ensures press { result ≡ Some Work.Press → word.now ≡ codes "press" }
-    ensures encode { result ≡ Some Work.Encode → word.now ≡ codes "encode" }
-    ensures decode { result ≡ Some Work.Decode → word.now ≡ codes "decode" }
-    ensures copy { result ≡ Some Work.Copy → word.now ≡ codes "copy" }
-{
-    match word {
-        "press" => Some(Work::Press),
-        "encode" => Some(Work::Encode),
-        "decode" => Some(Work::Decode),
-        "copy" => Some(Work::Copy),
-        _ => None,
-    }
-}
 
 /// The section, where it has as many voters as the roll.
 fn section_of(tables: &Tables, roll: &Roll) -> Option<Section>
@@ -168,7 +144,7 @@ fn held_state(alloc: Global, tables: &Tables, voters: u32, bank: &mut Bank) -> O
 /// Writes, reads or copies the body that the flashes hold.
 fn use_body(
     alloc: Global,
-    work: Work,
+    work: DayWork,
     tables: &Tables,
     voters: u32,
     bank: &mut Bank,
@@ -179,8 +155,8 @@ fn use_body(
     let mut body = first_body(bank)?;
     let state = decode(alloc, tables, voters, &body).ok()??;
     match work {
-        Work::Encode => encode_all(&state, tables, &mut body, times),
-        Work::Decode => {
+        DayWork::Encode => encode_all(&state, tables, &mut body, times),
+        DayWork::Decode => {
             if !all_decoded(alloc, tables, voters, &body, times) {
                 return None;
             }
@@ -193,7 +169,7 @@ fn use_body(
 /// The documents of a day, and what is done with it.
 #[derive(Drop)]
 struct Task {
-    work: Work,
+    work: DayWork,
     tables: Tables,
     roll: Roll,
     script: Script,
@@ -212,7 +188,7 @@ fn task_of(rt: &HostRuntime) -> io::Result<Option<Task>> {
     ) else {
         return Ok(None);
     };
-    let (Some(work), Some(times)) = (work_of(work.as_str()), decimal(times.as_bytes())) else {
+    let (Some(work), Some(times)) = (DayWork::of(work.as_str()), decimal(times.as_bytes())) else {
         return Ok(None);
     };
     let tables = fs::read(rt, tables.as_str())?;
@@ -250,7 +226,7 @@ fn outcome_of(alloc: Global, task: &Task) -> Option<Outcome> {
     let section = section_of(&task.tables, &task.roll)?;
     let mut bank = day(alloc, &task.tables, &task.roll, section, &task.script)?;
     let (put, syncs) = (bank.put(), bank.syncs());
-    if task.work != Work::Press {
+    if task.work != DayWork::Press {
         let voters = section.voters;
         let byte = use_body(
             alloc,

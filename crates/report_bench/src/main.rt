@@ -16,7 +16,7 @@
 //! Its status is 0 where each time or step went well, 1 where one did not, and 3 where the words are others.
 #![tactic(auto)]
 
-ghost use Rattle.std.specs.Prelude.{◌≡◌, ◌<◌, ◌^◌, Some, codes, length};
+ghost use Rattle.std.specs.Prelude.{◌<◌, ◌^◌, length};
 ghost use Rattle.urna_base.specs.Words.{pieces};
 ghost use Rattle.hash_chain.specs.Fault.{AreFields};
 ghost use Rattle.poll_report.specs.Report.{IsReport};
@@ -28,6 +28,7 @@ mod recounts;
 mod reports;
 mod seats;
 
+use bench_works::ReportWork;
 use certificates::tell_certificate;
 use election_tables::Tables;
 use hash_chain::{join_parts, make_parts};
@@ -46,37 +47,6 @@ use urna_base::decimal;
 
 /// The longest text that is read.
 const LONGEST_TEXT: usize = 16_777_216;
-
-/// What is done with the text, or with the parts of a file.
-#[derive(Clone, Copy, Debug, PartialEq, Eq)]
-enum Work {
-    Read,
-    Write,
-    Hash,
-    Join,
-    Make,
-    Record,
-}
-
-/// The work that a word names.
-fn work_of(word: &str) -> Option<Work>
-    ensures read { result ≡ Some Work.Read → word.now ≡ codes "le" }
-    ensures write { result ≡ Some Work.Write → word.now ≡ codes "escreve" }
-    ensures hash { result ≡ Some Work.Hash → word.now ≡ codes "hash" }
-    ensures join { result ≡ Some Work.Join → word.now ≡ codes "junta" }
-    ensures make { result ≡ Some Work.Make → word.now ≡ codes "parte" }
-    ensures rdv { result ≡ Some Work.Record → word.now ≡ codes "registro" }
-{
-    match word {
-        "le" => Some(Work::Read),
-        "escreve" => Some(Work::Write),
-        "hash" => Some(Work::Hash),
-        "junta" => Some(Work::Join),
-        "parte" => Some(Work::Make),
-        "registro" => Some(Work::Record),
-        _ => None,
-    }
-}
 
 /// The offices of all times, if each time gave a report.
 fn read_all(alloc: Global, bytes: &[u8], times: u64) -> Option<u64>
@@ -151,27 +121,27 @@ fn check_all(alloc: Global, tables: &Tables, bytes: &[u8], times: u64) -> Option
 }
 
 /// The sum of a work, if each time went well.
-fn sum_of(alloc: Global, work: Work, bytes: &[u8], times: u64) -> Option<u64> {
+fn sum_of(alloc: Global, work: ReportWork, bytes: &[u8], times: u64) -> Option<u64> {
     if bytes.len() > LONGEST_TEXT {
         return None;
     }
     match work {
-        Work::Read => read_all(alloc, bytes, times),
-        Work::Write => {
+        ReportWork::Read => read_all(alloc, bytes, times),
+        ReportWork::Write => {
             let Ok(report) = read_fields(alloc, bytes) else {
                 return None;
             };
             write_all(alloc, &report, times)
         }
-        Work::Hash => Some(hash_all(bytes, times)),
-        Work::Join => join_all(alloc, bytes, times),
-        Work::Make => {
+        ReportWork::Hash => Some(hash_all(bytes, times)),
+        ReportWork::Join => join_all(alloc, bytes, times),
+        ReportWork::Make => {
             let Ok(text) = join_parts(alloc, bytes) else {
                 return None;
             };
             make_all(alloc, &text, times)
         }
-        Work::Record => read_records(alloc, bytes, times),
+        ReportWork::Record => read_records(alloc, bytes, times),
     }
 }
 
@@ -234,7 +204,7 @@ fn certificate_status(
 
 /// The work of this name is done with the file.
 fn work_status(rt: &HostRuntime, work: &str, name: &str, times: &str) -> io::Result<u8> {
-    let (Some(work), Some(times)) = (work_of(work), decimal(times.as_bytes())) else {
+    let (Some(work), Some(times)) = (ReportWork::of(work), decimal(times.as_bytes())) else {
         return Ok(3);
     };
     let bytes = fs::read(rt, name)?;

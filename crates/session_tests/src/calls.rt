@@ -3,7 +3,6 @@ use crate::flashes::{Flashes, Program, machine};
 use crate::halt::Halt;
 use crate::papers::{Paper, cabinet_of};
 use crate::stage::Faults;
-use crate::watched::Watched;
 use crate::words::head;
 use ledger_commands::urna_ledger;
 use state_store::DEVICE_SIZE;
@@ -11,6 +10,7 @@ use std::alloc::Global;
 use std::str;
 use urna_commands::urna;
 use urna_outside::Recorder;
+use watched_shelf::Watched;
 
 /// The file that the keys of a session are.
 const KEYS: &str = "k";

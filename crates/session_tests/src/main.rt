@@ -21,7 +21,6 @@ mod runs;
 mod stage;
 mod steps;
 mod stops;
-mod watched;
 mod words;
 
 use halt::Halt;

@@ -3,8 +3,7 @@
 //! It shows nothing. Its status is 0 where each time went well, 1 where one did not, and 3 where the words are others.
 #![tactic(auto)]
 
-ghost use Rattle.std.specs.Prelude.{◌≡◌, Some, codes};
-
+use bench_works::TablesWork;
 use election_tables::Tables;
 use std::alloc::Global;
 use std::process::ExitCode;
@@ -12,33 +11,14 @@ use std::{env, fs, io};
 
 const TIMES: u32 = 20;
 
-/// What is done with the document.
-#[derive(Clone, Copy, Debug, PartialEq, Eq)]
-enum Work {
-    Tables,
-    Toml,
-}
-
-/// The work that a word names.
-fn work_of(word: &str) -> Option<Work>
-    ensures tables { result ≡ Some Work.Tables → word.now ≡ codes "tables" }
-    ensures toml { result ≡ Some Work.Toml → word.now ≡ codes "toml" }
-{
-    match word {
-        "tables" => Some(Work::Tables),
-        "toml" => Some(Work::Toml),
-        _ => None,
-    }
-}
-
-fn is_done(alloc: Global, work: Work, bytes: &[u8]) -> bool {
+fn is_done(alloc: Global, work: TablesWork, bytes: &[u8]) -> bool {
     match work {
-        Work::Tables => Tables::read(alloc, bytes).is_ok(),
-        Work::Toml => toml::table_from_slice(alloc, bytes).is_ok(),
+        TablesWork::Tables => Tables::read(alloc, bytes).is_ok(),
+        TablesWork::Toml => toml::table_from_slice(alloc, bytes).is_ok(),
     }
 }
 
-fn all_done(alloc: Global, work: Work, bytes: &[u8]) -> bool {
+fn all_done(alloc: Global, work: TablesWork, bytes: &[u8]) -> bool {
     for _ in 0..TIMES {
         if !is_done(alloc, work, bytes) {
             return false;
@@ -52,7 +32,7 @@ fn status(rt: &HostRuntime) -> io::Result<u8> {
     let (Some(word), Some(name)) = (words.next(), words.next()) else {
         return Ok(3);
     };
-    let Some(work) = work_of(word.as_str()) else {
+    let Some(work) = TablesWork::of(word.as_str()) else {
         return Ok(3);
     };
     let bytes = fs::read(rt, name.as_str())?;

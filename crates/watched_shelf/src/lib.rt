@@ -1,4 +1,6 @@
-//! A cabinet in memory that notes the names of the files that are put.
+//! A cabinet in memory that notes the names of the files that are put. It keeps the clauses of `Cabinet`, so a command can be given it.
+#![tactic(auto)]
+
 ghost use Rattle.std.specs.Prelude.{◌≡◌};
 ghost use Rattle.urna_outside.specs.Shelf.{shelf_told};
 
@@ -7,7 +9,7 @@ use urna_outside::{Cabinet, CabinetError, Failed, Shelf};
 
 /// A shelf, the names of the files that were put on it, in their order, and whether one of these couldn't be noted.
 #[derive(Drop)]
-pub(crate) struct Watched {
+pub struct Watched {
     pub shelf: Shelf,
     pub alloc: Global,
     pub puts: Vec<String>,
