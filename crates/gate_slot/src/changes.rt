@@ -1,12 +1,13 @@
 //! The pages in which two bodies differ.
 ghost use Rattle.std.specs.Prelude.{◌≡◌, ◌+◌, ◌*◌, ◌/◌, ◌%◌, ◌≤◌, ◌<◌, length};
-ghost use Rattle.urna_outside.specs.Flash.{overwrite};
 ghost use Rattle.gate_slot.specs.Page.{AreChanges, is_changed, page_size};
+
+use urna_outside::overwrite;
 
 /// The bytes of a page, the least that a patch writes.
 pub const PAGE_SIZE: usize = 512;
 
-/// How many pages have a mark: as many as the longest body of the programs. Those behind them are compared in each slot.
+/// The pages that have a mark: as many as the longest body of both programs has. Those behind them are compared in each slot.
 const MARKED_PAGES: usize = 512;
 
 /// The pages in which two bodies differ, found once for all slots that go from the one to the other.
@@ -23,14 +24,6 @@ fn is_changed(old: &[u8], new: &[u8], page: usize) -> bool
 {
     let from = page * PAGE_SIZE;
     old[from..from + PAGE_SIZE] != new[from..from + PAGE_SIZE]
-}
-
-/// Some bytes in the place of those that stood from there on.
-fn put(into: &mut [u8], at: usize, bytes: &[u8])
-    requires { at + length bytes.now ≤ length into.old }
-    ensures { into.new ≡ overwrite into.old at bytes.now }
-{
-    into[at..at + bytes.len()].copy_from_slice(bytes);
 }
 
 impl Changes {
@@ -70,7 +63,7 @@ impl Changes {
         for page in 0..new.len() / PAGE_SIZE {
             if page >= MARKED_PAGES || self.marks[page] {
                 let from = page * PAGE_SIZE;
-                put(body, from, &new[from..from + PAGE_SIZE]);
+                overwrite(body, from, &new[from..from + PAGE_SIZE]);
             }
         }
     }

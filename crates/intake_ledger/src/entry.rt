@@ -3,7 +3,6 @@
 ghost use Rattle.std.specs.Prelude.{◌≡◌, ◌≢◌, ℕ, ◌+◌, ◌<◌, ◌≤◌, ◌^◌, ◌/◌, length, true, false};
 ghost use Rattle.std.specs.List.Sorted.{IsStrictlyIncreasing};
 ghost use Rattle.urna_outside.specs.Confined.{IsInRange};
-ghost use Rattle.urna_outside.specs.Flash.{overwrite};
 ghost use Rattle.election_tables.specs.TablesData.{IsTables};
 ghost use Rattle.poll_report.specs.Report.{IsReport, greatest_count, numbers_of};
 ghost use Rattle.section_intake.specs.Sums.{votes_for};
@@ -17,6 +16,7 @@ use crate::layout::{HASH_SIZE, HASHES_OFFSET, MARKS_OFFSET, NUMBER_OFFSET, SUM_S
 use election_tables::Tables;
 use poll_report::{Count, OfficeCount, Report};
 use urna_base::{put_be32, put_be64};
+use urna_outside::overwrite;
 use vote_kinds::Choice;
 
 /// Enters a report of the section in a place, which has none, with the hash of the report's last part. The caller owes the body of a
@@ -54,7 +54,7 @@ fn put_section(into: &mut [u8], place: u32, hash: &[u8; HASH_SIZE])
 {
     count_one(into);
     set_mark(into, place);
-    put(into, HASHES_OFFSET + HASH_SIZE * place as usize, hash);
+    overwrite(into, HASHES_OFFSET + HASH_SIZE * place as usize, hash);
 }
 
 /// One section more is accepted.
@@ -65,7 +65,7 @@ fn count_one(into: &mut [u8])
     ensures kept { KeepsBytes (IsInRange number_offset number_size) into.old into.new }
 {
     let number = number_in(into);
-    put(into, NUMBER_OFFSET, &put_be32(number + 1));
+    overwrite(into, NUMBER_OFFSET, &put_be32(number + 1));
 }
 
 /// Sets the bit of a section.
@@ -77,14 +77,6 @@ fn set_mark(into: &mut [u8], place: u32)
     ensures kept { KeepsBytes (λ k. k ≡ marks_offset + place / 8) into.old into.new }
 {
     into[MARKS_OFFSET + (place / 8) as usize] |= 1 << (7 - place % 8);
-}
-
-/// Some bytes in the place of those that stood from there on.
-fn put(into: &mut [u8], at: usize, bytes: &[u8])
-    requires { at + length bytes.now ≤ length into.old }
-    ensures { into.new ≡ overwrite into.old at bytes.now }
-{
-    into[at..at + bytes.len()].copy_from_slice(bytes);
 }
 
 /// The votes of a report more in the sums of these choices.
@@ -112,7 +104,7 @@ fn add_votes(into: &mut [u8], place: u32, votes: u32)
     ensures kept { KeepsBytes (IsInRange (sum_offset place) sum_size) into.old into.new }
 {
     let sum = sum_in(into, place) + u64::from(votes);
-    put(
+    overwrite(
         into,
         SUMS_OFFSET + SUM_SIZE * place as usize,
         &put_be64(sum),

@@ -7,7 +7,7 @@ ghost use Rattle.urna_outside.specs.Told.{Does, Runs, port_of, size_of};
 ghost use Rattle.gate_slot.specs.Device.{OnFlash, KeepsRest};
 ghost use Rattle.gate_slot.specs.Front.{IsFrontOf, RunsUpTo};
 ghost use Rattle.gate_slot.specs.Page.{AreChanges, IsPatch};
-ghost use Rattle.gate_slot.specs.Slot.{HasBody, IsBody, IsGateShut, room, body_in, gate_in};
+ghost use Rattle.gate_slot.specs.Slot.{HasBody, IsBody, IsGateShut, room, body_in};
 ghost use Rattle.gate_slot.specs.Token.{slot_of_filled, slot_of_live, slot_of_shut, IsTornAt, torn_port};
 ghost use Rattle.gate_slot.specs.declared.slot.Step.TheVariants.{Filling};
 ghost use Rattle.twin_image.specs.Cut.{IsRenewalCutIn, IsTurnCutIn};
@@ -226,6 +226,8 @@ fn renew_found<M: Machine, const SIZE: usize>(
 
 /// Renews the two slots of a device, as `renew` does, by the pages that were found before to change. The device is answered
 /// only where its count rose.
+///
+/// The caller owes what `renew` asks for, of this device, and that `changes` are those of these two bodies.
 pub fn renew_on<M: Machine, const SIZE: usize>(
     m: &mut M,
     dev: Dev,

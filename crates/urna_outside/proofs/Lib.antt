@@ -17,3 +17,4 @@ mod Tears
 mod Torn
 mod ItemLemmas
 pub mod Traced
+pub mod Marking

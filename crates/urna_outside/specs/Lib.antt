@@ -1,6 +1,7 @@
 pub mod Cabinet
 pub mod Chip
 pub mod Chips
+pub mod Marks
 pub mod Confined
 pub mod Counters
 pub mod Faults

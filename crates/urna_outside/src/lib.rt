@@ -10,6 +10,7 @@
 //! the image of a device at any stop. `Steady` never fails. What both folders need stands beside them.
 #![tactic(auto)]
 
+mod bytes;
 mod cabinet;
 mod counters;
 mod device;
@@ -19,6 +20,7 @@ mod memory;
 mod show;
 mod take_counts;
 
+pub use bytes::overwrite;
 pub use cabinet::{Cabinet, CabinetError};
 pub use device::{Dev, Failed, Port};
 pub use files::{FileLock, FileMachine, FolderCabinet};

@@ -1,17 +1,23 @@
 //! One flash device in memory, with a mark for each dirty byte.
-ghost use Rattle.std.specs.Prelude.{◌≡◌, ◌+◌, ◌^◌, ◌<◌, ◌≤◌, length, IfOk};
+ghost use Rattle.std.specs.Prelude.{◌≡◌, ◌+◌, ◌^◌, ◌<◌, ◌≤◌, false, length, replicate, IfOk};
 ghost use Rattle.urna_outside.specs.Flash.{IsImage, clean_flash, part, put, synced};
+ghost use Rattle.urna_outside.specs.Marks.{IsCleanBut};
 ghost use Rattle.urna_outside.specs.Tear.{torn, with_byte};
 
-use crate::Tear;
+use crate::{Tear, overwrite};
 use std::alloc::{AllocError, Global};
 
 #[derive(Drop)]
 pub(crate) struct Chip {
     bytes: Vec<u8>,
     dirty: Vec<bool>,
+    // No byte before `first` is dirty, and none from `end` on, so a sync clears only the marks between them.
+    first: usize,
+    end: usize,
     ghost same_length: { length dirty.items ≡ length bytes.items },
     ghost bounded: { length bytes.items < 2 ^ 32 },
+    ghost within: { end ≤ length bytes.items },
+    ghost others: { IsCleanBut first end dirty.items },
 }
 
 /// The bytes, with this one in the place of each that has a mark.
@@ -25,6 +31,17 @@ fn with_byte(alloc: Global, byte: u8, bytes: &[u8], marks: &[bool]) -> Result<Ve
         .collect(alloc)
 }
 
+/// Clears all marks. None is set before `first`, and none from `end` on.
+fn clear(marks: &mut [bool], first: usize, end: usize)
+    requires within { end ≤ length marks.old }
+    requires others { IsCleanBut first end marks.old }
+    ensures { marks.new ≡ replicate (length marks.old) false }
+{
+    if first < end {
+        marks[first..end].fill(false);
+    }
+}
+
 impl Chip {
     ghost use Rattle.urna_outside.specs.Chip.{flash};
 
@@ -34,7 +51,13 @@ impl Chip {
         ensures { IfOk result (λ chip. flash chip ≡ clean_flash bytes.items) }
     {
         let dirty = vec![in alloc; false; bytes.len()]?;
-        Ok(Chip { bytes, dirty })
+        let first = bytes.len();
+        Ok(Chip {
+            bytes,
+            dirty,
+            first,
+            end: 0,
+        })
     }
 
     pub(crate) fn len(&self) -> u32
@@ -62,14 +85,19 @@ impl Chip {
         ensures { flash self.new ≡ put at bytes.now (flash self.old) }
     {
         let from = at as usize;
-        self.bytes[from..from + bytes.len()].copy_from_slice(bytes);
-        self.dirty[from..from + bytes.len()].fill(true);
+        let to = from + bytes.len();
+        overwrite(&mut self.bytes, from, bytes);
+        self.dirty[from..to].fill(true);
+        self.first = self.first.min(from);
+        self.end = self.end.max(to);
     }
 
     pub(crate) fn sync(&mut self)
         ensures { flash self.new ≡ synced (flash self.old) }
     {
-        self.dirty.fill(false);
+        clear(&mut self.dirty, self.first, self.end);
+        self.first = self.bytes.len();
+        self.end = 0;
     }
 
     /// What a power cut leaves of it.

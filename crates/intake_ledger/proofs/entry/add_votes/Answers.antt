@@ -8,7 +8,7 @@ pub returns-clause-sum : goal.returns-clause-sum
 returns-clause-sum c =
     let place : ℕ = c.args.place in
     let sum : ℕ = c.sum_in.result + c.from.result in
-    ap (λ (bytes : List ℕ). sum_in bytes place) c.put.ensures
+    ap (λ (bytes : List ℕ). sum_in bytes place) c.overwrite.ensures
     ∙ ap (λ (bytes : List ℕ). sum_in (overwrite c.args.into.now (sum_offset place) bytes) place) c.put_be64.ensures
     ∙ sum_put c.args.into.now place sum (omega arith) (omega arith)
     ∙ omega (arith, c.sum_in.ensures, c.from.ensures)

@@ -8,6 +8,6 @@ returns c =
     let place = c.args.place in
     let hash = c.args.hash.now in
     let long : length hash ≡ 64 = omega arith in
-    subst (λ (bytes : List ℕ). HasSection place hash c.args.into.now bytes) (sym c.put.ensures)
+    subst (λ (bytes : List ℕ). HasSection place hash c.args.into.now bytes) (sym c.overwrite.ensures)
     (section_put place hash c.args.into.now c.count_one.new.into c.set_mark.new.into c.requires.size c.requires.place long c.count_one.ensures.number
     c.count_one.ensures.kept c.set_mark.ensures.marked c.set_mark.ensures.others c.set_mark.ensures.kept)

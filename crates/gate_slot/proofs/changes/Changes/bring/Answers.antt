@@ -32,7 +32,7 @@ loop-page-preserved c =
           let at = k * page_size in
           let here : at ≡ 0 + at = omega arith in
           let is : c.if-page-ge-MARKED_PAGES.body ≡ overwrite body (0 + at) (page k new) =
-          w.body-is ∙ w.put.ensures ∙ ap (λ (n : ℕ). overwrite body n (page k new)) here in
+          w.body-is ∙ w.overwrite.ensures ∙ ap (λ (n : ℕ). overwrite body n (page k new)) here in
           let long = length-part new at page_size fits in
           record {
             long = ap length is ∙ (length-overwrite body (0 + at) (page k new) (omega (arith, long, fits, c.loop-page.invariant.long)) ∙ c.loop-page.invariant.long);
