@@ -18,5 +18,5 @@ mod tables;
 pub use limits::{GREATEST_PROCESS, GREATEST_SECTION, MOST_OFFICES, MOST_VOTERS};
 pub use office::{GREATEST_CODE, Kind, Office, code_digits, code_proportional, may_have_places};
 pub use roll::{Roll, RollError};
-pub use rules::has_digits;
+pub use rules::{first_two, has_digits};
 pub use tables::{Candidate, Section, Tables, TablesError};

@@ -11,7 +11,7 @@ mod ranges;
 
 use crate::document::Document;
 use federations::all_members;
-pub use fields::has_digits;
+pub use fields::{first_two, has_digits};
 use std::alloc::{AllocError, Global};
 
 impl Document {

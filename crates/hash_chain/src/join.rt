@@ -37,7 +37,7 @@ fn read_parts(alloc: Global, bytes: &[u8]) -> Result<Vec<u8>, PartError>
     ensures { MatchRead result (λ text. ArePartsOf bytes.now text.items) (λ f. IsPartFault bytes.now f) }
 {
     let feeds = count_feeds(bytes);
-    // the text is shorter than the file
+    // the text is no longer than the file
     let mut text = with_room(alloc, bytes.len())?;
     let mut before = None;
     let mut place = 1;

@@ -1,3 +1,4 @@
+pub mod Digits
 pub mod LineLists
 pub mod Totals
 pub mod Lists

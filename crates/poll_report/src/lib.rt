@@ -11,4 +11,4 @@ pub mod laws;
 pub mod report;
 
 pub use counts::show_counts;
-pub use report::{Count, Counts, GREATEST_COUNT, OfficeCount, OfficeCounts, Report};
+pub use report::{Count, Counts, GREATEST_COUNT, OfficeCount, OfficeCounts, Report, digits_in};

@@ -1,12 +1,23 @@
 //! A poll report: what was counted in a section.
-ghost use Rattle.std.specs.Prelude.{◌≡◌, ◌+◌, ◌<◌, ◌^◌, [], ◌∷◌, ◌++◌, length, OnErr, OnOk, Some, slice_get};
+ghost use Rattle.std.specs.Prelude.{◌≡◌, ◌+◌, ◌<◌, ◌≤◌, ◌^◌, [], ◌∷◌, ◌++◌, length, IfOk, OnErr, OnOk, Some, slice_get};
+ghost use Rattle.poll_report.specs.Report.{digits_in};
 
+use election_tables::code_digits;
 use std::alloc::Global;
 use std::marker::Model;
 use urna_base::Memory;
 
 /// The greatest number of voters or votes that a report can tell.
 pub const GREATEST_COUNT: u64 = 9_999;
+
+/// The digits of the numbers of an office with this code, 0 where no office has it.
+#[tactic(auto, using(crate::proofs::Digits::digits_few))]
+pub fn digits_in(code: u8) -> u8
+    ensures digits { result ≡ digits_in code }
+    ensures few { result ≤ 5 }
+{
+    code_digits(code).unwrap_or(0)
+}
 
 /// The number of a candidate or of a party, and its votes.
 #[derive(Clone, Copy, Debug, PartialEq, Eq)]
@@ -40,6 +51,15 @@ impl Counts {
         Counts {
             items: Vec::new(alloc),
         }
+    }
+
+    /// No counts, with room for so many. `Memory` comes only where an allocation failed.
+    pub fn with_room(alloc: Global, room: u32) -> Result<Counts, Memory>
+        ensures { IfOk result (λ counts. counts ≡ []) }
+    {
+        Ok(Counts {
+            items: Vec::with_capacity(alloc, room as usize)?,
+        })
     }
 
     /// One count more, behind the others. The caller owes that there are fewer than 2^32 - 1. `Memory` comes only where an

@@ -1,5 +1,5 @@
 -- What the code of an office gives: it fits its field, and its numbers have few digits, four or five where the office is proportional.
-use Rattle.std.proofs.Common.{◌≡◌, ℕ, ◌≤◌, Bool, true, false, List, [], ◌∷◌, length, Option, Some, None, ◌⊎◌, inl, inr, refl, arith, lit≤}
+use Rattle.std.proofs.Common.{◌≡◌, ℕ, Bool, true, false, List, [], ◌∷◌, length, Option, Some, None, ◌⊎◌, inl, inr, refl, arith}
 use Rattle.std.specs.Prelude.{if◌then◌else◌, nat_lt, ◌&&◌, ◌||◌, ◌==◌, not, is_some, unwrap_or, option_map, pos}
 use Rattle.std.specs.List.{find, list_all, list_any}
 use Rattle.std.specs.Option.{option_map_or}
@@ -11,7 +11,7 @@ use Rattle.election_tables.specs.Limits.{most_offices}
 use Rattle.election_tables.proofs.PlacesOfPanels.{may_have-few, one_may_have}
 use Rattle.election_tables.specs.Offices.{code_digits, code_proportional, may_have_places, greatest_code, kinds_allow, office_rows, row_of}
 use Rattle.election_tables.specs.declared.office.Kind.TheVariants as kind
-use Rattle.election_tables.proofs.Kept.{code_digits-range, code_in_range}
+use Rattle.election_tables.proofs.Kept.{code_in_range}
 use Rattle.poll_report.specs.Report.{digits_in, may_have_code}
 use Rattle.qr_text.specs.Table.{fits}
 use Rattle.qr_text.specs.declared.table.TheConstants.{TABLE}
@@ -41,13 +41,6 @@ not_one places h = grind (arith, nat_tests)
 -- and two, if any, is
 pub other_fits : (code places : ℕ) → may_have_places code places ≡ true → (places == 1) ≡ false → fits TABLE.places.form places ≡ true
 other_fits code places may other = let few = may_have-few code places may in grind (arith, nat_tests)
-
-few_of : (code : ℕ) (o : Option ℕ) → code_digits code ≡ o → unwrap_or o 0 ≤ 5
-few_of code None e = lit≤ tt
-few_of code (Some digits) e = (code_digits-range code digits e).1
-
-pub digits_few : (code : ℕ) → digits_in code ≤ 5
-digits_few code = few_of code (code_digits code) refl
 
 -- ---- four or five digits
 

@@ -27,7 +27,8 @@ use Rattle.qr_text.specs.declared.table.Form.TheVariants.{Vota, Between, Date, T
 use Rattle.qr_text.specs.declared.table.Form.{Form}
 use Rattle.qr_text.specs.declared.table.Row.{Row}
 use Rattle.qr_text.specs.declared.table.TheConstants.{TABLE}
-use Rattle.qr_text.proofs.Codes.{code_fits, digits_few, other_fits}
+use Rattle.qr_text.proofs.Codes.{code_fits, other_fits}
+use Rattle.poll_report.proofs.Digits.{digits_few}
 use Rattle.qr_text.proofs.Following.{kind_fits}
 use Rattle.qr_text.proofs.Lengths.{AreVotes, are_party_votes, are_votes, fits_in, is_short, short_field, vote_length}
 use Rattle.qr_text.proofs.Reporting.{is_said}

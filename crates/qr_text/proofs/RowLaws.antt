@@ -30,7 +30,7 @@ use Rattle.qr_text.specs.declared.table.Form.TheVariants.{Vota, Between, Date, T
 use Rattle.qr_text.specs.declared.table.Form.{Form}
 use Rattle.qr_text.specs.declared.table.Row.{Row}
 use Rattle.qr_text.specs.declared.table.TheConstants.{TABLE}
-use Rattle.qr_text.proofs.Codes.{digits_few}
+use Rattle.poll_report.proofs.Digits.{digits_few}
 
 -- the numbers of a form are those that decimals can write
 abbrev pub IsSmall : Form → Type 0

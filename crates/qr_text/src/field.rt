@@ -6,9 +6,8 @@ ghost use Rattle.qr_text.specs.Table.{row_text};
 ghost use Rattle.qr_text.specs.Writing.{HasRoom, spaced_vote};
 
 use crate::table::{Form, Row};
-use crate::value::first_two;
-use election_tables::code_digits;
-use poll_report::Count;
+use election_tables::first_two;
+use poll_report::{Count, digits_in};
 use urna_base::{Memory, put_decimal, put_digits};
 
 /// Appends a field of the table.
@@ -47,9 +46,8 @@ pub(crate) fn put_vote(out: &mut Vec<u8>, count: Count) -> Result<(), Memory>
 }
 
 /// The party of a candidate of an office: the first two digits of the candidate's number.
-#[tactic(auto, using(crate::proofs::Codes::digits_few))]
 pub(crate) fn party_of(code: u8, number: u32) -> u32
     ensures { result ≡ first_two (digits_in code) number }
 {
-    first_two(code_digits(code).unwrap_or(0), number)
+    first_two(digits_in(code), u64::from(number)) as u32
 }

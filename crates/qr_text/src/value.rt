@@ -1,6 +1,6 @@
 //! What one field of a text writes: the number of a row of the table, or a candidate and its votes.
-ghost use Rattle.std.specs.Prelude.{◌≡◌, ◌-◌, ◌^◌, ◌<◌, ◌≤◌, ◌==◌, position};
-ghost use Rattle.election_tables.specs.Fields.{first_two, has_digits};
+ghost use Rattle.std.specs.Prelude.{◌≡◌, ◌-◌, ◌<◌, ◌≤◌, ◌==◌, position};
+ghost use Rattle.election_tables.specs.Fields.{has_digits};
 ghost use Rattle.poll_report.specs.Report.{is_vote};
 ghost use Rattle.qr_text.specs.Reading.{number_at, value_at, written_value};
 ghost use Rattle.qr_text.specs.Table.{fits};
@@ -8,7 +8,7 @@ ghost use Rattle.qr_text.specs.Votes.{belongs, party_after, places_of, vote_afte
 ghost use Rattle.qr_text.specs.declared.table.TheConstants.{TABLE};
 
 use crate::table::{Form, Row, TABLE};
-use election_tables::{has_digits, may_have_places};
+use election_tables::{first_two, has_digits, may_have_places};
 use poll_report::Count;
 use urna_base::{after, date_ok, decimal, digits};
 
@@ -114,22 +114,8 @@ fn belongs(digits: u8, party: Option<u32>, number: u32) -> bool
     ensures { result ≡ belongs digits party number }
 {
     match party {
-        Some(party) => first_two(digits, number) == party,
+        Some(party) => first_two(digits, u64::from(number)) == u64::from(party),
         None => true,
-    }
-}
-
-/// The first two digits of a number of so many.
-pub(crate) fn first_two(digits: u8, number: u32) -> u32
-    requires { digits ≤ 5 }
-    ensures { result ≡ first_two digits number }
-{
-    // a divisor that is known costs a tenth of one that isn't
-    match digits {
-        3 => number / 10,
-        4 => number / 100,
-        5 => number / 1_000,
-        _ => number,
     }
 }
 

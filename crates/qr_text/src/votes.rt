@@ -1,5 +1,5 @@
 //! The votes of an office: candidates in a row, and parties in a row.
-ghost use Rattle.std.specs.Prelude.{◌≡◌, ◌+◌, ◌*◌, ◌<◌, ◌≤◌, ◌^◌, [], ◌∷◌, ◌++◌, ℕ, List, length, IfOk, MatchResult, Err, Ok};
+ghost use Rattle.std.specs.Prelude.{◌≡◌, ◌+◌, ◌<◌, ◌≤◌, ◌^◌, [], ◌∷◌, ◌++◌, List, length, IfOk, MatchResult, Err, Ok};
 ghost use Rattle.std.specs.List.{sum_by};
 ghost use Rattle.poll_report.specs.Report.{digits_in, votes_of};
 ghost use Rattle.qr_text.specs.Fronts.{MatchRead, NoParty, goes, in_party, with_parties};
@@ -12,10 +12,12 @@ use crate::fault::{FieldError, FieldFault};
 use crate::reader::{Reader, read};
 use crate::said::{SaidParties, SaidParty};
 use crate::table::TABLE;
-use election_tables::code_digits;
-use poll_report::Counts;
+use poll_report::{Counts, digits_in};
 use std::alloc::Global;
 use urna_base::Memory;
+
+/// For how many candidates in a row there is room at once, mostly enough for those of one party in a section. A longer row grows.
+const USUAL_COUNTS: u32 = 16;
 
 /// Candidates in a row, and all their votes.
 #[derive(Drop)]
@@ -39,7 +41,7 @@ pub(crate) fn read_votes(
     // From here on it is known that the fields that are left are fewer than 2^32.
     let _place = reader.place();
     let digits = digits_in(code);
-    let mut counts = Counts::new(alloc);
+    let mut counts = Counts::with_room(alloc, USUAL_COUNTS)?;
     let mut votes = 0;
     let mut last = 0;
     while let Some(count) = reader.try_vote(digits, party, last) {
@@ -48,15 +50,6 @@ pub(crate) fn read_votes(
         counts.push(count)?;
     }
     Ok(Tally { counts, votes })
-}
-
-/// The digits of an office's numbers, 0 where no office has the code.
-#[tactic(auto, using(crate::proofs::Codes::digits_few))]
-fn digits_in(code: u8) -> u8
-    ensures digits { result ≡ digits_in code }
-    ensures few { result ≤ 5 }
-{
-    code_digits(code).unwrap_or(0)
 }
 
 /// What stands behind the candidates of a party, who have these votes together: its party votes and its total.

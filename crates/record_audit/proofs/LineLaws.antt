@@ -1,6 +1,6 @@
 -- One line of a record text, written and read.
-use Rattle.std.proofs.Common.{◌≡◌, ℕ, ◌<◌, ◌≤◌, ◌^◌, Bool, true, false, not, cond, List, [], ◌∷◌, ◌++◌, length, Option, Some, None, option_map, refl, sym, ap, ◌∙◌, subst, inl, inr, arith, lit<, lit≤}
-use Rattle.std.specs.Prelude.{◌==◌, ◌&&◌, codes, is_some, nat_lt, pos, unwrap_or}
+use Rattle.std.proofs.Common.{◌≡◌, ℕ, ◌<◌, ◌≤◌, ◌^◌, Bool, true, false, not, cond, List, [], ◌∷◌, ◌++◌, length, Option, Some, None, option_map, refl, sym, ap, ◌∙◌, subst, inl, inr, arith, lit<}
+use Rattle.std.specs.Prelude.{◌==◌, ◌&&◌, codes, is_some, nat_lt, pos}
 use Rattle.std.specs.Fmt.{decimal}
 use Rattle.std.specs.List.{list_all, list_any}
 use Rattle.std.specs.Option.{option_and_then}
@@ -20,10 +20,11 @@ use Rattle.urna_base.proofs.WordLaws.{after_word-append, after_word-some}
 use Rattle.election_tables.specs.Fields.{has_digits, is_within}
 use Rattle.election_tables.specs.Limits.{greatest_process, greatest_section, most_offices}
 use Rattle.election_tables.specs.Offices.{code_digits, code_proportional, greatest_code}
-use Rattle.election_tables.proofs.Kept.{code_digits-range, code_in_range, has_digits-below}
+use Rattle.election_tables.proofs.Kept.{code_in_range, has_digits-below}
 use Rattle.vote_kinds.specs.declared.choice.Choice.{Choice}
 use Rattle.vote_kinds.specs.declared.choice.Choice.TheVariants as choice
 use Rattle.vote_record.specs.RecordText.{heading_words, office_words, vote_words}
+use Rattle.poll_report.proofs.Digits.{digits_few}
 use Rattle.poll_report.specs.Report.{digits_in, may_have_code}
 use Rattle.record_audit.specs.Reading.{candidate_in, cell, choice_in, date_cell, date_in, heading_in, number_cell, number_in, office_in, party_in, section_in}
 use Rattle.record_audit.specs.Spelling.{IsHeading, heading_of, may_vote, most_votes}
@@ -267,13 +268,6 @@ office_read before line x h =
     subst (λ (y : ℕ × ℕ). Opened before line y) pair (office_from before line a.0 b.0 a.1 b.1 both.0)
 
 -- ---- the line of a vote
-
-pub digits_few : (code : ℕ) → unwrap_or (code_digits code) 0 ≤ 5
-digits_few code = by_digits (code_digits code) refl
-  where
-    by_digits : (o : Option ℕ) → code_digits code ≡ o → unwrap_or o 0 ≤ 5
-    by_digits None e = lit≤ tt
-    by_digits (Some digits) e = (code_digits-range code digits e).1
 
 -- numbers of candidates are small
 pub candidate_small : (code n : ℕ) → has_digits (digits_in code) n ≡ true → n ≤ 99999

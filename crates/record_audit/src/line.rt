@@ -10,6 +10,7 @@ use election_tables::{
     GREATEST_CODE, GREATEST_PROCESS, GREATEST_SECTION, MOST_OFFICES, code_digits,
     code_proportional, has_digits,
 };
+use poll_report::digits_in;
 use std::alloc::Global;
 use urna_base::{after, cut_at, date_ok, decimal, digits};
 use vote_kinds::Choice;
@@ -144,15 +145,6 @@ fn party_of(code: u8, text: &[u8]) -> Option<Choice>
     } else {
         None
     }
-}
-
-/// The digits of an office's numbers, 0 where no office has the code.
-#[tactic(auto, using(crate::proofs::LineLaws::digits_few))]
-fn digits_in(code: u8) -> u8
-    ensures digits { result ≡ digits_in code }
-    ensures few { result ≤ 5 }
-{
-    code_digits(code).unwrap_or(0)
 }
 
 /// A number behind a word, and what stands behind the space that ends it.

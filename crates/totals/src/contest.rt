@@ -12,8 +12,8 @@ ghost use Rattle.totals.specs.Contest.{blocs_of, contest_in};
 ghost use Rattle.totals.specs.Giving.{IsPlaceOf, with_candidates};
 
 use crate::blocs::{bloc_of, blocs_without_candidates};
-use crate::entries::{entries_of, first_two};
-use election_tables::Tables;
+use crate::entries::entries_of;
+use election_tables::{Tables, first_two};
 use seat_remainders::{Contest, Contestant, Contestants, Entry};
 use section_intake::Intake;
 use std::alloc::Global;
@@ -66,7 +66,7 @@ fn add_candidates(
 {
     let mut known = None;
     for entry in entries {
-        let party = first_two(digits, entry.number) as u8;
+        let party = first_two(digits, u64::from(entry.number)) as u8;
         let place = place_for(tables, blocs, known, party);
         blocs.push_candidate(place, *entry)?;
         known = Some((party, place));

@@ -1,6 +1,5 @@
 //! The candidates of a panel with their votes.
 ghost use Rattle.std.specs.Prelude.{◌≡◌, ◌==◌, ◌<◌, ◌≤◌, ◌^◌, List, filter, length, not, IfOk};
-ghost use Rattle.election_tables.specs.Fields.{first_two};
 ghost use Rattle.election_tables.specs.Limits.{most_candidates};
 ghost use Rattle.poll_report.specs.declared.report.Report.{Report};
 ghost use Rattle.section_intake.specs.Intake.{IsIntakeFor, accepted_files};
@@ -56,18 +55,4 @@ pub(crate) fn without(alloc: Global, entries: &[Entry], number: u32) -> Result<E
         }
     }
     Ok(others)
-}
-
-/// The first two of so many digits.
-pub(crate) fn first_two(digits: u8, number: u32) -> u32
-    requires some { 2 ≤ digits }
-    requires few { digits ≤ 5 }
-    ensures { result ≡ first_two digits number }
-{
-    match digits {
-        2 => number,
-        3 => number / 10,
-        4 => number / 100,
-        _ => number / 1000,
-    }
 }

@@ -3,6 +3,7 @@ use Rattle.std.specs.Prelude.{IfSome}
 use Rattle.std.proofs.lemmas.List.{length-take}
 use Rattle.std.proofs.lemmas.Option.{slice_get_within}
 use Rattle.seat_remainders.specs.declared.contest.Contestant.{Contestant}
+use Rattle.election_tables.specs.Fields.{first_two}
 use Rattle.election_tables.specs.TablesData.{bloc_of}
 use Rattle.totals.proofs.OwnCandidates.{bloc_at, few_given, give, none_given, numbers_of, numbers_stay, party_few}
 use Rattle.totals.proofs.contest.add_candidates.Goals as goal
@@ -13,7 +14,7 @@ loop-entry-init c = record { given = sym (none_given c.args.tables.now c.args.di
 pub overflow_cast-party : goal.overflow_cast-party
 overflow_cast-party c =
     let few = party_few c.args.tables.now c.args.digits c.args.entries.now c.loop-entry.entry-index c.first_two-party.result _ c.requires.tables
-    c.loop-entry-test.true c.requires.parties c.first_two-party.ensures in
+    c.loop-entry-test.true c.requires.parties (c.first_two-party.ensures ∙ ap (λ (n : ℕ). first_two c.args.digits n) c.from.ensures) in
     omega (arith, few)
 
 pub place_for-place-requires-clause-blocs : goal.place_for-place-requires-clause-blocs
@@ -42,6 +43,6 @@ pub loop-entry-preserved : goal.loop-entry-preserved
 loop-entry-preserved c = record {
   given = give c.args.tables.now c.args.digits c.args.entries.now c.args.blocs.now c.loop-entry.blocs _ c.loop-entry.entry-index c.place_for-place.result
       c.first_two-party.result _ c.requires.tables c.requires.blocs c.loop-entry-test.true c.loop-entry.invariant.given c.place_for-place.ensures
-      c.first_two-party.ensures c.in_ok-push_candidate.ensures.pushed;
+      (c.first_two-party.ensures ∙ ap (λ (n : ℕ). first_two c.args.digits n) c.from.ensures) c.in_ok-push_candidate.ensures.pushed;
   known = c.place_for-place.ensures;
 }
