@@ -44,7 +44,7 @@ test:
 	.ci/run
 
 check-house:
-	@tests/check-house
+	@tools/check-house
 
 bench: programs
 	bench/run
@@ -55,24 +55,24 @@ country:
 	examples/country "$(URNA)" $(MUNICIPALITIES) $(SEED)
 
 crash-trial: programs
-	tests/crash-trial "$(URNA)" "$(LEDGER)" $(TRIALS) $(SEED)
+	trials/crash-trial "$(URNA)" "$(LEDGER)" $(TRIALS) $(SEED)
 
 hostile: programs
-	tests/hostile "$(URNA)" "$(LEDGER)" $(MINUTES) $(SEED)
+	trials/hostile "$(URNA)" "$(LEDGER)" $(MINUTES) $(SEED)
 
 # A program, or both, proved and built where something has changed, and the record of that build.
 urna:
-	@tests/build urna_app
+	@tools/build urna_app
 
 urna_ledger:
-	@tests/build ledger_app
+	@tools/build ledger_app
 
 programs:
-	@tests/build urna_app ledger_app
+	@tools/build urna_app ledger_app
 
 # What is given to those who install them.
 dist: programs
-	@tests/dist "$(URNA)" "$(LEDGER)"
+	@tools/dist "$(URNA)" "$(LEDGER)"
 
 install: programs
-	@tests/dist "$(URNA)" "$(LEDGER)" "$(PREFIX)"
+	@tools/dist "$(URNA)" "$(LEDGER)" "$(PREFIX)"

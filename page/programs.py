@@ -8,7 +8,7 @@ from typing import NamedTuple
 
 TOP = os.path.dirname(os.path.dirname(os.path.abspath(__file__)))
 EXAMPLES = os.path.join(TOP, "examples")
-sys.path.append(os.path.join(TOP, "tests"))
+sys.path.append(os.path.join(TOP, "trials"))
 
 # How long a command may take, in seconds.
 LONGEST = 60
@@ -40,7 +40,7 @@ class Ended(NamedTuple):
 
 
 class Program:
-    """The built program, and the library that stops it in the middle of a write, where there is one (tests/failing.c)."""
+    """The built program, and the library that stops it in the middle of a write, where there is one (trials/failing.c)."""
 
     def __init__(self, path, library):
         self.path, self.library = path, library

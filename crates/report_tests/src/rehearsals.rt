@@ -1,4 +1,4 @@
-//! The texts of a rehearsal, and rehearsals whose lines were worked out from the rules of voting and of seats (`tests/rehearsals.py`).
+//! The texts of a rehearsal, and rehearsals whose lines were worked out from the rules of voting and of seats (`tools/rehearsals.py`).
 use rehearsal::{
     read_roll, read_script, read_tables, rehearsal_keys, rehearsal_roll, rehearsal_tables,
 };

@@ -1,5 +1,5 @@
 //! The rows of the tests of certificates. The certificate of each contest, how another text is judged, and the substitutes follow from
-//! `docs/RULES.md`, "The seats" and "The certificate": `tests/certificates.py` works them out with fractions, and knows nothing of this program.
+//! `docs/RULES.md`, "The seats" and "The certificate": `tools/certificates.py` works them out with fractions, and knows nothing of this program.
 
 /// A contest as `rows` tells it, the text of its certificate in the words of `docs/FORMATS.md`, and changes of this text: a piece, what
 /// stands in its place, and how the changed text is judged for the contest.

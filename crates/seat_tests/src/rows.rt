@@ -1,4 +1,4 @@
-//! The rows of the tests. What comes of each contest follows from the rules of `docs/RULES.md`, "The seats": `tests/seats.py` works it
+//! The rows of the tests. What comes of each contest follows from the rules of `docs/RULES.md`, "The seats": `tools/seats.py` works it
 //! out with fractions, and knows nothing of this program.
 use seat_remainders::MajorityOutcome;
 

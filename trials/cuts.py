@@ -1,4 +1,4 @@
-"""Power cuts as images: the writes and syncs of a run are told (tests/failing.c), a stop of it is drawn, and each flash is made one that
+"""Power cuts as images: the writes and syncs of a run are told (trials/failing.c), a stop of it is drawn, and each flash is made one that
 the cut may leave. Bytes that were synced stand; each write that was not is lost, whole, torn, or has brought anything into its range, in
 any order. The next call goes on over these images. So docs/CRASH.md has it, "The flash model"."""
 
@@ -214,7 +214,7 @@ def loads(runs, draw):
 
 
 def day_by_day(runs):
-    """Each state that the program leaves at rest is that of the writer of tests/polls.py."""
+    """Each state that the program leaves at rest is that of the writer of trials/polls.py."""
     day = Day(6)
     files = runs.run(day.documents(""), CARGA).files
     for state in range(day.last + 1):

@@ -22,7 +22,7 @@ class Link(NamedTuple):
 
 
 class Call(NamedTuple):
-    """A call of the program, as tests/failing.c tells it: its kind, the file, of a write its place, the answer, and what a write put."""
+    """A call of the program, as trials/failing.c tells it: its kind, the file, of a write its place, the answer, and what a write put."""
 
     kind: str
     name: str

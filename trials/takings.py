@@ -1,9 +1,9 @@
-"""Cuts of the counting centre's program: `recebe` over a list of drawn files is cut at a drawn stop (tests/cuts.py), in some runs behind a
+"""Cuts of the counting centre's program: `recebe` over a list of drawn files is cut at a drawn stop (trials/cuts.py), in some runs behind a
 call that failed, and so are `abre` and `totais`. The next command goes on over what the cut left.
 
 Behind each `recebe` both flashes, and each alone where a byte was shown, hold the ledger with the first of the listed files: as many as
 verdicts had begun to be shown, or one more. Nothing that was told is lost, and no section counts twice: the ledger is known to the byte
-(tests/ledgers.py). At last the rest of the reports is taken in, and the sums of `totais` are those that `totaliza`, a command of urna,
+(trials/ledgers.py). At last the rest of the reports is taken in, and the sums of `totais` are those that `totaliza`, a command of urna,
 tells of the accepted reports."""
 
 import itertools

@@ -263,7 +263,7 @@ class Run:
         self.call()
         if name not in self.files:
             self.refuse(f"ERRO FALTA {word}", 12)
-        if len(self.files[name]) > LIMITS[word]:
+        if len(self.files[name].encode()) > LIMITS[word]:
             self.refuse(f"ERRO TAMANHO {word}", 5)
         return self.files[name]
 
@@ -279,9 +279,12 @@ class Run:
         return tables
 
     def names(self, name):
-        names = self.take(name, "LISTA").splitlines()
-        if "" in names:
-            self.refuse(f"ERRO LINHA {names.index('') + 1}", 4)
+        """The names of a list: at most 4,096 lines of 1 to 255 bytes, none of them zero."""
+        lines = self.take(name, "LISTA").split("\n")
+        names = lines if lines[-1] else lines[:-1]
+        for number, line in enumerate(names, 1):
+            if number > 4096 or not 1 <= len(line.encode()) <= 255 or "\0" in line:
+                self.refuse(f"ERRO LINHA {number}", 4)
         return names
 
     def opened(self, tables):

@@ -1,4 +1,4 @@
-"""What flashes hold of a day (tests/polls.py), as `vota` with no keys tells it: over both, and over each alone."""
+"""What flashes hold of a day (trials/polls.py), as `vota` with no keys tells it: over both, and over each alone."""
 
 from commands import VOTA, want
 from polls import COMMIT_LINES, FLASHES

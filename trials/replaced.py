@@ -1,5 +1,5 @@
 """A flash breaks in the middle of a poll, another one is in its place, and `repoe` loads it from the one that stands: sessions, exchanges and
-replacements one after another, each cut at a drawn stop (tests/cuts.py), or with a call that fails or is killed (tests/failing.c).
+replacements one after another, each cut at a drawn stop (trials/cuts.py), or with a call that fails or is killed (trials/failing.c).
 
 At every moment behind an exchange the standing flash alone holds the state that it held, which is the one whose line was begun last or the
 next. No other command changes it; which one goes on, and with which status another ends, is worked out from the bytes of both flashes. At

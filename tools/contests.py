@@ -1,6 +1,6 @@
 """What `certifica` and `verifica` answer of some files, worked out by a model of its own: tables, lists and reports are taken and offered as that of
-tests/offers.py does it, the contest of an office is that of the totals (tests/federations.py), and its certificate is written and judged by
-tests/certificates.py. All commands of the script `certificates` (crates/session_tests) are these.
+tools/offers.py does it, the contest of an office is that of the totals (tools/federations.py), and its certificate is written and judged by
+tools/certificates.py. All commands of the script `certificates` (crates/session_tests) are these.
 
 `other_answers` gives the lines of that script under which another answer stands.
 """

@@ -191,7 +191,7 @@ def each(runs, words, files, usual, taking=None):
 
 
 def each_in_copies(runs, words, files, usual, how):
-    """Each allocation of a command that has many, in a copy of its process (tests/failing.c). Where a copy ends for want of memory, and no
+    """Each allocation of a command that has many, in a copy of its process (trials/failing.c). Where a copy ends for want of memory, and no
     file was touched before, nothing is shown and the files are as they were; else the allocation is refused in a run of its own."""
     count = sum(call.kind == "memory" for call in usual.calls)
     for first in range(1, count + 1, IN_A_RUN):

@@ -1,9 +1,9 @@
-"""The counting centre's program on real files, for tests/crash-trial: how it ends, a ledger from its opening to the last section, both
+"""The counting centre's program on real files, for trials/crash-trial: how it ends, a ledger from its opening to the last section, both
 programs in one folder, and runs of `abre` and `recebe` that are killed, or in which a call fails, and go on.
 
 Behind each of these both flashes, and each alone, hold the ledger with the first of the listed reports: as many as verdicts had begun to be
-shown, or one more (tests/takings.py). At last a report of each section is there once, the sums are those that `totaliza`, a command of urna,
-tells of the accepted reports, and the seats of councillor over them are certified as a model does it (tests/contests.py)."""
+shown, or one more (trials/takings.py). At last a report of each section is there once, the sums are those that `totaliza`, a command of urna,
+tells of the accepted reports, and the seats of councillor over them are certified as a model does it (tools/contests.py)."""
 
 import os
 import random

@@ -1,4 +1,4 @@
-"""Certificates of seats and substitutes by docs/RULES.md, "The certificate", and docs/FORMATS.md, "Certificate", of contests as tests/seats.py has them:
+"""Certificates of seats and substitutes by docs/RULES.md, "The certificate", and docs/FORMATS.md, "Certificate", of contests as tools/seats.py has them:
 the seats, and the parties.
 
 `other_certificates` gives the rows of crates/seat_tests whose certificate or substitutes are others, and those changes of a certificate that

@@ -1,4 +1,4 @@
-/* For tests/crash-trial and tests/hostile: makes one call of a program go another way than it would, and tells the calls of the program.
+/* For trials/crash-trial and trials/hostile: makes one call of a program go another way than it would, and tells the calls of the program.
 
    URNA_FAIL is `CALL ENDING N HOW`: of the calls of this kind over files whose names end so, counted from 1, the n-th one goes HOW. CALL is
    write, read, sync, open, rename, link, unlink, stat, seek, lock, dup or memory; ENDING may be `*`, which is any file. Standard output is

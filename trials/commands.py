@@ -104,5 +104,5 @@ def compiled(folder):
 
 
 def failing(library, fail):
-    """The environment in which a call goes another way (tests/failing.c)."""
+    """The environment in which a call goes another way (trials/failing.c)."""
     return {**os.environ, "LD_PRELOAD": library, "URNA_FAIL": fail}

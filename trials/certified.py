@@ -1,6 +1,6 @@
 """Drawn elections of which each office that is decided in proportion is certified: the certificate that `certifica` puts, and the substitutes that it
 tells, are those of a writer of its own; and where a line of a certificate is left out, doubled or swapped with the next one, or a number is one
-more or one less, `verifica` tells what a reader of its own does (tests/contests.py). Of the first ten certificates that aren't long each such change
+more or one less, `verifica` tells what a reader of its own does (tools/contests.py). Of the first ten certificates that aren't long each such change
 is judged, and of any other one as many as are drawn."""
 
 import itertools
