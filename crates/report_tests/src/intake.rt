@@ -57,8 +57,8 @@ const BOTH_SUMS: [Sums; 2] = [[1, 0, 0, 0, 0, 3, 0, 1, 2], [0, 1, 4, 0, 0, 0, 0,
 
 /// The contest of the first office over both reports.
 const CONTEST: &str = "Contest { seats: 5, parties: Contestants { items: [\
-     Contestant { number: 13, party_votes: 0, candidates: Entries { items: [Entry { number: 13001, birth: 19700101, votes: 1 }] } }, \
-     Contestant { number: 45, party_votes: 3, candidates: Entries { items: [Entry { number: 45001, birth: 19650520, votes: 0 }] } }] } }";
+     Contestant { number: 13, party_votes: 0, candidates: Items { items: [Entry { number: 13001, birth: 19700101, votes: 1 }] } }, \
+     Contestant { number: 45, party_votes: 3, candidates: Items { items: [Entry { number: 45001, birth: 19650520, votes: 0 }] } }] } }";
 
 fn sums_of(intake: &Intake, panel: u32) -> Sums
     requires { panel < panels_of intake.now }

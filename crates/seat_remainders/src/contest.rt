@@ -7,6 +7,7 @@ ghost use Rattle.std.specs.Cmp.{partial_order_from_own_ties};
 ghost use Rattle.std.specs.Cmp.Rules.{comparing};
 ghost use Rattle.std.specs.Ordering.{nat_cmp, on, flip_args, then_cmp, as_partial_cmp};
 
+use items::Items;
 use std::alloc::Global;
 use std::cmp::Ordering;
 use std::marker::Model;
@@ -52,67 +53,8 @@ impl PartialOrd for Entry {
     }
 }
 
-/// Candidates in a row, which contracts see as their list.
-#[derive(Debug, Drop)]
-pub struct Entries {
-    items: Vec<Entry>,
-}
-
-impl Model for Entries {
-    ghost use Rattle.std.specs.Prelude.{◌<◌, ◌^◌, List, length};
-    ghost use Rattle.seat_remainders.specs.declared.contest.Entry.{Entry};
-
-    ghost Value = { List Entry };
-
-    ghost view = { λ l. l.items.items };
-
-    ghost invariant = { λ l. length l.items.items < 2 ^ 32 };
-}
-
-impl Entries {
-    /// No candidates.
-    pub fn new(alloc: Global) -> Entries
-        ensures { result ≡ [] }
-    {
-        Entries {
-            items: Vec::new(alloc),
-        }
-    }
-
-    /// One candidate more, behind the others. The caller owes that there are fewer than 2^32 - 1. `Memory` comes only where an allocation
-    /// failed, and then nothing has changed.
-    pub fn push(&mut self, item: Entry) -> Result<(), Memory>
-        requires { length self.old + 1 < 2 ^ 32 }
-        ensures pushed { OnOk result (self.new ≡ self.old ++ item ∷ []) }
-        ensures kept { OnErr result (self.new ≡ self.old) }
-    {
-        self.items.push(item)?;
-        Ok(())
-    }
-
-    /// How many there are.
-    pub fn len(&self) -> u32
-        ensures { result ≡ length self.now }
-    {
-        self.items.len() as u32
-    }
-
-    /// The i-th, counted from 0.
-    pub fn get(&self, i: u32) -> &Entry
-        requires { i < length self.now }
-        ensures { slice_get self.now i ≡ Some result.now }
-    {
-        &self.items[i as usize]
-    }
-
-    /// All of them.
-    pub fn as_slice(&self) -> &[Entry]
-        ensures items { result.now ≡ self.now }
-        ensures few { length result.now < 2 ^ 32 }
-    {
-        self.items.as_slice()
-    }
-}
+/// Candidates in a row.
+pub type Entries = Items<Entry>;
 
 /// A party: its number, its party votes, and its candidates. A federation is one party, with the candidates of all its parties.
 #[derive(Debug, Drop)]

@@ -4,6 +4,7 @@ ghost use Rattle.std.specs.List.Sorted.{IsPermutation, IsSorted};
 ghost use Rattle.quotients.specs.Order.{average_cmp, parts_of};
 ghost use Rattle.seat_remainders.specs.Sorted.{NeverDescend};
 
+use items::Items;
 use quotients::Average;
 use std::alloc::Global;
 use std::marker::Model;
@@ -16,67 +17,8 @@ pub struct Award {
     pub party: u8,
 }
 
-/// Awards in the order of the rounds, which contracts see as their list.
-#[derive(Debug, Drop)]
-pub struct Awards {
-    items: Vec<Award>,
-}
-
-impl Model for Awards {
-    ghost use Rattle.std.specs.Prelude.{◌<◌, ◌^◌, List, length};
-    ghost use Rattle.seat_remainders.specs.declared.outcome.Award.{Award};
-
-    ghost Value = { List Award };
-
-    ghost view = { λ l. l.items.items };
-
-    ghost invariant = { λ l. length l.items.items < 2 ^ 32 };
-}
-
-impl Awards {
-    /// No awards.
-    pub fn new(alloc: Global) -> Awards
-        ensures { result ≡ [] }
-    {
-        Awards {
-            items: Vec::new(alloc),
-        }
-    }
-
-    /// One award more, behind the others. The caller owes that there are fewer than 2^32 - 1. `Memory` comes only where an allocation
-    /// failed, and then nothing has changed.
-    pub fn push(&mut self, item: Award) -> Result<(), Memory>
-        requires { length self.old + 1 < 2 ^ 32 }
-        ensures pushed { OnOk result (self.new ≡ self.old ++ item ∷ []) }
-        ensures kept { OnErr result (self.new ≡ self.old) }
-    {
-        self.items.push(item)?;
-        Ok(())
-    }
-
-    /// How many there are.
-    pub fn len(&self) -> u32
-        ensures { result ≡ length self.now }
-    {
-        self.items.len() as u32
-    }
-
-    /// The i-th, counted from 0.
-    pub fn get(&self, i: u32) -> &Award
-        requires { i < length self.now }
-        ensures { slice_get self.now i ≡ Some result.now }
-    {
-        &self.items[i as usize]
-    }
-
-    /// All of them.
-    pub fn as_slice(&self) -> &[Award]
-        ensures items { result.now ≡ self.now }
-        ensures few { length result.now < 2 ^ 32 }
-    {
-        self.items.as_slice()
-    }
-}
+/// Awards in the order of the rounds.
+pub type Awards = Items<Award>;
 
 /// Averages in order, which contracts see as the list of their parts.
 #[derive(Debug, Drop)]
@@ -170,112 +112,11 @@ pub struct PartySeats {
     pub seats: u32,
 }
 
-/// What each party has, in a row, which contracts see as its list.
-#[derive(Debug, Drop)]
-pub struct PartySeatList {
-    items: Vec<PartySeats>,
-}
+/// What each party has, in a row.
+pub type PartySeatList = Items<PartySeats>;
 
-impl Model for PartySeatList {
-    ghost use Rattle.std.specs.Prelude.{◌<◌, ◌^◌, List, length};
-    ghost use Rattle.seat_remainders.specs.declared.outcome.PartySeats.{PartySeats};
-
-    ghost Value = { List PartySeats };
-
-    ghost view = { λ l. l.items.items };
-
-    ghost invariant = { λ l. length l.items.items < 2 ^ 32 };
-}
-
-impl PartySeatList {
-    /// No parties.
-    pub fn new(alloc: Global) -> PartySeatList
-        ensures { result ≡ [] }
-    {
-        PartySeatList {
-            items: Vec::new(alloc),
-        }
-    }
-
-    /// One party more, behind the others. The caller owes that there are fewer than 2^32 - 1. `Memory` comes only where an allocation
-    /// failed, and then nothing has changed.
-    pub fn push(&mut self, item: PartySeats) -> Result<(), Memory>
-        requires { length self.old + 1 < 2 ^ 32 }
-        ensures pushed { OnOk result (self.new ≡ self.old ++ item ∷ []) }
-        ensures kept { OnErr result (self.new ≡ self.old) }
-    {
-        self.items.push(item)?;
-        Ok(())
-    }
-
-    /// How many there are.
-    pub fn len(&self) -> u32
-        ensures { result ≡ length self.now }
-    {
-        self.items.len() as u32
-    }
-
-    /// The i-th, counted from 0.
-    pub fn get(&self, i: u32) -> &PartySeats
-        requires { i < length self.now }
-        ensures { slice_get self.now i ≡ Some result.now }
-    {
-        &self.items[i as usize]
-    }
-}
-
-/// Numbers of candidates in a row, which contracts see as their list.
-#[derive(Debug, Drop)]
-pub struct Numbers {
-    items: Vec<u32>,
-}
-
-impl Model for Numbers {
-    ghost use Rattle.std.specs.Prelude.{ℕ, ◌<◌, ◌^◌, List, length};
-
-    ghost Value = { List ℕ };
-
-    ghost view = { λ l. l.items.items };
-
-    ghost invariant = { λ l. length l.items.items < 2 ^ 32 };
-}
-
-impl Numbers {
-    /// No numbers.
-    pub fn new(alloc: Global) -> Numbers
-        ensures { result ≡ [] }
-    {
-        Numbers {
-            items: Vec::new(alloc),
-        }
-    }
-
-    /// One number more, behind the others. The caller owes that there are fewer than 2^32 - 1. `Memory` comes only where an allocation
-    /// failed, and then nothing has changed.
-    pub fn push(&mut self, item: u32) -> Result<(), Memory>
-        requires { length self.old + 1 < 2 ^ 32 }
-        ensures pushed { OnOk result (self.new ≡ self.old ++ item ∷ []) }
-        ensures kept { OnErr result (self.new ≡ self.old) }
-    {
-        self.items.push(item)?;
-        Ok(())
-    }
-
-    /// How many there are.
-    pub fn len(&self) -> u32
-        ensures { result ≡ length self.now }
-    {
-        self.items.len() as u32
-    }
-
-    /// The i-th, counted from 0.
-    pub fn get(&self, i: u32) -> &u32
-        requires { i < length self.now }
-        ensures { slice_get self.now i ≡ Some result.now }
-    {
-        &self.items[i as usize]
-    }
-}
+/// Numbers of candidates in a row.
+pub type Numbers = Items<u32>;
 
 /// The seats of a contest: the electoral quotient, what each party has, rising by number, the awards of the rounds, the numbers of the
 /// elected, party by party and within a party in the order of candidates, how many seats stay vacant, and the averages by which phase 2

@@ -12,8 +12,8 @@ unfolding spaced_parties
 loop-party-init c = record {
   written = sym (append-nil c.args.out.now.items);
   candidates = all_candidates_left c.args.office.now c.as_slice-candidates.result.now c.requires.counted c.requires.proportional
-      c.as_slice-candidates.ensures;
-  legends = all_entries_left c.args.office.now c.as_slice-legends.result.now c.requires.counted c.as_slice-legends.ensures;
+      c.as_slice-candidates.ensures.items;
+  legends = all_entries_left c.args.office.now c.as_slice-legends.result.now c.requires.counted c.as_slice-legends.ensures.items;
 }
 
 pub split_at-requires : goal.split_at-requires
