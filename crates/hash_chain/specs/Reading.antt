@@ -11,7 +11,7 @@ use Rattle.hash_chain.specs.Lines.{fields_and_hash, is_word, only, two_numbers}
 use Rattle.hash_chain.specs.declared.fault.PartError.{PartError}
 use Rattle.hash_chain.specs.declared.fault.PartError.TheVariants.{Memory, Fault}
 use Rattle.hash_chain.specs.declared.fault.PartFault.{PartFault}
-use Rattle.hash_chain.specs.declared.line.Line as code
+use Rattle.hash_chain.specs.declared.line.Link as code
 
 -- P holds of what was read, or Q of the fault; nothing is said where memory ran out
 abbrev pub MatchRead : {A : Type 0} → Result A PartError → (A → Type 0) → (PartFault → Type 0) → Type 0
@@ -61,9 +61,9 @@ with_part [] fields = fields
 with_part (b ∷ text) fields = (b ∷ text) ++ 32 ∷ fields
 
 -- what a line says that was taken apart
-abbrev pub said : code.Line → Link
+abbrev pub said : code.Link → Link
 said l = record { number = l.number; parts = l.parts; version = l.version.now; fields = pieces l.fields.now; hash = l.hash.now }
 
-abbrev pub said_before : Option code.Line → Option Link
+abbrev pub said_before : Option code.Link → Option Link
 said_before None = None
 said_before (Some l) = Some (said l)

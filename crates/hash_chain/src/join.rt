@@ -14,7 +14,7 @@ ghost use Rattle.hash_chain.specs.declared.fault.PartFault.{PartFault};
 use crate::cut::PART_SIZE;
 use crate::fault::{PartError, PartFault};
 use crate::hash::hash_of;
-use crate::line::{Line, VERSION, read_line, split_piece};
+use crate::line::{Link, VERSION, read_link, split_piece};
 use memchr::memchr;
 use std::alloc::Global;
 use urna_base::Memory;
@@ -43,7 +43,7 @@ fn read_parts(alloc: Global, bytes: &[u8]) -> Result<Vec<u8>, PartError>
     let mut place = 1;
     let mut rest = bytes;
     while let Some((row, behind)) = split_row(rest) {
-        let line = take_line(alloc, feeds, place, before, row)?;
+        let line = take_link(alloc, feeds, place, before, row)?;
         push_fields(&mut text, line.fields)?;
         before = Some(line);
         place += 1;
@@ -106,19 +106,19 @@ fn push_fields(text: &mut Vec<u8>, fields: &[u8]) -> Result<(), Memory>
 }
 
 /// The line at a place of a file with so many line feeds, behind the line before, or its fault.
-fn take_line<'a>(
+fn take_link<'a>(
     alloc: Global,
     feeds: u64,
     place: u32,
-    before: Option<Line<'_>>,
+    before: Option<Link<'_>>,
     row: &'a [u8],
-) -> Result<Line<'a>, PartError>
+) -> Result<Link<'a>, PartError>
     ensures fault { MatchRead result
         (λ l. fault_of_link feeds place (said_before before.entry) (link_in row.now) ≡ None)
         (λ f. fault_of_link feeds place (said_before before.entry) (link_in row.now) ≡ Some f) }
     ensures line { IfOk result (λ l. link_in row.now ≡ Some (said l)) }
 {
-    let Some(line) = read_line(row) else {
+    let Some(line) = read_link(row) else {
         return Err(PartError::Fault(PartFault::Form(place)));
     };
     match failing(alloc, feeds, place, before, line)? {
@@ -133,8 +133,8 @@ fn failing(
     alloc: Global,
     feeds: u64,
     place: u32,
-    before: Option<Line<'_>>,
-    line: Line<'_>,
+    before: Option<Link<'_>>,
+    line: Link<'_>,
 ) -> Result<Option<PartFault>, Memory>
     requires { line.text.now ≡ hashed_text (said line) }
     ensures { IfOk result (λ o. o ≡ failing_link feeds place (said_before before.entry) (said line.entry)) }
@@ -155,21 +155,21 @@ fn failing(
 }
 
 /// Whether a line is of the version of this format.
-fn has_version(line: Line<'_>) -> bool
+fn has_version(line: Link<'_>) -> bool
     ensures { result ≡ bytes_eq line.entry.version.now chain_version }
 {
     line.version == VERSION.as_slice()
 }
 
 /// Whether a line is the part that is due, of as many parts as the file has line feeds.
-fn has_number(line: Line<'_>, feeds: u64, place: u32) -> bool
+fn has_number(line: Link<'_>, feeds: u64, place: u32) -> bool
     ensures { result ≡ (line.entry.number == place && line.entry.parts == feeds) }
 {
     line.number == u64::from(place) && line.parts == feeds
 }
 
 /// Whether the hash of a line is that of the hash before and its text.
-fn has_hash(alloc: Global, before: Option<Line<'_>>, line: Line<'_>) -> Result<bool, Memory>
+fn has_hash(alloc: Global, before: Option<Link<'_>>, line: Link<'_>) -> Result<bool, Memory>
     ensures { IfOk result (λ b. b ≡ bytes_eq line.entry.hash.now (hash_text (hash_before (said_before before.entry) ++ line.entry.text.now))) }
 {
     let hash = hash_of(alloc, hash_before(before), line.text)?;
@@ -177,7 +177,7 @@ fn has_hash(alloc: Global, before: Option<Line<'_>>, line: Line<'_>) -> Result<b
 }
 
 /// The hash from which a line's goes on: none before the first line.
-fn hash_before<'a>(before: Option<Line<'a>>) -> &'a [u8]
+fn hash_before<'a>(before: Option<Link<'a>>) -> &'a [u8]
     ensures { result.now ≡ hash_before (said_before before.entry) }
 {
     match before {
@@ -195,7 +195,7 @@ fn is_long(fields: &[u8]) -> bool
 }
 
 /// Whether the first of these fields would have fitted into the part of the line before.
-fn fits_before(before: Option<Line<'_>>, fields: &[u8]) -> bool
+fn fits_before(before: Option<Link<'_>>, fields: &[u8]) -> bool
     ensures { result ≡ fits_before (said_before before.entry) (pieces fields.now) }
 {
     match before {

@@ -19,9 +19,9 @@ const HASH_KEY: [u8; 6] = *b" HASH:";
 /// How many bytes stand behind the fields of a part.
 const TAIL_SIZE: usize = HASH_KEY.len() + HASH_SIZE;
 
-/// The line of a part, taken apart.
+/// What the line of a part says, taken apart.
 #[derive(Clone, Copy, Debug)]
-pub(crate) struct Line<'a> {
+pub(crate) struct Link<'a> {
     pub number: u64,
     pub parts: u64,
     pub version: &'a [u8],
@@ -32,7 +32,7 @@ pub(crate) struct Line<'a> {
 }
 
 /// What a line says, without its line feed, if it is of the form.
-pub(crate) fn read_line(row: &[u8]) -> Option<Line<'_>>
+pub(crate) fn read_link(row: &[u8]) -> Option<Link<'_>>
     ensures line { MatchOption result (link_in row.now ≡ None) (λ l. link_in row.now ≡ Some (said l)) }
     ensures text { IfSome result (λ l. l.text.now ≡ hashed_text (said l)) }
 {
@@ -41,7 +41,7 @@ pub(crate) fn read_line(row: &[u8]) -> Option<Line<'_>>
     let version = version_of(version)?;
     let (fields, hash) = split_hash(tail)?;
     let text = &row[..row.len() - TAIL_SIZE];
-    Some(Line {
+    Some(Link {
         number,
         parts,
         version,

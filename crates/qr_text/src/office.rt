@@ -2,7 +2,7 @@
 ghost use Rattle.std.specs.Prelude.{◌≡◌, ◌+◌, ◌<◌, ◌≤◌, ◌==◌, ◌∷◌, ◌++◌, [], false, true, length, IfOk, MatchResult, Err, Ok};
 ghost use Rattle.std.specs.List.{list_any};
 ghost use Rattle.election_tables.specs.Offices.{code_proportional};
-ghost use Rattle.poll_report.specs.Report.{may_have_code};
+ghost use Rattle.poll_report.specs.Report.{greatest_count, may_have_code};
 ghost use Rattle.qr_text.specs.Fronts.{MatchRead, after_office, behind, goes, placing, said_of, voting, with_parties, with_sums};
 ghost use Rattle.qr_text.specs.Said.{codes_in};
 ghost use Rattle.qr_text.specs.Sections.{legend_reading, start_reading, sums_reading};
@@ -73,7 +73,7 @@ fn read_legend(reader: &mut Reader<'_>, proportional: bool, legend: u64) -> Resu
     ensures exact { MatchResult result
         (λ v. legend_reading proportional legend reader.old ≡ Ok (v, reader.new))
         (λ e. legend_reading proportional legend reader.old ≡ Err e) }
-    ensures few { IfOk result (λ v. v ≤ 9999) }
+    ensures few { IfOk result (λ v. v ≤ greatest_count) }
     ensures fewer { IfOk result (λ v. length reader.new.left ≤ length reader.old.left) }
 {
     if proportional {

@@ -1,6 +1,7 @@
 //! A text that is read field by field.
 ghost use Rattle.std.specs.Prelude.{◌≡◌, ◌==◌, ◌+◌, ◌^◌, ◌<◌, ◌≤◌, ◌↔◌, ◌∷◌, [], length, position, true, IfOk, IfSome, IsTrue, MatchOption, MatchResult, Err, None, Ok, Some};
 ghost use Rattle.urna_base.specs.Words.{pieces};
+ghost use Rattle.poll_report.specs.Report.{greatest_count};
 ghost use Rattle.qr_text.specs.Sections.{is_narrow, pieces_left, row_reading, sum_reading};
 ghost use Rattle.qr_text.specs.Table.{fits};
 ghost use Rattle.qr_text.specs.Votes.{party_first, places_first, vote_first};
@@ -128,7 +129,7 @@ impl<'a> Reader<'a> {
         ensures exact { MatchOption result
             ((vote_first digits party last self.old ≡ None) × (self.new ≡ self.old))
             (λ c. vote_first digits party last self.old ≡ Some (c, self.new)) }
-        ensures few { IfSome result (λ c. c.votes ≤ 9999) }
+        ensures few { IfSome result (λ c. c.votes ≤ greatest_count) }
         ensures one { IfSome result (λ c. length self.old.left ≡ length self.new.left + 1) }
     {
         let Some(text) = self.rest else {

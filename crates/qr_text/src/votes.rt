@@ -1,7 +1,7 @@
 //! The votes of an office: candidates in a row, and parties in a row.
 ghost use Rattle.std.specs.Prelude.{◌≡◌, ◌+◌, ◌<◌, ◌≤◌, ◌^◌, [], ◌∷◌, ◌++◌, List, length, IfOk, MatchResult, Err, Ok};
 ghost use Rattle.std.specs.List.{sum_by};
-ghost use Rattle.poll_report.specs.Report.{digits_in, votes_of};
+ghost use Rattle.poll_report.specs.Report.{digits_in, greatest_count, votes_of};
 ghost use Rattle.qr_text.specs.Fronts.{MatchRead, NoParty, goes, in_party, with_parties};
 ghost use Rattle.qr_text.specs.Sections.{party_end_reading};
 ghost use Rattle.qr_text.specs.Votes.{votes_reading};
@@ -67,7 +67,7 @@ fn read_party_end(
         (λ e. party_end_reading number candidates reader.old ≡ Err e) }
     ensures number { IfOk result (λ p. p.number ≡ number) }
     ensures total { IfOk result (λ p. p.total ≡ votes_of p.candidates + p.legend) }
-    ensures few { IfOk result (λ p. p.total ≤ 9999) }
+    ensures few { IfOk result (λ p. p.total ≤ greatest_count) }
     ensures two { IfOk result (λ p. length reader.old.left ≡ length reader.new.left + 2) }
 {
     let legend = read!(reader, party_legend);
@@ -92,7 +92,7 @@ fn read_party(
         (λ f. (q : Said) (ps : List SaidParty) → goes (in_party q code ps number []) reader.old ≡ Err f) }
     ensures number { IfOk result (λ p. p.number ≡ number) }
     ensures total { IfOk result (λ p. p.total ≡ votes_of p.candidates + p.legend) }
-    ensures few { IfOk result (λ p. p.total ≤ 9999) }
+    ensures few { IfOk result (λ p. p.total ≤ greatest_count) }
     ensures fewer { IfOk result (λ p. length reader.new.left < length reader.old.left) }
 {
     let tally = read_votes(alloc, reader, code, Some(number))?;

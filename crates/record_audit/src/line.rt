@@ -1,13 +1,14 @@
 //! What one line of a record text says.
 ghost use Rattle.std.specs.Prelude.{◌≡◌, ◌^◌, ◌<◌, ◌≤◌, ◌==◌, [], length, IfSome, MatchOption, None, Some};
+ghost use Rattle.election_tables.specs.Limits.{most_offices};
 ghost use Rattle.poll_report.specs.Report.{digits_in, may_have_code};
 ghost use Rattle.record_audit.specs.Reading.{candidate_in, cell, choice_in, date_cell, date_in, heading_in, may_follow, number_cell, number_in, office_in, party_in, section_in, vote_in};
-ghost use Rattle.record_audit.specs.Spelling.{codes_in};
+ghost use Rattle.record_audit.specs.Spelling.{codes_in, most_votes};
 ghost use Rattle.std.specs.List.{list_any};
 
 use crate::text::{RecordOffice, RecordOffices, RecordText};
 use election_tables::{
-    GREATEST_CODE, GREATEST_PROCESS, GREATEST_SECTION, MOST_OFFICES, code_digits,
+    GREATEST_CODE, GREATEST_PROCESS, GREATEST_SECTION, MOST_OFFICES, MOST_VOTERS, code_digits,
     code_proportional, has_digits,
 };
 use poll_report::digits_in;
@@ -15,8 +16,8 @@ use std::alloc::Global;
 use urna_base::{after, cut_at, date_ok, decimal, digits};
 use vote_kinds::Choice;
 
-/// The most votes of an office: those of 600 voters who have two each.
-const MOST_VOTES: u64 = 1_200;
+/// The most votes of an office: two of each voter.
+const MOST_VOTES: u64 = 2 * MOST_VOTERS;
 
 /// Which election and section the second line names, with no offices.
 #[tactic(auto, unfolding(crate::specs::Reading::heading_in))]
@@ -51,8 +52,8 @@ fn section_of(text: &[u8]) -> Option<u32>
 #[tactic(auto, unfolding(crate::specs::Reading::office_in))]
 pub(crate) fn office_of(before: &RecordOffices, line: &[u8]) -> Option<(u8, u32)>
     ensures value { result ≡ office_in (codes_in before.now) line.now }
-    ensures votes { IfSome result (λ x. x.1 ≤ 1200) }
-    ensures offices { IfSome result (λ x. length before.now < 8) }
+    ensures votes { IfSome result (λ x. x.1 ≤ most_votes) }
+    ensures offices { IfSome result (λ x. length before.now < most_offices) }
 {
     let (code, rest) = number_cell(b"CARG ", 0, u64::from(GREATEST_CODE), line)?;
     let votes = number_of(0, MOST_VOTES, rest)?;

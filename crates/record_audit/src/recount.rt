@@ -1,6 +1,7 @@
 //! A record is compared with a report.
 ghost use Rattle.std.specs.Prelude.{◌≡◌, ◌<◌, ◌≤◌, ◌==◌, map, length, MatchResult, Err, Ok};
 ghost use Rattle.std.specs.List.{AllByRecursion};
+ghost use Rattle.election_tables.specs.Limits.{most_offices};
 ghost use Rattle.vote_record.specs.Bag.{count_of};
 ghost use Rattle.poll_report.specs.Report.{IsReport};
 ghost use Rattle.record_audit.specs.Finding.{codes_counted, difference, finding, first_apart, first_differing, has_same_heading, said_for, votes_for};
@@ -45,7 +46,7 @@ fn has_same_heading(text: &RecordText, report: &Report) -> bool
 
 /// The first place, counted from 1, at which the codes of offices differ, or some have ended.
 fn first_apart(offices: &[RecordOffice], counts: &[OfficeCount]) -> Option<u32>
-    requires { length counts.now ≤ 8 }
+    requires { length counts.now ≤ most_offices }
     ensures { result ≡ first_apart 1 (codes_in offices.now) (codes_counted counts.now) }
 {
     let mut record = offices;
@@ -67,7 +68,7 @@ fn first_apart(offices: &[RecordOffice], counts: &[OfficeCount]) -> Option<u32>
 
 /// The first panel whose votes differ.
 fn first_differing(offices: &[RecordOffice], counts: &[OfficeCount]) -> Finding
-    requires few { length counts.now ≤ 8 }
+    requires few { length counts.now ≤ most_offices }
     requires counted { AllByRecursion IsCounted counts.now }
     ensures { result ≡ first_differing 0 offices.now counts.now }
 {

@@ -1,5 +1,5 @@
 use Rattle.hash_chain.proofs.LineParts.{line_long, line_made}
-use Rattle.hash_chain.proofs.line.read_line.Goals as goal
+use Rattle.hash_chain.proofs.line.read_link.Goals as goal
 use Rattle.urna_base.specs.Words.{pieces}
 
 pub slice_bounds-text-count : goal.slice_bounds-text-count
