@@ -1,4 +1,4 @@
-//! Those works of the benchmarks that a word alone tells apart, each with that word.
+//! Works of the benchmarks, each with the word that names it.
 #![tactic(auto)]
 
 mod days;

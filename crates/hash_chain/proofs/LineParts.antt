@@ -22,7 +22,7 @@ use Rattle.hash_chain.specs.Chain.{Link, hashed_text}
 use Rattle.hash_chain.specs.Cut.{joined}
 use Rattle.hash_chain.specs.Hash.{is_hash}
 use Rattle.hash_chain.specs.Lines.{fields_and_hash, is_field, is_word, link_in, link_of_pieces, only, two_numbers}
-use Rattle.hash_chain.specs.Reading.{line_by, made, numbers_in, tail_of, version_in}
+use Rattle.hash_chain.specs.Reading.{link_by, made, numbers_in, tail_of, version_in}
 
 -- ---- two numbers
 
@@ -158,24 +158,24 @@ tail_none rest fields tail whole size never = elim (option_cases (tail_of rest))
 
 -- ---- a whole line
 
-both_tests : (n : ℕ × ℕ) (w : List ℕ) (y : List (List ℕ) × List ℕ) (a b : Bool) → only (a && b) (made n w y) ≡ line_by (Some n) (only a w) (only b y)
+both_tests : (n : ℕ × ℕ) (w : List ℕ) (y : List (List ℕ) × List ℕ) (a b : Bool) → only (a && b) (made n w y) ≡ link_by (Some n) (only a w) (only b y)
 both_tests n w y true true = refl
 both_tests n w y true false = refl
 both_tests n w y false b = refl
 
-no_tail : (n : ℕ × ℕ) (v : Option (List ℕ)) → None ≡ line_by (Some n) v None
+no_tail : (n : ℕ × ℕ) (v : Option (List ℕ)) → None ≡ link_by (Some n) v None
 no_tail n None = refl
 no_tail n (Some w) = refl
 
 by_three : (n : Option (ℕ × ℕ)) (v : Option (List ℕ)) (o : Option (List (List ℕ) × List ℕ))
     → option_and_then (λ m. option_and_then (λ w. option_and_then (λ x. only (is_word w && nat_lt 0 (length x.0)) (made m w x)) o) v) n
-    ≡ line_by n (option_and_then (λ w. only (is_word w) w) v) (option_and_then (λ x. only (nat_lt 0 (length x.0)) x) o)
+    ≡ link_by n (option_and_then (λ w. only (is_word w) w) v) (option_and_then (λ x. only (nat_lt 0 (length x.0)) x) o)
 by_three None v o = refl
 by_three (Some n) None o = refl
 by_three (Some n) (Some w) None = no_tail n (only (is_word w) w)
 by_three (Some n) (Some w) (Some y) = both_tests n w y (is_word w) (nat_lt 0 (length y.0))
 
-pub line_of_three : (row q v tail : List ℕ) (rest : List (List ℕ)) → pieces row ≡ q ∷ rest → rest ≡ v ∷ pieces tail → link_in row ≡ line_by (numbers_in q) (version_in v) (tail_of tail)
+pub line_of_three : (row q v tail : List ℕ) (rest : List (List ℕ)) → pieces row ≡ q ∷ rest → rest ≡ v ∷ pieces tail → link_in row ≡ link_by (numbers_in q) (version_in v) (tail_of tail)
 unfolding link_in tail_of
 line_of_three row q v tail rest e g =
     ap (λ (l : List (List ℕ)). link_of_pieces l) (e ∙ ap (λ (l : List (List ℕ)). q ∷ l) g)
@@ -210,8 +210,8 @@ line_long row l e =
 
 -- ---- the three things that a line says make it
 
-pub line_made : (row q v tail : List ℕ) (n : ℕ × ℕ) (w : List ℕ) (y : List (List ℕ) × List ℕ) → link_in row ≡ line_by (numbers_in q) (version_in v) (tail_of tail)
+pub line_made : (row q v tail : List ℕ) (n : ℕ × ℕ) (w : List ℕ) (y : List (List ℕ) × List ℕ) → link_in row ≡ link_by (numbers_in q) (version_in v) (tail_of tail)
     → Some n ≡ numbers_in q → Some w ≡ version_in v → tail_of tail ≡ Some y → link_in row ≡ Some (made n w y)
 line_made row q v tail n w y e numbers version tail_is =
-    e ∙ (ap (λ (o : Option (ℕ × ℕ)). line_by o (version_in v) (tail_of tail)) (sym numbers)
-    ∙ (ap (λ (o : Option (List ℕ)). line_by (Some n) o (tail_of tail)) (sym version) ∙ ap (λ (o : Option (List (List ℕ) × List ℕ)). line_by (Some n) (Some w) o) tail_is))
+    e ∙ (ap (λ (o : Option (ℕ × ℕ)). link_by o (version_in v) (tail_of tail)) (sym numbers)
+    ∙ (ap (λ (o : Option (List ℕ)). link_by (Some n) o (tail_of tail)) (sym version) ∙ ap (λ (o : Option (List (List ℕ) × List ℕ)). link_by (Some n) (Some w) o) tail_is))

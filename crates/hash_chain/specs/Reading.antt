@@ -50,8 +50,8 @@ abbrev pub made : ℕ × ℕ → List ℕ → List (List ℕ) × List ℕ → Li
 made n version x = record { number = n.0; parts = n.1; version = version; fields = x.0; hash = x.1 }
 
 -- the line that says these three things
-abbrev pub line_by : Option (ℕ × ℕ) → Option (List ℕ) → Option (List (List ℕ) × List ℕ) → Option Link
-line_by n v x = option_and_then (λ m. option_and_then (λ w. option_map (λ y. made m w y) x) v) n
+abbrev pub link_by : Option (ℕ × ℕ) → Option (List ℕ) → Option (List (List ℕ) × List ℕ) → Option Link
+link_by n v x = option_and_then (λ m. option_and_then (λ w. option_map (λ y. made m w y) x) v) n
 
 -- ---- what the code took apart
 

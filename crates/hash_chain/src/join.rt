@@ -43,9 +43,9 @@ fn read_parts(alloc: Global, bytes: &[u8]) -> Result<Vec<u8>, PartError>
     let mut place = 1;
     let mut rest = bytes;
     while let Some((row, behind)) = split_row(rest) {
-        let line = take_link(alloc, feeds, place, before, row)?;
-        push_fields(&mut text, line.fields)?;
-        before = Some(line);
+        let link = take_link(alloc, feeds, place, before, row)?;
+        push_fields(&mut text, link.fields)?;
+        before = Some(link);
         place += 1;
         rest = behind;
     }
@@ -105,7 +105,7 @@ fn push_fields(text: &mut Vec<u8>, fields: &[u8]) -> Result<(), Memory>
     Ok(())
 }
 
-/// The line at a place of a file with so many line feeds, behind the line before, or its fault.
+/// The link at a place of a file with so many line feeds, behind the link before, or its fault.
 fn take_link<'a>(
     alloc: Global,
     feeds: u64,
@@ -116,14 +116,14 @@ fn take_link<'a>(
     ensures fault { MatchRead result
         (λ l. fault_of_link feeds place (said_before before.entry) (link_in row.now) ≡ None)
         (λ f. fault_of_link feeds place (said_before before.entry) (link_in row.now) ≡ Some f) }
-    ensures line { IfOk result (λ l. link_in row.now ≡ Some (said l)) }
+    ensures link { IfOk result (λ l. link_in row.now ≡ Some (said l)) }
 {
-    let Some(line) = read_link(row) else {
+    let Some(link) = read_link(row) else {
         return Err(PartError::Fault(PartFault::Form(place)));
     };
-    match failing(alloc, feeds, place, before, line)? {
+    match failing(alloc, feeds, place, before, link)? {
         Some(fault) => Err(PartError::Fault(fault)),
-        None => Ok(line),
+        None => Ok(link),
     }
 }
 
@@ -134,54 +134,54 @@ fn failing(
     feeds: u64,
     place: u32,
     before: Option<Link<'_>>,
-    line: Link<'_>,
+    link: Link<'_>,
 ) -> Result<Option<PartFault>, Memory>
-    requires { line.text.now ≡ hashed_text (said line) }
-    ensures { IfOk result (λ o. o ≡ failing_link feeds place (said_before before.entry) (said line.entry)) }
+    requires { link.text.now ≡ hashed_text (said link) }
+    ensures { IfOk result (λ o. o ≡ failing_link feeds place (said_before before.entry) (said link.entry)) }
 {
-    if !has_version(line) {
+    if !has_version(link) {
         return Ok(Some(PartFault::Version(place)));
     }
-    if !has_number(line, feeds, place) {
+    if !has_number(link, feeds, place) {
         return Ok(Some(PartFault::Number(place)));
     }
-    if !has_hash(alloc, before, line)? {
+    if !has_hash(alloc, before, link)? {
         return Ok(Some(PartFault::Hash(place)));
     }
-    if is_long(line.fields) || fits_before(before, line.fields) {
+    if is_long(link.fields) || fits_before(before, link.fields) {
         return Ok(Some(PartFault::Cut(place)));
     }
     Ok(None)
 }
 
-/// Whether a line is of the version of this format.
-fn has_version(line: Link<'_>) -> bool
-    ensures { result ≡ bytes_eq line.entry.version.now chain_version }
+/// Whether a link is of the version of this format.
+fn has_version(link: Link<'_>) -> bool
+    ensures { result ≡ bytes_eq link.entry.version.now chain_version }
 {
-    line.version == VERSION.as_slice()
+    link.version == VERSION.as_slice()
 }
 
-/// Whether a line is the part that is due, of as many parts as the file has line feeds.
-fn has_number(line: Link<'_>, feeds: u64, place: u32) -> bool
-    ensures { result ≡ (line.entry.number == place && line.entry.parts == feeds) }
+/// Whether a link is the part that is due, of as many parts as the file has line feeds.
+fn has_number(link: Link<'_>, feeds: u64, place: u32) -> bool
+    ensures { result ≡ (link.entry.number == place && link.entry.parts == feeds) }
 {
-    line.number == u64::from(place) && line.parts == feeds
+    link.number == u64::from(place) && link.parts == feeds
 }
 
-/// Whether the hash of a line is that of the hash before and its text.
-fn has_hash(alloc: Global, before: Option<Link<'_>>, line: Link<'_>) -> Result<bool, Memory>
-    ensures { IfOk result (λ b. b ≡ bytes_eq line.entry.hash.now (hash_text (hash_before (said_before before.entry) ++ line.entry.text.now))) }
+/// Whether the hash of a link is that of the hash before and its text.
+fn has_hash(alloc: Global, before: Option<Link<'_>>, link: Link<'_>) -> Result<bool, Memory>
+    ensures { IfOk result (λ b. b ≡ bytes_eq link.entry.hash.now (hash_text (hash_before (said_before before.entry) ++ link.entry.text.now))) }
 {
-    let hash = hash_of(alloc, hash_before(before), line.text)?;
-    Ok(line.hash == hash.as_bytes())
+    let hash = hash_of(alloc, hash_before(before), link.text)?;
+    Ok(link.hash == hash.as_bytes())
 }
 
-/// The hash from which a line's goes on: none before the first line.
+/// The hash from which a link's goes on: none before the first one.
 fn hash_before<'a>(before: Option<Link<'a>>) -> &'a [u8]
     ensures { result.now ≡ hash_before (said_before before.entry) }
 {
     match before {
-        Some(line) => line.hash,
+        Some(link) => link.hash,
         None => &[],
     }
 }
@@ -194,12 +194,12 @@ fn is_long(fields: &[u8]) -> bool
     fields.len() > PART_SIZE
 }
 
-/// Whether the first of these fields would have fitted into the part of the line before.
+/// Whether the first of these fields would have fitted into the part of the link before.
 fn fits_before(before: Option<Link<'_>>, fields: &[u8]) -> bool
     ensures { result ≡ fits_before (said_before before.entry) (pieces fields.now) }
 {
     match before {
-        Some(line) => fits_behind(line.fields, split_piece(fields).0),
+        Some(link) => fits_behind(link.fields, split_piece(fields).0),
         None => false,
     }
 }

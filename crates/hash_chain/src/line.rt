@@ -1,11 +1,11 @@
 //! The line of a part is taken apart.
-ghost use Rattle.std.specs.Prelude.{◌≡◌, ◌==◌, ◌+◌, ◌∷◌, codes, is_none, not, ◌<◌, ◌≤◌, drop, length, position, slice_index, take, false, true, IfSome, IsNone, MatchOption, None, Some};
+ghost use Rattle.std.specs.Prelude.{◌≡◌, ◌==◌, ◌+◌, ◌∷◌, codes, is_none, not, ◌<◌, ◌≤◌, length, position, slice_index, take, false, true, IfSome, IsNone, MatchOption, None, Some};
 ghost use Rattle.std.specs.List.{list_all, slice_split};
 ghost use Rattle.std.specs.Option.{option_copied};
 ghost use Rattle.urna_base.specs.Words.{after_word, pieces};
 ghost use Rattle.hash_chain.specs.Chain.{hashed_text};
 ghost use Rattle.hash_chain.specs.Lines.{is_field, is_word, link_in, two_numbers};
-ghost use Rattle.hash_chain.specs.Reading.{is_printed, line_by, numbers_in, pieces_left, said, tail_of, version_in};
+ghost use Rattle.hash_chain.specs.Reading.{is_printed, link_by, numbers_in, pieces_left, said, tail_of, version_in};
 
 use crate::hash::{HASH_SIZE, is_hash};
 use urna_base::{after, decimal};
@@ -31,9 +31,9 @@ pub(crate) struct Link<'a> {
     pub text: &'a [u8],
 }
 
-/// What a line says, without its line feed, if it is of the form.
+/// The link of a row, if it is of the form.
 pub(crate) fn read_link(row: &[u8]) -> Option<Link<'_>>
-    ensures line { MatchOption result (link_in row.now ≡ None) (λ l. link_in row.now ≡ Some (said l)) }
+    ensures link { MatchOption result (link_in row.now ≡ None) (λ l. link_in row.now ≡ Some (said l)) }
     ensures text { IfSome result (λ l. l.text.now ≡ hashed_text (said l)) }
 {
     let (heading, version, tail) = split_line(row)?;
@@ -53,7 +53,7 @@ pub(crate) fn read_link(row: &[u8]) -> Option<Link<'_>>
 
 /// The first two pieces of a line, and what stands behind them.
 fn split_line(row: &[u8]) -> Option<(&[u8], &[u8], &[u8])>
-    ensures { MatchOption result (link_in row.now ≡ None) (λ x. link_in row.now ≡ line_by (numbers_in x.0.now) (version_in x.1.now) (tail_of x.2.now)) }
+    ensures { MatchOption result (link_in row.now ≡ None) (λ x. link_in row.now ≡ link_by (numbers_in x.0.now) (version_in x.1.now) (tail_of x.2.now)) }
 {
     let (heading, behind) = split_piece(row);
     let Some(rest) = behind else {

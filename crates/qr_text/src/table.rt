@@ -1,7 +1,7 @@
 //! The one table of the report's fields (docs/FORMATS.md, "Report text"): keys and forms, which the code writes and reads by, and what
 //! is tested, which the definitions cite from the same constant (`specs/Table.antt`). The field of a candidate has the number as its
 //! key, and the order of the fields is that of `specs/Said.antt`.
-use election_tables::GREATEST_SECTION;
+use election_tables::{GREATEST_PROCESS, GREATEST_SECTION};
 use poll_report::GREATEST_COUNT;
 
 /// How the value of a field is written, and which numbers it may have.
@@ -81,7 +81,7 @@ pub struct Table {
 /// The number of an election.
 const PROCESS: Form = Form::Between {
     low: 1,
-    high: 99_999,
+    high: GREATEST_PROCESS,
 };
 
 /// The first round or the second.

@@ -99,7 +99,7 @@ vote_in office line = option_and_then (λ c. if may_follow office.votes c then S
 
 -- ---- how far a text was read
 
--- there are at most eight offices, and an office that still wants votes has 1,200 of them at most
+-- there are no more offices than a report has, and an office that still wants votes has no more of them than there may be
 abbrev pub HasRoom : Stage → Type 0
 HasRoom Start = Unit {0}
 HasRoom Begun = Unit {0}
@@ -111,9 +111,9 @@ HasRoom (Ended text) = length text.offices ≤ most_offices
 abbrev pub most_lines : Stage → ℕ
 most_lines Start = 1
 most_lines Begun = 2
-most_lines (Offices text) = 3 + 1201 * length text.offices
-most_lines (Votes text office left) = 4 + 1201 * length text.offices + length office.votes
-most_lines (Ended text) = 4 + 1201 * length text.offices
+most_lines (Offices text) = 3 + (most_votes + 1) * length text.offices
+most_lines (Votes text office left) = 4 + (most_votes + 1) * length text.offices + length office.votes
+most_lines (Ended text) = 4 + (most_votes + 1) * length text.offices
 
 -- an office, of whose votes so many are still wanted
 unfoldable pub in_office : RecordText → RecordOffice → ℕ → Stage

@@ -1,10 +1,10 @@
 -- Which records a text may spell, and the one text of each (docs/FORMATS.md, "Record text"): its lines are those of vote_record's
 -- specs/RecordText.antt.
-use Rattle.std.specs.Prelude.{◌≡◌, ℕ, ◌<◌, ◌≤◌, Bool, true, ◌&&◌, List, [], length, map}
+use Rattle.std.specs.Prelude.{◌≡◌, ℕ, ◌*◌, ◌<◌, ◌≤◌, Bool, true, ◌&&◌, List, [], length, map}
 use Rattle.std.specs.List.{AllByRecursion, concat, flat_map}
 use Rattle.urna_base.specs.Moment.{is_between, is_date}
 use Rattle.election_tables.specs.Fields.{has_digits}
-use Rattle.election_tables.specs.Limits.{greatest_process, greatest_section}
+use Rattle.election_tables.specs.Limits.{greatest_process, greatest_section, most_voters}
 use Rattle.election_tables.specs.Offices.{code_proportional}
 use Rattle.vote_kinds.specs.declared.choice.Choice.{Choice}
 use Rattle.vote_kinds.specs.declared.choice.Choice.TheVariants as choice
@@ -16,9 +16,9 @@ use Rattle.record_audit.specs.declared.text.RecordText.{RecordText}
 
 -- ---- which records have a text
 
--- the most votes of an office: those of 600 voters who have two each
+-- the most votes of an office: two of each voter
 abbrev pub most_votes : ℕ
-most_votes = 1200
+most_votes = 2 * most_voters
 
 -- what may be a vote in an office with this code: a candidate's number of the office's digits, the first not zero; the number of a party
 -- in a proportional office alone; blank and null

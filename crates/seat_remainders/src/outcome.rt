@@ -1,5 +1,5 @@
 //! What comes of a contest, and of a majority office. Contracts see each list as its list.
-ghost use Rattle.std.specs.Prelude.{◌≡◌, ◌+◌, ◌≤◌, ◌<◌, ◌^◌, [], ◌∷◌, ◌++◌, length, map, IfOk, OnErr, OnOk, Some, slice_get};
+ghost use Rattle.std.specs.Prelude.{◌≡◌, ◌+◌, ◌<◌, ◌^◌, [], ◌∷◌, ◌++◌, length, map, IfOk, OnErr, OnOk, Some, slice_get};
 ghost use Rattle.std.specs.List.Sorted.{IsPermutation, IsSorted};
 ghost use Rattle.quotients.specs.Order.{average_cmp, parts_of};
 ghost use Rattle.seat_remainders.specs.Sorted.{NeverDescend};

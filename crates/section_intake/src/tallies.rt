@@ -1,9 +1,8 @@
 //! The votes of each of some numbers.
-ghost use Rattle.std.specs.Prelude.{◌≡◌, ◌==◌, ◌+◌, ◌<◌, ◌^◌, [], ◌∷◌, length, map, IfOk, IfSome, None};
+ghost use Rattle.std.specs.Prelude.{◌≡◌, ◌==◌, ◌+◌, ◌<◌, [], ◌∷◌, length, map, IfOk, IfSome, None};
 ghost use Rattle.std.specs.List.{HoldsAt, find};
 ghost use Rattle.std.specs.List.Sorted.{IsStrictlyIncreasing};
 ghost use Rattle.std.specs.Option.{IfNone};
-ghost use Rattle.election_tables.specs.TablesData.{IsTables};
 ghost use Rattle.poll_report.specs.Report.{votes_of};
 ghost use Rattle.vote_kinds.specs.Ballot.{line_of};
 ghost use Rattle.section_intake.specs.Kept.{HaveRoom, tallies_of, votes_at, with_counts};
@@ -87,8 +86,8 @@ impl Tallies {
         }
     }
 
-    /// The votes of one count more, whose number is looked for from a place on. Answers where it is, or
-    /// the place given where it is nowhere.
+    /// The votes of one count more, whose number is looked for from a place on. The answer is where to look for the next number first, a
+    /// guess on which no answer rests.
     fn add_one(&mut self, count: Count, place: usize) -> usize
         requires { HaveRoom count.votes self.old }
         ensures { self.new ≡ with_counts (count ∷ []) self.old }

@@ -93,7 +93,7 @@ impl Session {
         self.mode
     }
 
-    /// Whether an event is a key of the voter's terminal while nobody votes there, which changes nothing. No answer rests on it.
+    /// True only of an event that changes nothing: a key of the voter's terminal while nobody votes there.
     pub(crate) fn passes_over(&self, event: Event) -> bool
         ensures { (v : Setting) → OnTrue result (ChangesNothing v self.now.standing event) }
     {

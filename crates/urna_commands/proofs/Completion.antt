@@ -33,7 +33,6 @@ use Rattle.contingency.proofs.Going.{one_cause}
 use Rattle.station.specs.Start.{FailsToStart}
 use Rattle.station.specs.declared.station.StartError.{StartError}
 use Rattle.station.specs.declared.station.StartError.TheVariants as start
-use Rattle.seat_remainders.specs.declared.contest.Contest.{Contest}
 use Rattle.record_audit.specs.Finding.{finding}
 use Rattle.record_audit.specs.declared.finding.Finding.{Finding}
 use Rattle.record_audit.specs.declared.finding.Finding.TheVariants as found

@@ -142,7 +142,7 @@ pub record CanRecount (names : Reconta) (files : Option Files) : Type 0 where
 abbrev pub CanCertify : Certifica → Option Files → Type 0
 CanCertify names files = HasOfficeAndReports files names.tables names.list names.code
 
--- they are so, and the certificate's is one of that office
+-- they are so, and the file of the certificate is one of that office
 pub record CanVerify (names : Verifica) (files : Option Files) : Type 0 where
   pub given : HasOfficeAndReports files names.tables names.list names.code
   pub certificate : Certificate

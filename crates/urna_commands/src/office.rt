@@ -1,5 +1,5 @@
 //! The contest of an office over the accepted reports of a list.
-ghost use Rattle.std.specs.Prelude.{◌≡◌, ◌≢◌, ℕ, ◌<◌, IfErr, IfOk, MatchOption, MatchResult};
+ghost use Rattle.std.specs.Prelude.{◌≢◌, ◌<◌, IfErr, IfOk, MatchOption, MatchResult};
 ghost use Rattle.seat_remainders.specs.Contest.{IsContest};
 ghost use Rattle.command_parts.specs.Documents.{HasNames, HasTables};
 ghost use Rattle.urna_commands.specs.Office.{ContestStops, HasNoOffice, IsContestFault, IsContestKnown, IsOfficeAt};

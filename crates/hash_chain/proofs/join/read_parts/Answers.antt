@@ -14,12 +14,12 @@ use Rattle.hash_chain.specs.Reading.{said, said_before, with_part}
 pub loop-row-init : goal.loop-row-init
 loop-row-init c = (text_begins c.count_feeds-feeds.result c.args.bytes.now c.in_ok-text.text.items c.count_feeds-feeds.ensures c.in_ok-text.ensures, lit< tt, omega arith)
 
-pub returns-in_err-line : goal.returns-in_err-line
-returns-in_err-line c =
+pub returns-in_err-link : goal.returns-in_err-link
+returns-in_err-link c =
     let feeds : ℕ = c.count_feeds-feeds.result in
     let before : Option Link = said_before c.loop-row.before in
-    let p = err_from_is_err_and c.from_residual-in_err-line.result c.from_residual-in_err-line.ensures.1 in
-    rw (p.1, p.2) (fault_above _ _ _ _ c.in_err-line.field-0.0 c.in_err-line.ensures.fault (λ f h. fault_is c.args.bytes.now f (c.loop-row.invariant.0
+    let p = err_from_is_err_and c.from_residual-in_err-link.result c.from_residual-in_err-link.ensures.1 in
+    rw (p.1, p.2) (fault_above _ _ _ _ c.in_err-link.field-0.0 c.in_err-link.ensures.fault (λ f h. fault_is c.args.bytes.now f (c.loop-row.invariant.0
     ∙ (ap (λ (rs : List (List ℕ)). text_from feeds c.loop-row.place before c.loop-row.text.items rs) c.in-Some.ensures.row
     ∙ line_fails feeds c.loop-row.place before c.loop-row.text.items c.in-Some.row.now (rows c.in-Some.behind.now) f (some_piece (λ b. b == 10) c.in-Some.behind.now) h))))
 
@@ -27,13 +27,13 @@ pub loop-row-preserved : goal.loop-row-preserved
 loop-row-preserved c =
     let feeds : ℕ = c.count_feeds-feeds.result in
     let before : Option Link = said_before c.loop-row.before in
-    let l : Link = said c.in_ok-line.line in
-    let text = ap (λ (t : List ℕ). with_part c.loop-row.text.items t) (joined_pieces c.in_ok-line.line.fields.now) ∙ sym c.in_ok-push_fields.ensures in
+    let l : Link = said c.in_ok-link.link in
+    let text = ap (λ (t : List ℕ). with_part c.loop-row.text.items t) (joined_pieces c.in_ok-link.link.fields.now) ∙ sym c.in_ok-push_fields.ensures in
     let shorter = c.in-Some.ensures.shorter in
     let room = c.loop-row.invariant.2 in (
       c.loop-row.invariant.0
           ∙ (ap (λ (rs : List (List ℕ)). text_from feeds c.loop-row.place before c.loop-row.text.items rs) c.in-Some.ensures.row
-          ∙ (line_taken feeds c.loop-row.place before c.loop-row.text.items c.in-Some.row.now (rows c.in-Some.behind.now) l (some_piece (λ b. b == 10) c.in-Some.behind.now) c.in_ok-line.ensures.line c.in_ok-line.ensures.fault
+          ∙ (line_taken feeds c.loop-row.place before c.loop-row.text.items c.in-Some.row.now (rows c.in-Some.behind.now) l (some_piece (λ b. b == 10) c.in-Some.behind.now) c.in_ok-link.ensures.link c.in_ok-link.ensures.fault
           ∙ ap (λ (t : List ℕ). text_from feeds (c.loop-row.place + 1) (Some l) t (rows c.in-Some.behind.now)) text)),
       omega arith,
       omega arith,
