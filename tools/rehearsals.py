@@ -1,6 +1,6 @@
 """The rehearsal of docs/FORMATS.md, "The rehearsal", worked out by the rules: who comes, what is typed, the report's text, the seats and the lines.
 
-`other_rows` gives the numbers of voters for which crates/report_tests/src/rehearsals.rt has other lines.
+`other_rows` gives the numbers of voters for which the scripts of crates/session_tests have other lines.
 """
 
 import re
@@ -11,7 +11,9 @@ import seats
 
 PARTIES = range(10, 30)
 SEATS = 9
-ROW = re.compile(r'\(\s*(\d+),\s*"(ENSAIO [^"]*)",\s*\)')
+# For so many numbers of voters a script has the lines (docs/PROVED.md).
+NUMBERS = 9
+ROW = re.compile(r"^urna ensaio (\d+)\n(    ENSAIO .*\n(?:    [A-Z]+ .*\n)+)(?=    \+ )", re.MULTILINE)
 
 # Remainders by 20, what is typed in panel 1 (a party's candidate, or a party's vote, or BRANCO), and what in panel 2.
 TYPED = {
@@ -123,8 +125,8 @@ class Poll:
 
 def other_rows(text):
     rows = ROW.findall(text)
-    if not rows:
-        yield "no row is found"
+    if len({voters for voters, _ in rows}) != NUMBERS:
+        yield f"{len(rows)} rehearsals are found, not of {NUMBERS} numbers of voters"
     for voters, told in rows:
-        if Poll(int(voters)).lines() != told:
+        if Poll(int(voters)).lines() != re.sub(r"^    ", "", told, flags=re.MULTILINE):
             yield f"{voters} voters: the rules give {Poll(int(voters)).lines()!r}"

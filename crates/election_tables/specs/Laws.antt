@@ -23,7 +23,7 @@ pub record IsFirstBroken (k : ℕ) (ms : Members) : Type 0 where
 abbrev pub BrokenIsFirst : Type 0
 BrokenIsFirst = (ms : Members) (k : ℕ) → (broken_rule ms ≡ Some k) ↔ IsFirstBroken k ms
 
--- no rule is broken where all seventeen hold
+-- no rule is broken where all hold
 abbrev pub KeptIsAll : Type 0
 KeptIsAll = (ms : Members) → (broken_rule ms ≡ None) ↔ ((k : ℕ) → 1 ≤ k → k ≤ 17 → RuleHolds k ms)
 

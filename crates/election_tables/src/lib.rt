@@ -15,7 +15,9 @@ mod rules;
 mod shape;
 mod tables;
 
-pub use limits::{GREATEST_PROCESS, GREATEST_SECTION, MOST_OFFICES, MOST_VOTERS};
+pub use limits::{
+    GREATEST_PROCESS, GREATEST_SECTION, MOST_CANDIDATES, MOST_OFFICES, MOST_PARTIES, MOST_VOTERS,
+};
 pub use office::{GREATEST_CODE, Kind, Office, code_digits, code_proportional, may_have_places};
 pub use roll::{Roll, RollError};
 pub use rules::{first_two, has_digits};

@@ -4,7 +4,7 @@
 pub const MOST_OFFICES: usize = 8;
 
 /// The most parties.
-pub(crate) const MOST_PARTIES: usize = 40;
+pub const MOST_PARTIES: usize = 40;
 
 /// The most federations.
 pub(crate) const MOST_FEDERATIONS: usize = 20;
@@ -16,7 +16,7 @@ pub(crate) const FEWEST_MEMBERS: usize = 2;
 pub(crate) const MOST_MEMBERS: usize = 40;
 
 /// The most candidates, of all offices together.
-pub(crate) const MOST_CANDIDATES: usize = 4_096;
+pub const MOST_CANDIDATES: usize = 4_096;
 
 /// The most sections.
 pub(crate) const MOST_SECTIONS: usize = 2_000;

@@ -3,11 +3,11 @@ use Rattle.std.proofs.Common.{◌≡◌, ℕ, List, [], ◌∷◌, ◌++◌, ◌
 use Rattle.std.specs.Prelude.{codes}
 use Rattle.std.proofs.lemmas.List.{append-nil, take_rest}
 use Rattle.std.proofs.Math.Seq.{drop-append_seam}
-use Rattle.urna_base.specs.Words.{pieces}
+use Rattle.urna_base.specs.Words.{pieces, pieces_left}
 use Rattle.hash_chain.proofs.PieceLaws.{joined_pieces}
 use Rattle.hash_chain.specs.Chain.{Link, link_text, links_from, links_text, link_of, hashed_text}
 use Rattle.hash_chain.specs.Cut.{cut}
-use Rattle.hash_chain.specs.Reading.{pieces_left, plain_text}
+use Rattle.hash_chain.specs.Reading.{plain_text}
 
 pub no_cut : cut [] ≡ []
 unfolding cut

@@ -1,6 +1,5 @@
 -- What the contracts of the code's own functions speak of.
 use Rattle.std.specs.Prelude.{ℕ, ◌==◌, nat_lt, Bool, List, [], ◌∷◌, ◌++◌, length, codes, Option, None, Some, Result, Ok, Err}
-use Rattle.std.specs.Borrow.{Bor}
 use Rattle.std.specs.Fmt.{decimal}
 use Rattle.std.specs.List.{slice_split}
 use Rattle.std.specs.Option.{option_and_then, option_map}
@@ -18,11 +17,6 @@ abbrev pub MatchRead : {A : Type 0} → Result A PartError → (A → Type 0) �
 MatchRead (Ok x) P Q = P x
 MatchRead (Err Memory) P Q = Unit {0}
 MatchRead (Err (Fault f)) P Q = Q f
-
--- the pieces of what is left of a text, if it hasn't ended
-abbrev pub pieces_left : Option (Bor (List ℕ)) → List (List ℕ)
-pieces_left None = []
-pieces_left (Some text) = pieces text.now
 
 -- what is hashed of a part, from the text of its fields (58 is a colon, 32 a space)
 abbrev pub plain_text : ℕ → ℕ → List ℕ → List ℕ

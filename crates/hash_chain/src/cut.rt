@@ -1,9 +1,8 @@
 //! The first part of some fields.
 ghost use Rattle.std.specs.Prelude.{◌≡◌, ℕ, ◌+◌, ◌<◌, ◌≤◌, ◌≢◌, ◌∷◌, length, slice_index, IfSome};
-ghost use Rattle.urna_base.specs.Words.{pieces};
+ghost use Rattle.urna_base.specs.Words.{pieces, pieces_left};
 ghost use Rattle.hash_chain.specs.Cut.{cut, part_size};
 ghost use Rattle.hash_chain.specs.Fault.{AreFields};
-ghost use Rattle.hash_chain.specs.Reading.{pieces_left};
 
 /// How many bytes the fields of a part have at most, with the spaces between them.
 pub(crate) const PART_SIZE: usize = 1000;

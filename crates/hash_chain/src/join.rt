@@ -14,10 +14,10 @@ ghost use Rattle.hash_chain.specs.declared.fault.PartFault.{PartFault};
 use crate::cut::PART_SIZE;
 use crate::fault::{PartError, PartFault};
 use crate::hash::hash_of;
-use crate::line::{Link, VERSION, read_link, split_piece};
+use crate::line::{Link, VERSION, read_link};
 use memchr::memchr;
 use std::alloc::Global;
-use urna_base::Memory;
+use urna_base::{Memory, split_piece};
 
 /// The field text of which a file is the parts, or the fault of the file (docs/FORMATS.md, "Parts"); each file has one of both. The caller
 /// owes that the file is shorter than 2^31 bytes. `Memory` comes only where an allocation failed.

@@ -2,13 +2,13 @@
 ghost use Rattle.std.specs.Prelude.{◌≡◌, ◌==◌, ◌+◌, ◌∷◌, codes, is_none, not, ◌<◌, ◌≤◌, length, position, slice_index, take, false, true, IfSome, IsNone, MatchOption, None, Some};
 ghost use Rattle.std.specs.List.{list_all, slice_split};
 ghost use Rattle.std.specs.Option.{option_copied};
-ghost use Rattle.urna_base.specs.Words.{after_word, pieces};
+ghost use Rattle.urna_base.specs.Words.{after_word, pieces, pieces_left};
 ghost use Rattle.hash_chain.specs.Chain.{hashed_text};
 ghost use Rattle.hash_chain.specs.Lines.{is_field, is_word, link_in, two_numbers};
-ghost use Rattle.hash_chain.specs.Reading.{is_printed, link_by, numbers_in, pieces_left, said, tail_of, version_in};
+ghost use Rattle.hash_chain.specs.Reading.{is_printed, link_by, numbers_in, said, tail_of, version_in};
 
 use crate::hash::{HASH_SIZE, is_hash};
-use urna_base::{after, decimal};
+use urna_base::{after, decimal, first_place, split_piece};
 
 /// The version of this format.
 pub(crate) const VERSION: [u8; 2] = *b"U1";
@@ -66,23 +66,6 @@ fn split_line(row: &[u8]) -> Option<(&[u8], &[u8], &[u8])>
     Some((heading, version, tail))
 }
 
-/// The first piece of a text, and what stands behind its space, if there is one.
-pub(crate) fn split_piece(text: &[u8]) -> (&[u8], Option<&[u8]>)
-    ensures { pieces text.now ≡ result.0.now ∷ pieces_left result.1 }
-{
-    match first_space(text) {
-        Some(end) => (&text[..end], Some(&text[end + 1..])),
-        None => (text, None),
-    }
-}
-
-/// Where the first space stands.
-fn first_space(text: &[u8]) -> Option<usize>
-    ensures { result ≡ position (λ b. b == 32) text.now }
-{
-    text.iter().position(|byte| *byte == b' ')
-}
-
 /// Which part of how many a line is, from its first piece.
 fn numbers_of(piece: &[u8]) -> Option<(u64, u64)>
     ensures { result ≡ numbers_in piece.now }
@@ -94,17 +77,10 @@ fn numbers_of(piece: &[u8]) -> Option<(u64, u64)>
 fn two_numbers(text: &[u8]) -> Option<(u64, u64)>
     ensures { result ≡ two_numbers (slice_split (λ b. b == 58) text.now) }
 {
-    let colon = first_colon(text)?;
+    let colon = first_place(b':', text)?;
     let first = decimal(&text[..colon])?;
     let second = decimal(&text[colon + 1..])?;
     Some((first, second))
-}
-
-/// Where the first colon stands.
-fn first_colon(text: &[u8]) -> Option<usize>
-    ensures { result ≡ position (λ b. b == 58) text.now }
-{
-    text.iter().position(|byte| *byte == b':')
 }
 
 /// The version of a line, from its second piece.

@@ -1,14 +1,14 @@
 //! A machine in memory whose internal device has two slots with bodies of four bytes.
 ghost use Rattle.std.specs.Prelude.{◌≤◌, IfOk};
 ghost use Rattle.urna_outside.specs.Flash.{IsClean};
-ghost use Rattle.urna_outside.specs.Recorder.{recorder_told};
+ghost use Rattle.memory_outside.specs.Recorder.{recorder_told};
 ghost use Rattle.urna_outside.specs.Told.{size_of};
 ghost use Rattle.urna_outside.specs.declared.device.Dev.TheVariants.{Internal};
 ghost use Rattle.gate_slot.specs.Device.{OnFlash};
 ghost use Rattle.gate_slot.specs.Slot.{room};
 
+use memory_outside::Recorder;
 use urna_base::Memory;
-use urna_outside::Recorder;
 
 /// The body that both slots have.
 pub(crate) const OLD: [u8; 4] = [1; 4];

@@ -2,11 +2,11 @@
 use crate::calls::{Call, check_put, check_take, make_all};
 use crate::watched::{Fault, OWN_FOLDER, Step, Watch, Watched};
 use std::alloc::Global;
-use std::fs;
 use std::io::ErrorKind;
 use std::os::unix::fs::symlink;
 use std::process::Abort;
 use std::test::Fail;
+use std::{fs, str};
 use urna_outside::{CabinetError, Dev, FileMachine, FolderCabinet, Machine};
 
 const FILES: [&str; 4] = [
@@ -610,11 +610,13 @@ fn a_put_replaces_no_flash_that_is_open(rt: HostRuntime) -> Result<(), Fail> {
 /// A name has 255 bytes at most, also while its file is made.
 #[test]
 fn a_put_has_room_for_the_end_of_its_other_name(rt: HostRuntime) -> Result<(), Fail> {
-    let name = "0123456789".repeat(rt.alloc(), 26)?;
     let mut folder = FolderCabinet::new(&rt);
     for (len, is_ok) in [(251, true), (252, false), (255, false), (256, false)] {
-        check_put(&rt, &mut folder, &name[..len], b"1", is_ok);
-        let _ = fs::remove_file(&rt, &name[..len]);
+        // a slice of a longer name would owe that it ends at a letter
+        let bytes = vec![in rt.alloc(); b'n'; len]?;
+        let name = str::from_utf8(&bytes).ok().ok_or("it has other bytes")?;
+        check_put(&rt, &mut folder, name, b"1", is_ok);
+        let _ = fs::remove_file(&rt, name);
     }
     Ok(())
 }

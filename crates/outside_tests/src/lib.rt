@@ -1,4 +1,4 @@
-//! The tests of the outside and of what stands on it: machines and cabinets in memory, and over real files
+//! The tests of the outside and of what stands on it: machines and cabinets in memory (`memory_outside`) and over real files
 //! (`urna_outside`), a slot (`gate_slot`) and the two slots of a device (`twin_image`). They need public calls only, and
 //! stand in a crate of their own because a crate with tests is proved twice, with them and without them.
 //!

@@ -2,7 +2,7 @@
 //! room for a page, where it is told to.
 ghost use Rattle.std.specs.Prelude.{◌≡◌, ◌<◌, ◌≤◌, ◌%◌, length, IfOk, OnErr};
 ghost use Rattle.urna_outside.specs.Flash.{IsClean};
-ghost use Rattle.urna_outside.specs.Recorder.{recorder_told};
+ghost use Rattle.memory_outside.specs.Recorder.{recorder_told};
 ghost use Rattle.urna_outside.specs.Told.{Rose, faults_of, port_of, size_of};
 ghost use Rattle.urna_outside.specs.declared.device.Dev.TheVariants.{Internal};
 ghost use Rattle.gate_slot.specs.Device.{OnFlash};
@@ -12,9 +12,10 @@ ghost use Rattle.gate_slot.specs.Slot.{HasBody, room};
 use crate::device::OPEN;
 use crate::twins::{CLOSED, renewed};
 use gate_slot::{Live, Slot, Step, Torn, adopt};
+use memory_outside::{Recorder, Tear};
 use std::process::Abort;
 use std::test::Fail;
-use urna_outside::{Dev, Machine, Recorder, Tear};
+use urna_outside::{Dev, Machine};
 
 const SIZE: usize = 1_536;
 
@@ -114,7 +115,7 @@ fn check_left(
         let part = image.get(*from..*to).expect(rt, "it lies on the device");
         assert!(rt;
             part.iter().all(|b| b == byte),
-            "after {ops} {tear:?}: {from} to {to}"
+            "after {ops}: {from} to {to}"
         );
     }
     Ok(())

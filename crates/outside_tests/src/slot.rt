@@ -1,16 +1,17 @@
 //! A slot with a body of four bytes over a machine in memory, which fails and stops where it is told to.
 ghost use Rattle.std.specs.Prelude.{◌≡◌, ◌<◌, ◌≤◌, length, IfOk, OnErr};
 ghost use Rattle.urna_outside.specs.Flash.{IsClean};
-ghost use Rattle.urna_outside.specs.Recorder.{recorder_told};
+ghost use Rattle.memory_outside.specs.Recorder.{recorder_told};
 ghost use Rattle.urna_outside.specs.Told.{Rose, faults_of, port_of, size_of};
 ghost use Rattle.urna_outside.specs.declared.device.Dev.TheVariants.{External};
 ghost use Rattle.gate_slot.specs.Device.{OnFlash};
 ghost use Rattle.gate_slot.specs.Slot.{room};
 
 use gate_slot::{Live, Slot, Step, Torn, adopt};
+use memory_outside::{Recorder, Tear};
 use std::process::Abort;
 use std::test::Fail;
-use urna_outside::{Dev, Machine, Recorder, Tear};
+use urna_outside::{Dev, Machine};
 
 const OLD: [u8; 4] = [1; 4];
 

@@ -8,10 +8,11 @@ ghost use Rattle.gate_slot.specs.Slot.{room};
 
 use crate::device::{DEVICE, OLD, OPEN, machine};
 use gate_slot::{Live, Slot, Step, Torn, adopt};
+use memory_outside::{Recorder, Tear};
 use std::process::Abort;
 use std::test::Fail;
 use twin_image::renew;
-use urna_outside::{Dev, Machine, Recorder, Tear};
+use urna_outside::{Dev, Machine};
 
 const NEW: [u8; 4] = [2; 4];
 

@@ -29,14 +29,15 @@ candidato = [
 secao = [{zona = 1, secao = 42, eleitores = 3}]
 "#;
 
+/// The key of a byte of a row; the rows have no other bytes than digits, B, R and C.
 fn key_of(byte: u8) -> Key
     ensures { IsKey result }
 {
     match byte {
-        b'0'..=b'9' => Key::Digit(byte - b'0'),
         b'B' => Key::Blank,
         b'R' => Key::Correct,
-        _ => Key::Confirm,
+        b'C' => Key::Confirm,
+        digit => Key::Digit(digit.saturating_sub(b'0').min(9)),
     }
 }
 
@@ -67,36 +68,46 @@ fn shown_by<const CAP: u8>(
     Ok(text)
 }
 
+/// The keys of each row, behind its choice of the line before, show its text on a panel of CAP digits.
+fn check_rows<const CAP: u8>(
+    rt: &(impl Abort + AllocGlobal),
+    tables: &Tables,
+    number: u32,
+    rows: &[(Option<Choice>, &str, &str)],
+) -> Result<(), Fail> {
+    for (before, keys, want) in rows {
+        let shown = shown_by::<CAP>(rt, tables, number, *before, keys)?;
+        assert!(rt; shown.as_str() == *want, "{keys}");
+    }
+    Ok(())
+}
+
 #[test]
 fn five_digits_of_a_proportional_office(rt: HostRuntime) -> Result<(), Fail> {
     let tables = Tables::read(rt.alloc(), TABLES)?;
     let rows = [
-        ("45C", "TELA 4\nTELA 45 LEGENDA PB\nParty(45)"),
-        ("4B5C", "TELA 4\nTELA 45 LEGENDA PB\nParty(45)"),
+        (None, "45C", "TELA 4\nTELA 45 LEGENDA PB\nParty(45)"),
+        (None, "4B5C", "TELA 4\nTELA 45 LEGENDA PB\nParty(45)"),
         (
+            None,
             "4599C",
             "TELA 4\nTELA 45 LEGENDA PB\nTELA 459 LEGENDA PB\nTELA 4599 LEGENDA PB\nParty(45)",
         ),
-        ("99C", "TELA 9\nTELA 99 NULO\nNull"),
-        ("01", "TELA 0\nTELA 01 NULO\n"),
-        ("BC", "TELA BRANCO\nBlank"),
+        (None, "99C", "TELA 9\nTELA 99 NULO\nNull"),
+        (None, "01", "TELA 0\nTELA 01 NULO\n"),
+        (None, "BC", "TELA BRANCO\nBlank"),
         (
+            None,
             "B45RC45C",
             "TELA BRANCO\nTELA VAZIA\nTELA 4\nTELA 45 LEGENDA PB\nParty(45)",
         ),
         (
+            None,
             "130017C",
             "TELA 1\nTELA 13 LEGENDA PA\nTELA 130 LEGENDA PA\nTELA 1300 LEGENDA PA\nTELA 13001 CANDIDATO ANA\nNominal(13001)",
         ),
     ];
-    for (keys, want) in rows {
-        assert_eq!(rt;
-            shown_by::<5>(&rt, &tables, 0, None, keys)?.as_str(),
-            want,
-            "{keys}"
-        );
-    }
-    Ok(())
+    check_rows::<5>(&rt, &tables, 0, &rows)
 }
 
 #[test]
@@ -119,12 +130,5 @@ fn two_digits_of_a_majority_office(rt: HostRuntime) -> Result<(), Fail> {
             "TELA 1\nTELA 13 CANDIDATO CARLA\nNominal(13)",
         ),
     ];
-    for (before, keys, want) in rows {
-        assert_eq!(rt;
-            shown_by::<2>(&rt, &tables, 1, before, keys)?.as_str(),
-            want,
-            "{keys}"
-        );
-    }
-    Ok(())
+    check_rows::<2>(&rt, &tables, 1, &rows)
 }

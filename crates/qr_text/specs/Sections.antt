@@ -1,8 +1,6 @@
 -- Reading the fields that are left of a text, section by section. A device of proofs, as `Reading` is: `proofs/Joining` and the files
 -- behind it show that both read the same.
 use Rattle.std.specs.Prelude.{ℕ, ◌+◌, ◌*◌, nat_le, nat_lt, ◌==◌, Bool, true, if◌then◌else◌, List, [], ◌∷◌, Option, Some, None, Result, Ok, Err}
-use Rattle.std.specs.Borrow.{Bor}
-use Rattle.urna_base.specs.Words.{pieces}
 use Rattle.election_tables.specs.Offices.{code_proportional}
 use Rattle.poll_report.specs.Report.{may_have_code, votes_of}
 use Rattle.poll_report.specs.declared.report.Count.{Count}
@@ -26,11 +24,6 @@ use Rattle.qr_text.specs.declared.table.TheConstants.{TABLE}
 pub record FieldsLeft : Type 0 where
   pub left : List (List ℕ)
   pub next : ℕ
-
--- the fields of what is left of a text, if it hasn't ended
-abbrev pub pieces_left : Option (Bor (List ℕ)) → List (List ℕ)
-pieces_left None = []
-pieces_left (Some text) = pieces text.now
 
 -- the numbers of a form have 32 bits
 abbrev pub is_narrow : Form → Bool

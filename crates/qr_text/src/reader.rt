@@ -1,8 +1,8 @@
 //! A text that is read field by field.
-ghost use Rattle.std.specs.Prelude.{◌≡◌, ◌==◌, ◌+◌, ◌^◌, ◌<◌, ◌≤◌, ◌↔◌, ◌∷◌, [], length, position, true, IfOk, IfSome, IsTrue, MatchOption, MatchResult, Err, None, Ok, Some};
+ghost use Rattle.std.specs.Prelude.{◌≡◌, ◌+◌, ◌^◌, ◌<◌, ◌≤◌, ◌↔◌, ◌∷◌, [], length, true, IfOk, IfSome, IsTrue, MatchOption, MatchResult, Err, None, Ok, Some};
 ghost use Rattle.urna_base.specs.Words.{pieces};
 ghost use Rattle.poll_report.specs.Report.{greatest_count};
-ghost use Rattle.qr_text.specs.Sections.{is_narrow, pieces_left, row_reading, sum_reading};
+ghost use Rattle.qr_text.specs.Sections.{is_narrow, row_reading, sum_reading};
 ghost use Rattle.qr_text.specs.Table.{fits};
 ghost use Rattle.qr_text.specs.Votes.{party_first, places_first, vote_first};
 
@@ -11,6 +11,7 @@ use crate::table::Row;
 use crate::value::{number_of, party_after, places_of, vote_after};
 use poll_report::Count;
 use std::marker::Model;
+use urna_base::split_piece;
 
 /// The number of the next field, by the name of its row in the table; or this sum, which the field is to say.
 macro_rules! read {
@@ -34,7 +35,8 @@ pub(crate) struct Reader<'a> {
 
 impl<'a> Model for Reader<'a> {
     ghost use Rattle.std.specs.Prelude.{◌+◌, ◌^◌, ◌<◌, length};
-    ghost use Rattle.qr_text.specs.Sections.{FieldsLeft, pieces_left};
+    ghost use Rattle.urna_base.specs.Words.{pieces_left};
+    ghost use Rattle.qr_text.specs.Sections.{FieldsLeft};
 
     ghost Value = { FieldsLeft };
 
@@ -78,7 +80,7 @@ impl<'a> Reader<'a> {
     fn field(&mut self) -> Option<&'a [u8]>
         ensures { MatchOption result ((self.old.left ≡ []) × (self.new ≡ self.old)) (λ p. (self.old.left ≡ p.now ∷ self.new.left) × (self.new.next ≡ self.old.next + 1)) }
     {
-        let (field, rest) = split_field(self.rest?);
+        let (field, rest) = split_piece(self.rest?);
         self.rest = rest;
         self.next += 1;
         Some(field)
@@ -135,7 +137,7 @@ impl<'a> Reader<'a> {
         let Some(text) = self.rest else {
             return None;
         };
-        let (field, rest) = split_field(text);
+        let (field, rest) = split_piece(text);
         match vote_after(digits, party, last, field) {
             Some(count) => {
                 self.rest = rest;
@@ -156,7 +158,7 @@ impl<'a> Reader<'a> {
         let Some(text) = self.rest else {
             return None;
         };
-        let (field, rest) = split_field(text);
+        let (field, rest) = split_piece(text);
         match places_of(code, field) {
             Some(places) => {
                 self.rest = rest;
@@ -177,7 +179,7 @@ impl<'a> Reader<'a> {
         let Some(text) = self.rest else {
             return None;
         };
-        let (field, rest) = split_field(text);
+        let (field, rest) = split_piece(text);
         match party_after(last, field) {
             Some(number) => {
                 self.rest = rest;
@@ -187,21 +189,4 @@ impl<'a> Reader<'a> {
             None => None,
         }
     }
-}
-
-/// The first field of a text, and the text behind its space, if there is one.
-fn split_field(text: &[u8]) -> (&[u8], Option<&[u8]>)
-    ensures { pieces text.now ≡ result.0.now ∷ pieces_left result.1 }
-{
-    match first_space(text) {
-        Some(end) => (&text[..end], Some(&text[end + 1..])),
-        None => (text, None),
-    }
-}
-
-/// Where the first space stands.
-fn first_space(text: &[u8]) -> Option<usize>
-    ensures { result ≡ position (λ b. b == 32) text.now }
-{
-    text.iter().position(|byte| *byte == b' ')
 }

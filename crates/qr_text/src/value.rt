@@ -1,5 +1,5 @@
 //! What one field of a text writes: the number of a row of the table, or a candidate and its votes.
-ghost use Rattle.std.specs.Prelude.{◌≡◌, ◌-◌, ◌<◌, ◌≤◌, ◌==◌, position};
+ghost use Rattle.std.specs.Prelude.{◌≡◌, ◌-◌, ◌<◌, ◌≤◌, ◌==◌};
 ghost use Rattle.election_tables.specs.Fields.{has_digits};
 ghost use Rattle.poll_report.specs.Report.{is_vote};
 ghost use Rattle.qr_text.specs.Reading.{number_at, value_at, written_value};
@@ -10,7 +10,7 @@ ghost use Rattle.qr_text.specs.declared.table.TheConstants.{TABLE};
 use crate::table::{Form, Row, TABLE};
 use election_tables::{first_two, has_digits, may_have_places};
 use poll_report::Count;
-use urna_base::{after, date_ok, decimal, digits};
+use urna_base::{after, date_ok, decimal, digits, first_place};
 
 /// The number that a field writes, if it is a field of the row.
 #[tactic(auto, unfolding(crate::specs::Reading::number_at))]
@@ -80,7 +80,7 @@ fn vote_of(digits: u8, field: &[u8]) -> Option<Count>
     requires { digits ≤ 5 }
     ensures { result ≡ vote_by_colon digits field.now }
 {
-    let end = first_colon(field)?;
+    let end = first_place(b':', field)?;
     let number = decimal(&field[..end])?;
     let votes = decimal(&field[end + 1..])?;
     if is_vote(digits, number, votes) {
@@ -91,13 +91,6 @@ fn vote_of(digits: u8, field: &[u8]) -> Option<Count>
     } else {
         None
     }
-}
-
-/// Where the first colon stands.
-fn first_colon(text: &[u8]) -> Option<usize>
-    ensures { result ≡ position (λ b. b == 58) text.now }
-{
-    text.iter().position(|byte| *byte == b':')
 }
 
 /// Whether a candidate's number has the digits of the office, the first not zero, and there is a vote.

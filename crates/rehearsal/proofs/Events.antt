@@ -9,7 +9,7 @@ use Rattle.std.proofs.lemmas.List.{map-append}
 use Rattle.urna_base.specs.Digits.{padded, is_digit}
 use Rattle.urna_base.specs.Moment.{is_moment, is_date}
 use Rattle.urna_base.proofs.DigitLaws.{all_digits-padded, is_digit-true, both_from_and}
-use Rattle.urna_base.proofs.LineLaws.{is_no_feed}
+use Rattle.urna_base.proofs.LineLaws.{is_no_feed, lines_text-append}
 use Rattle.key_script.specs.declared.keys.Key.{Key}
 use Rattle.key_script.specs.declared.keys.Key.TheVariants as key
 use Rattle.key_script.specs.declared.keys.ClerkKey.TheVariants.{Abre, Titulo, Libera, Cancela, Suspende, Encerra}
@@ -22,7 +22,7 @@ use Rattle.rehearsal.specs.declared.typing.Typed.{Typed}
 use Rattle.rehearsal.specs.declared.typing.Typed.TheVariants.{Five, Two, Blank}
 use Rattle.rehearsal.specs.Script.{ScriptLine, clerk, voter, script_line_text, script_line_events, second_line, visit_with, visit_at, visits, opening_moment, closing_moment, generated_script, text_of_script, events_in_script, script_text, generated_events}
 use Rattle.rehearsal.specs.Typing.{TypedPair, choice_keys, digit_keys, is_suspended, typed_at, typed_keys}
-use Rattle.rehearsal.proofs.LineLaws.{lines_of-text, no_feed-padded, lines_text-append}
+use Rattle.rehearsal.proofs.LineLaws.{lines_of-text, no_feed-padded}
 use Rattle.rehearsal.proofs.Ranges.{flat_map_range_more}
 
 -- ---- lines that are of the form are read back

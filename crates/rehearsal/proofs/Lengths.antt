@@ -11,7 +11,7 @@ use Rattle.key_script.specs.Spelling.{clerk_text, key_byte, keys_text}
 use Rattle.election_tables.specs.Limits.{most_voters}
 use Rattle.rehearsal.specs.declared.typing.Typed.{Typed}
 use Rattle.rehearsal.specs.declared.typing.Typed.TheVariants.{Five, Two, Blank}
-use Rattle.rehearsal.specs.Lines.{lines_text}
+use Rattle.urna_base.specs.Lines.{lines_text}
 use Rattle.rehearsal.specs.Roll.{title_at}
 use Rattle.rehearsal.specs.Script.{clerk, voter, script_line_text, second_line, visit_with, visit_at, visits, opening_moment, closing_moment, text_of_script, script_text}
 use Rattle.rehearsal.specs.Typing.{TypedPair, choice_keys, is_suspended, typed_at, typed_keys}

@@ -3,12 +3,10 @@ use Rattle.std.proofs.Common.{◌≡◌, ℕ, zero, suc, ◌+◌, ◌/◌, ◌%�
 use Rattle.std.specs.List.{list_all}
 use Rattle.std.proofs.lemmas.Bool.{and_parts}
 use Rattle.std.proofs.lemmas.Bool.Decides.{nat_tests}
-use Rattle.std.proofs.lemmas.List.Concat.{flat_map-append}
 use Rattle.urna_base.specs.Digits.{padded}
-use Rattle.urna_base.specs.Lines.{lines_of}
+use Rattle.urna_base.specs.Lines.{lines_of, lines_text}
 use Rattle.urna_base.proofs.DigitLaws.{list_all-push}
 use Rattle.urna_base.proofs.LineLaws.{is_no_feed, not_feed}
-use Rattle.rehearsal.specs.Lines.{lines_text}
 
 -- a line that ends with its line feed is the first line
 lines_of-feed : (line text : List ℕ) → list_all is_no_feed line ≡ true → lines_of (line ++ 10 ∷ text) ≡ line ∷ lines_of text
@@ -28,9 +26,6 @@ lines_of-text [] e = no_lines
 lines_of-text (line ∷ lines) e =
     let (here, more) = and_parts (list_all is_no_feed line) (list_all (list_all is_no_feed) lines) e in
     rw (append_assoc, lines_of-feed line (lines_text lines) here, lines_of-text lines more) refl
-
-pub lines_text-append : (xs ys : List (List ℕ)) → lines_text (xs ++ ys) ≡ lines_text xs ++ lines_text ys
-lines_text-append xs ys = flat_map-append (λ line. line ++ 10 ∷ []) xs ys
 
 pub no_feed-padded : (k n : ℕ) → list_all is_no_feed (padded k n) ≡ true
 unfolding padded

@@ -3,7 +3,7 @@ use Rattle.std.specs.Prelude.{ℕ, ◌+◌, List, map}
 use Rattle.std.specs.List.{range_with_len}
 use Rattle.urna_base.specs.Digits.{padded}
 use Rattle.election_tables.specs.Roll.{RollData}
-use Rattle.rehearsal.specs.Lines.{lines_text}
+use Rattle.urna_base.specs.Lines.{lines_text}
 
 -- the title of the voter at a place
 abbrev pub title_at : ℕ → ℕ

@@ -7,7 +7,7 @@ use Rattle.key_script.specs.declared.keys.ClerkKey.TheVariants.{Abre, Titulo, Li
 use Rattle.key_script.specs.declared.keys.Event.{Event}
 use Rattle.key_script.specs.declared.keys.Event.TheVariants.{Clerk, Voter}
 use Rattle.key_script.specs.Spelling.{clerk_text, keys_text}
-use Rattle.rehearsal.specs.Lines.{lines_text}
+use Rattle.urna_base.specs.Lines.{lines_text}
 use Rattle.rehearsal.specs.Roll.{title_at}
 use Rattle.rehearsal.specs.Typing.{TypedPair, typed_at, typed_keys, is_suspended}
 

@@ -27,6 +27,7 @@ mod typing;
 use printing::{put_numbered, put_visits};
 pub use readers::{read_roll, read_script, read_tables};
 use std::alloc::Global;
+pub use typing::is_suspended;
 use urna_base::{Memory, put_digits};
 
 /// The moment at which the poll opens.

@@ -3,22 +3,13 @@ ghost use Rattle.std.specs.Prelude.{◌≡◌, ◌++◌, [], ◌∷◌, ◌^◌,
 ghost use Rattle.urna_base.specs.Digits.{padded};
 ghost use Rattle.key_script.specs.Spelling.{key_byte, keys_text};
 ghost use Rattle.election_tables.specs.Limits.{most_voters};
-ghost use Rattle.rehearsal.specs.Lines.{lines_text};
+ghost use Rattle.urna_base.specs.Lines.{lines_text};
 ghost use Rattle.rehearsal.specs.Script.{text_of_script, visit_at, visits};
 ghost use Rattle.rehearsal.specs.Typing.{IsTyped, choice_keys, typed_keys};
 
 use crate::title;
 use crate::typing::{Typed, is_suspended, typed_at};
-use urna_base::{Memory, put_digits};
-
-/// Appends a line.
-fn put_line(text: &mut Vec<u8>, line: &[u8]) -> Result<(), Memory>
-    ensures { OnOk result (text.new.items ≡ text.old.items ++ lines_text (line.now ∷ [])) }
-{
-    text.extend_from_slice(line)?;
-    text.push(b'\n')?;
-    Ok(())
-}
+use urna_base::{Memory, put_digits, put_line};
 
 /// Appends the line of a word and a number of so many digits.
 pub(crate) fn put_numbered(

@@ -45,7 +45,7 @@ pub(crate) fn typed_at(place: u32) -> Option<(Typed, Typed)>
 }
 
 /// Whether the clerk suspends the voter at a place behind panel 1.
-pub(crate) fn is_suspended(place: u32) -> bool
+pub fn is_suspended(place: u32) -> bool
     ensures { result ≡ is_suspended place }
 {
     place % 80 == 7

@@ -1,14 +1,14 @@
 -- A poll over a machine in memory: no call of it fails, and what it holds is found.
 use Rattle.std.proofs.Common.{◌≡◌, ℕ, zero, suc, ◌<◌, ◌≤◌, length, get_or, replicate, refl, ap, subst, ◌∙◌, arith}
-use Rattle.urna_outside.specs.Chips.{flashes_in}
+use Rattle.memory_outside.specs.Chips.{flashes_in}
 use Rattle.urna_outside.specs.Faults.{EndsAt}
 use Rattle.urna_outside.specs.Started.{blank_flashes, both_sizes}
-use Rattle.urna_outside.specs.Steady.{flashes_told, steady_told}
+use Rattle.memory_outside.specs.Steady.{flashes_told, steady_told}
 use Rattle.urna_outside.specs.Told.{Faults, Rose, Sizes, Told, faults_of, port_of}
 use Rattle.urna_outside.specs.declared.device.Dev.TheVariants as dev
 use Rattle.urna_outside.specs.declared.device.Port.{Port}
 use Rattle.urna_outside.specs.declared.device.Port.TheVariants.{Internal, External, Display}
-use Rattle.urna_outside.specs.declared.memory.steady.Steady.{Steady}
+use Rattle.memory_outside.specs.declared.steady.Steady.{Steady}
 use Rattle.election_tables.specs.Roll.{RollData}
 use Rattle.election_tables.specs.TablesData.{IsTables, TablesData}
 use Rattle.election_tables.specs.declared.tables.sections.Section.{Section}

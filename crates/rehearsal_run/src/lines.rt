@@ -13,6 +13,7 @@ ghost use Rattle.rehearsal.specs.Tables.{generated_tables};
 ghost use Rattle.rehearsal_run.specs.Lines.{TellRehearsal, elected_line, mayor_line, parties_in, quotient_line, seats_line, seats_words, suspended_among, votes_line};
 
 use election_tables::Tables;
+use rehearsal::is_suspended;
 use seat_remainders::{MajorityOutcome, Outcome, distribute, majority};
 use section_intake::Intake;
 use std::alloc::Global;
@@ -24,6 +25,9 @@ const COUNCILLOR: u32 = 0;
 
 /// The panel of the mayor.
 const MAYOR: u32 = 1;
+
+/// How many lines tell a rehearsal.
+const LINES: usize = 10;
 
 /// The lines of a poll of `n` voters of whom so many came, whose report has so many parts and alone is accepted.
 pub(crate) fn rehearsal_lines(
@@ -40,21 +44,24 @@ pub(crate) fn rehearsal_lines(
     ensures { (r : Report) → AreReportsOf (accepted_files intake.now) (r ∷ []) → r.able ≡ n → r.came ≡ came
         → length (cut (pieces (report_text r))) ≡ parts → IfOk result (λ lines. TellRehearsal n tables.now r lines.items) }
 {
+    let councillor = votes_of(alloc, tables, intake, COUNCILLOR)?;
+    let mayor = votes_of(alloc, tables, intake, MAYOR)?;
     let contest = contest_of(alloc, tables, intake, COUNCILLOR)?;
     let outcome = distribute(alloc, &contest)?;
     seat_remainders::laws::seats();
     let mayors = entries_of(alloc, tables, intake, MAYOR)?;
-    let mut lines = Vec::new(alloc);
-    lines.push(number_line(b"ENSAIO ", u64::from(n)))?;
-    lines.push(number_line(b"COMP ", u64::from(came)))?;
-    lines.push(number_line(b"FALT ", u64::from(n - came)))?;
-    lines.push(number_line(b"SUSPENSOS ", u64::from(suspended_among(n))))?;
-    lines.push(votes_line(13, votes_of(alloc, tables, intake, COUNCILLOR)?))?;
-    lines.push(quotient_line(&outcome))?;
-    lines.push(elected_line(&outcome))?;
-    lines.push(votes_line(11, votes_of(alloc, tables, intake, MAYOR)?))?;
-    lines.push(mayor_line(majority(mayors.as_slice(), true)))?;
-    lines.push(number_line(b"PARTES ", parts))?;
+    // no line can fail here, so that no further way out lets go of what was made
+    let mut lines = Vec::with_capacity(alloc, LINES)?;
+    lines.push_reserved(number_line(b"ENSAIO ", u64::from(n)));
+    lines.push_reserved(number_line(b"COMP ", u64::from(came)));
+    lines.push_reserved(number_line(b"FALT ", u64::from(n - came)));
+    lines.push_reserved(number_line(b"SUSPENSOS ", u64::from(suspended_among(n))));
+    lines.push_reserved(votes_line(13, councillor));
+    lines.push_reserved(quotient_line(&outcome));
+    lines.push_reserved(elected_line(&outcome));
+    lines.push_reserved(votes_line(11, mayor));
+    lines.push_reserved(mayor_line(majority(mayors.as_slice(), true)));
+    lines.push_reserved(number_line(b"PARTES ", parts));
     Ok(lines)
 }
 
@@ -80,7 +87,7 @@ fn suspended_among(n: u32) -> u32
 {
     let mut count = 0;
     for place in 0..n {
-        if place % 80 == 7 {
+        if is_suspended(place) {
             count += 1;
         }
     }

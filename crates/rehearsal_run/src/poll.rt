@@ -1,8 +1,8 @@
 //! A poll that is held over a machine in memory.
 ghost use Rattle.std.specs.Prelude.{◌≡◌, ◌≤◌, List, IfOk, length};
-ghost use Rattle.urna_outside.specs.Chips.{flashes_in};
+ghost use Rattle.memory_outside.specs.Chips.{flashes_in};
 ghost use Rattle.urna_outside.specs.Started.{blank_flashes, both_sizes};
-ghost use Rattle.urna_outside.specs.Steady.{flashes_told, steady_told};
+ghost use Rattle.memory_outside.specs.Steady.{flashes_told, steady_told};
 ghost use Rattle.urna_outside.specs.declared.device.Dev.TheVariants as Dev;
 ghost use Rattle.election_tables.specs.Limits.{most_voters};
 ghost use Rattle.election_tables.specs.Roll.{IsRoll};
@@ -21,12 +21,13 @@ ghost use Rattle.rehearsal_run.specs.Sealed.{IsRehearsal};
 
 use election_tables::{Roll, Section, Tables};
 use key_script::Script;
+use memory_outside::Steady;
 use rehearsal::read_script;
 use state_store::{DEVICE_SIZE, LoadError, Store};
 use station::{StartError, Station};
 use std::alloc::Global;
 use urna_base::Memory;
-use urna_outside::{Dev, Machine, Steady};
+use urna_outside::{Dev, Machine};
 
 /// A poll that was held: the station at its last state, and all bytes of the internal flash, which is at rest with it.
 #[derive(Drop)]

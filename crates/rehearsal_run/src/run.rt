@@ -32,6 +32,7 @@ pub fn rehearse(alloc: Global, n: u32) -> Result<Rehearsal, Memory>
     requires few { n ≤ most_voters }
     ensures { IfOk result (IsRehearsed n) }
 {
+    let keys = rehearsal_keys(alloc, n)?;
     let (tables_text, tables) = read_tables(alloc, n)?;
     let (roll_text, roll) = read_roll(alloc, n)?;
     let held = hold_rehearsal(alloc, n, &tables, &roll)?;
@@ -43,7 +44,7 @@ pub fn rehearse(alloc: Global, n: u32) -> Result<Rehearsal, Memory>
     Ok(Rehearsal {
         tables: tables_text,
         roll: roll_text,
-        keys: rehearsal_keys(alloc, n)?,
+        keys,
         flash: held.flash,
         report: totalled.results.report,
         record: totalled.results.record,

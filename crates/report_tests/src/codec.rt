@@ -53,16 +53,15 @@ fn told(state: &State) -> Told
     )
 }
 
-#[test]
-fn a_poll_of_two_voters_of_whom_one_came(rt: HostRuntime) -> Result<(), Fail> {
-    let tables = Tables::read(rt.alloc(), TABLES)?;
+/// The second of two voters votes in blank.
+fn check_poll(rt: &(impl Abort + AllocGlobal), tables: &Tables) -> Result<(), Fail> {
     assert!(rt; tables.panels() == 1);
     assert!(rt; tables.ballot_lines() == 1);
     assert!(rt; moment_ok(OPENED) && moment_ok(CLOSED));
-    let mut state = State::ready(rt.alloc(), &tables, 2)?;
+    let mut state = State::ready(rt.alloc(), tables, 2)?;
     let ready = state.rank();
     state.begin(OPENED);
-    state.ballot(&tables, 1, &[Choice::Blank]);
+    state.ballot(tables, 1, &[Choice::Blank]);
     let voted = state.rank();
     state.seal(CLOSED);
     assert_eq!(rt; (ready, voted), (0, 2));
@@ -72,6 +71,12 @@ fn a_poll_of_two_voters_of_whom_one_came(rt: HostRuntime) -> Result<(), Fail> {
     };
     assert_eq!(rt; told(&state), (3, sealed, [false, true, false], [0, 0, 1]));
     Ok(())
+}
+
+#[test]
+fn a_poll_of_two_voters_of_whom_one_came(rt: HostRuntime) -> Result<(), Fail> {
+    let tables = Tables::read(rt.alloc(), TABLES)?;
+    check_poll(&rt, &tables)
 }
 
 /// A sealed poll in version 1: version and phase, 20261004080000, 20261004170000, how many came, the first and the third of three voters.
@@ -174,9 +179,8 @@ fn a_sealed_poll_of_either_version_is_written_in_version_2(rt: HostRuntime) -> R
     check_written(&rt, &counted(rt.alloc(), &SEALED, &COUNTERS)?)
 }
 
-#[test]
-fn only_a_whole_body_of_its_version_is_a_state(rt: HostRuntime) -> Result<(), Fail> {
-    let tables = Tables::read(rt.alloc(), TABLES)?;
+/// The body of an open poll under other versions and lengths.
+fn check_lengths(rt: &(impl Abort + AllocGlobal), tables: &Tables) -> Result<(), Fail> {
     let mut body = body_of(rt.alloc(), &POLLING, &VOTE)?;
     body.push(0)?;
     for (version, length, is_state) in [
@@ -190,7 +194,7 @@ fn only_a_whole_body_of_its_version_is_a_state(rt: HostRuntime) -> Result<(), Fa
     ] {
         assert!(rt; 0 < body.len() && length <= body.len());
         body[0] = version;
-        let state = decode(rt.alloc(), &tables, 1, &body[..length])?;
+        let state = decode(rt.alloc(), tables, 1, &body[..length])?;
         assert!(rt;
             state.is_some() == is_state,
             "version {version}, {length} bytes"
@@ -200,8 +204,13 @@ fn only_a_whole_body_of_its_version_is_a_state(rt: HostRuntime) -> Result<(), Fa
 }
 
 #[test]
-fn a_body_with_a_wrong_field_is_no_encoding(rt: HostRuntime) -> Result<(), Fail> {
+fn only_a_whole_body_of_its_version_is_a_state(rt: HostRuntime) -> Result<(), Fail> {
     let tables = Tables::read(rt.alloc(), TABLES)?;
+    check_lengths(&rt, &tables)
+}
+
+/// Each of these changes refuses a body of version 1.
+fn check_fields(rt: &(impl Abort + AllocGlobal), tables: &Tables) -> Result<(), Fail> {
     let wrong: [(usize, &[u8], &str); 15] = [
         (0, &[2], "version 2 over the votes of version 1"),
         (0, &[9], "version 9"),
@@ -234,14 +243,19 @@ fn a_body_with_a_wrong_field_is_no_encoding(rt: HostRuntime) -> Result<(), Fail>
     for (at, bytes, what) in wrong {
         assert!(rt; at <= 65_536 && bytes.len() <= 65_536 - at);
         let mut body = body_of(rt.alloc(), &SEALED, &VOTES)?;
-        assert!(rt; is_refused(&tables, &mut body, at, bytes), "{what}");
+        assert!(rt; is_refused(tables, &mut body, at, bytes), "{what}");
     }
     Ok(())
 }
 
 #[test]
-fn a_body_of_version_2_with_a_wrong_field_is_no_encoding(rt: HostRuntime) -> Result<(), Fail> {
+fn a_body_with_a_wrong_field_is_no_encoding(rt: HostRuntime) -> Result<(), Fail> {
     let tables = Tables::read(rt.alloc(), TABLES)?;
+    check_fields(&rt, &tables)
+}
+
+/// Each of these changes refuses a body of version 2.
+fn check_counted_fields(rt: &(impl Abort + AllocGlobal), tables: &Tables) -> Result<(), Fail> {
     let wrong: [(usize, &[u8], &str); 12] = [
         (0, &[0], "version 0"),
         (0, &[1], "version 1 over the counters of version 2"),
@@ -263,9 +277,15 @@ fn a_body_of_version_2_with_a_wrong_field_is_no_encoding(rt: HostRuntime) -> Res
     for (at, bytes, what) in wrong {
         assert!(rt; at <= 65_536 && bytes.len() <= 65_536 - at);
         let mut body = counted(rt.alloc(), &SEALED, &COUNTERS)?;
-        assert!(rt; is_refused(&tables, &mut body, at, bytes), "{what}");
+        assert!(rt; is_refused(tables, &mut body, at, bytes), "{what}");
     }
     Ok(())
+}
+
+#[test]
+fn a_body_of_version_2_with_a_wrong_field_is_no_encoding(rt: HostRuntime) -> Result<(), Fail> {
+    let tables = Tables::read(rt.alloc(), TABLES)?;
+    check_counted_fields(&rt, &tables)
 }
 
 /// Whether a body of three voters is no encoding with these bytes in a place.
@@ -308,16 +328,36 @@ fn rank_counted(
     Ok(rank_of(tables, voters, &body))
 }
 
-#[test]
-fn a_body_is_of_its_roll_and_a_ready_one_has_no_moments(rt: HostRuntime) -> Result<(), Fail> {
-    let tables = Tables::read(rt.alloc(), TABLES)?;
+/// The ranks of a body of its roll and of another one, of a ready one, and of one with a moment.
+fn check_ranks(rt: &(impl Abort + AllocGlobal), tables: &Tables) -> Result<(), Fail> {
     let opened = [1, 0, 0, 0, 18, 109, 97, 243, 115, 128];
     assert_eq!(rt;
         [
-            rank(rt.alloc(), &tables, 3, &SEALED, &VOTES)?,
-            rank(rt.alloc(), &tables, 2, &SEALED, &VOTES)?,
-            rank(rt.alloc(), &tables, 3, &[1, 0], &[1])?,
-            rank(rt.alloc(), &tables, 3, &opened, &[1])?,
+            rank(rt.alloc(), tables, 3, &SEALED, &VOTES)?,
+            rank(rt.alloc(), tables, 2, &SEALED, &VOTES)?,
+            rank(rt.alloc(), tables, 3, &[1, 0], &[1])?,
+            rank(rt.alloc(), tables, 3, &opened, &[1])?,
+        ],
+        [Some(4), None, Some(0), None]
+    );
+    Ok(())
+}
+
+#[test]
+fn a_body_is_of_its_roll_and_a_ready_one_has_no_moments(rt: HostRuntime) -> Result<(), Fail> {
+    let tables = Tables::read(rt.alloc(), TABLES)?;
+    check_ranks(&rt, &tables)
+}
+
+/// The same of version 2.
+fn check_counted_ranks(rt: &(impl Abort + AllocGlobal), tables: &Tables) -> Result<(), Fail> {
+    let opened = [1, 0, 0, 0, 18, 109, 97, 243, 115, 128];
+    assert_eq!(rt;
+        [
+            rank_counted(rt.alloc(), tables, 3, &SEALED, &COUNTERS)?,
+            rank_counted(rt.alloc(), tables, 2, &SEALED, &COUNTERS)?,
+            rank_counted(rt.alloc(), tables, 3, &[1, 0], &[])?,
+            rank_counted(rt.alloc(), tables, 3, &opened, &[])?,
         ],
         [Some(4), None, Some(0), None]
     );
@@ -327,17 +367,7 @@ fn a_body_is_of_its_roll_and_a_ready_one_has_no_moments(rt: HostRuntime) -> Resu
 #[test]
 fn so_is_a_body_of_version_2(rt: HostRuntime) -> Result<(), Fail> {
     let tables = Tables::read(rt.alloc(), TABLES)?;
-    let opened = [1, 0, 0, 0, 18, 109, 97, 243, 115, 128];
-    assert_eq!(rt;
-        [
-            rank_counted(rt.alloc(), &tables, 3, &SEALED, &COUNTERS)?,
-            rank_counted(rt.alloc(), &tables, 2, &SEALED, &COUNTERS)?,
-            rank_counted(rt.alloc(), &tables, 3, &[1, 0], &[])?,
-            rank_counted(rt.alloc(), &tables, 3, &opened, &[])?,
-        ],
-        [Some(4), None, Some(0), None]
-    );
-    Ok(())
+    check_counted_ranks(&rt, &tables)
 }
 
 /// A ready state refuses a body that is too short, and takes on the sealed poll of this one.

@@ -1,38 +1,16 @@
 //! Files of reports, offered one behind the other (the crate `section_intake`): their sums, also of numbers that the tables lack, and the contest
 //! of their votes (the crate `totals`).
-ghost use Rattle.std.specs.Prelude.{◌<◌};
+ghost use Rattle.std.specs.Prelude.{◌<◌, length};
 ghost use Rattle.section_intake.specs.Intake.{IsIntakeFor, panels_of};
 
 use crate::files::REPORT;
+use crate::reports::TABLES;
 use election_tables::Tables;
 use section_intake::{Intake, Verdict};
+use std::alloc::Global;
+use std::process::Abort;
 use std::test::Fail;
 use totals::contest_of;
-
-/// Two offices and two sections.
-const TABLES: &[u8] = br#"
-processo = 7
-data = 20261004
-turno = 1
-cargo = [
-  {codigo = 13, regra = "proporcional", cadeiras = 5},
-  {codigo = 11, regra = "absoluta", cadeiras = 1},
-]
-partido = [
-  {numero = 13, nome = "PA"},
-  {numero = 45, nome = "PB"},
-]
-candidato = [
-  {cargo = 13, numero = 13001, nascimento = 19700101, nome = "ANA"},
-  {cargo = 13, numero = 45001, nascimento = 19650520, nome = "BRUNO"},
-  {cargo = 11, numero = 13, nascimento = 19600303, nome = "CARLA"},
-  {cargo = 11, numero = 45, nascimento = 19751212, nome = "DAVI"},
-]
-secao = [
-  {zona = 1, secao = 42, eleitores = 3},
-  {zona = 2, secao = 1, eleitores = 5},
-]
-"#;
 
 /// The report of the other section, of whose voters four came: two party votes and two null ones; then three votes for candidate 45 and a
 /// blank one.
@@ -88,33 +66,67 @@ fn other_sums(tables: &Tables, intake: &Intake, want: &[Sums]) -> Option<u32>
     None
 }
 
+/// So many files are accepted, and the sums of both panels are these.
+fn check_sums(rt: &impl Abort, tables: &Tables, intake: &Intake, accepted: u32, want: &[Sums])
+    requires { IsIntakeFor tables.now intake.now }
+{
+    assert!(rt; intake.accepted() == accepted);
+    assert_eq!(rt; other_sums(tables, intake, want), None);
+}
+
+/// A file is offered, and is accepted as the report of a section.
+fn check_offer(
+    rt: &impl Abort,
+    tables: &Tables,
+    intake: &mut Intake,
+    file: &[u8],
+    section: (u32, u32),
+) -> Result<(), Fail>
+    requires { IsIntakeFor tables.now intake.old }
+    ensures { IsIntakeFor tables.now intake.new }
+{
+    assert!(rt; file.len() < 10_000);
+    let verdict = intake.offer(tables, file)?;
+    let (zone, section) = section;
+    assert!(rt; verdict == Verdict::Accepted { zone, section });
+    Ok(())
+}
+
+/// Whether the contest of the first office is that of both reports.
+fn has_contest(alloc: Global, tables: &Tables, intake: &Intake) -> Result<bool, Fail>
+    requires panel { 0 < length tables.now.panels }
+    requires made { IsIntakeFor tables.now intake.now }
+{
+    let contest = contest_of(alloc, tables, intake, 0)?;
+    Ok(format!(in alloc; "{contest:?}")?.as_str() == CONTEST)
+}
+
+/// Two reports are offered to an intake. Its sums, and then the contest, are those of both.
+fn check_intake(
+    rt: &(impl Abort + AllocGlobal),
+    tables: &Tables,
+    intake: &mut Intake,
+) -> Result<(), Fail>
+    requires { IsIntakeFor tables.now intake.old }
+{
+    check_sums(rt, tables, intake, 0, &NO_SUMS);
+    check_offer(rt, tables, intake, REPORT, (1, 42))?;
+    check_sums(rt, tables, intake, 1, &FIRST_SUMS);
+    check_offer(rt, tables, intake, OTHER_REPORT, (2, 1))?;
+    check_sums(rt, tables, intake, 2, &BOTH_SUMS);
+    assert!(rt; tables.panels() != 0);
+    assert!(rt; has_contest(rt.alloc(), tables, intake)?);
+    Ok(())
+}
+
+/// The same to a new intake.
+fn check_new_intake(rt: &(impl Abort + AllocGlobal), tables: &Tables) -> Result<(), Fail> {
+    let mut intake = Intake::new(rt.alloc(), tables)?;
+    check_intake(rt, tables, &mut intake)
+}
+
 #[test]
 fn one_report_of_each_section_counts(rt: HostRuntime) -> Result<(), Fail> {
     let tables = Tables::read(rt.alloc(), TABLES)?;
-    let mut intake = Intake::new(rt.alloc(), &tables)?;
-    assert_eq!(rt; intake.accepted(), 0);
-    assert_eq!(rt; other_sums(&tables, &intake, &NO_SUMS), None);
-    let first = intake.offer(&tables, REPORT)?;
-    assert_eq!(rt;
-        first,
-        Verdict::Accepted {
-            zone: 1,
-            section: 42
-        }
-    );
-    assert_eq!(rt; intake.accepted(), 1);
-    assert_eq!(rt; other_sums(&tables, &intake, &FIRST_SUMS), None);
-    let second = intake.offer(&tables, OTHER_REPORT)?;
-    assert_eq!(rt;
-        second,
-        Verdict::Accepted {
-            zone: 2,
-            section: 1
-        }
-    );
-    assert_eq!(rt; intake.accepted(), 2);
-    assert_eq!(rt; other_sums(&tables, &intake, &BOTH_SUMS), None);
-    let contest = contest_of(rt.alloc(), &tables, &intake, 0)?;
-    assert_eq!(rt; format!(in rt.alloc(); "{contest:?}")?.as_str(), CONTEST);
-    Ok(())
+    check_new_intake(&rt, &tables)
 }

@@ -3,8 +3,8 @@
 //! tests of the parts below in `part_tests`.
 //!
 //! `codec` has the tests of `image_codec`, `reports` those of `poll_report` and `qr_text`, `files` those of `hash_chain` and `section_intake`,
-//! `intake` those of `section_intake` and `totals`, `recounts` those of `record_audit`, `rehearsals` those of `rehearsal` and `rehearsal_run`. `bodies` is no test itself: it has
-//! a body that `codec` and `reports` read.
+//! `intake` those of `section_intake` and `totals`, `recounts` those of `record_audit`. `bodies` is no test itself: it has a body that `codec`
+//! and `reports` read.
 #![tactic(auto)]
 
 pub mod bodies;
@@ -16,7 +16,5 @@ mod files;
 mod intake;
 #[cfg(test)]
 mod recounts;
-#[cfg(test)]
-mod rehearsals;
 #[cfg(test)]
 mod reports;

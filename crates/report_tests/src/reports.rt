@@ -111,6 +111,7 @@ fn each_report_is_written_as_it_was_read(rt: HostRuntime) -> Result<(), Fail> {
     Ok(())
 }
 
+/// Two offices and two sections, which the tests of files and of the intake read too.
 pub(crate) const TABLES: &[u8] = br#"
 processo = 7
 data = 20261004
@@ -129,7 +130,10 @@ candidato = [
   {cargo = 11, numero = 13, nascimento = 19600303, nome = "CARLA"},
   {cargo = 11, numero = 45, nascimento = 19751212, nome = "DAVI"},
 ]
-secao = [{zona = 1, secao = 42, eleitores = 3}]
+secao = [
+  {zona = 1, secao = 42, eleitores = 3},
+  {zona = 2, secao = 1, eleitores = 5},
+]
 "#;
 
 /// A sealed poll: version and phase, 20261004080000, 20261004170000, how many came, all three voters.

@@ -13,7 +13,7 @@ use Rattle.urna_base.proofs.DecimalLaws.{all_digits}
 use Rattle.urna_base.proofs.DigitLaws.{both_from_and}
 use Rattle.urna_base.proofs.CutLaws.{cut_front, cut_parts}
 use Rattle.seat_certificate.specs.Reading.{lines_in, with_feeds}
-use Rattle.seat_certificate.specs.Text.{text_of}
+use Rattle.urna_base.specs.Lines.{lines_text}
 
 -- a text without a byte
 abbrev pub Lacks : ℕ → List ℕ → Type 0
@@ -82,12 +82,6 @@ uncut_lacks c (b ∷ text) h = go (b == c) refl h (uncut_lacks c text)
     go true e g behind = absurd (cc)
     go false e g behind = rw (e, behind (rest_none (cut_at c text) g)) refl
 
-pub word_cut : (text w rest : List ℕ) → cut_at 32 text ≡ Some (w, rest) → pieces text ≡ w ∷ pieces rest
-word_cut text w rest h = ap pieces (cut_parts 32 text (w, rest) h) ∙ word_first w rest (cut_front 32 text (w, rest) h)
-
-pub word_uncut : (text : List ℕ) → cut_at 32 text ≡ None → pieces text ≡ text ∷ []
-word_uncut text h = word_last text (uncut_lacks 32 text h)
-
 -- ---- lines
 
 with_feeds-cons : (w : List ℕ) (ws : List (List ℕ)) → 0 < length ws → with_feeds (w ∷ ws) ≡ (w ∷ (with_feeds ws).0, (with_feeds ws).1)
@@ -97,18 +91,18 @@ with_feeds-cons w (v ∷ ws) some = refl
 some_pieces : (text : List ℕ) → 0 < length (slice_split (λ b. b == 10) text)
 some_pieces text = omega (arith, length-slice_split (λ b. b == 10) text)
 
-feeds_join : (w : List ℕ) (ws : List (List ℕ)) → text_of (with_feeds (w ∷ ws)).0 ++ (with_feeds (w ∷ ws)).1 ≡ join_with_byte 10 (w ∷ ws)
+feeds_join : (w : List ℕ) (ws : List (List ℕ)) → lines_text (with_feeds (w ∷ ws)).0 ++ (with_feeds (w ∷ ws)).1 ≡ join_with_byte 10 (w ∷ ws)
 feeds_join w [] = refl
 feeds_join w (v ∷ ws) =
     let line = with_feeds (v ∷ ws) in
-    append_assoc (w ++ 10 ∷ []) (text_of line.0) line.1 ∙ append_assoc w (10 ∷ []) (text_of line.0 ++ line.1) ∙ ap (λ (t : List ℕ). w ++ 10 ∷ t) (feeds_join v ws)
+    append_assoc (w ++ 10 ∷ []) (lines_text line.0) line.1 ∙ append_assoc w (10 ∷ []) (lines_text line.0 ++ line.1) ∙ ap (λ (t : List ℕ). w ++ 10 ∷ t) (feeds_join v ws)
 
-joined : (ws : List (List ℕ)) → 0 < length ws → text_of (with_feeds ws).0 ++ (with_feeds ws).1 ≡ join_with_byte 10 ws
+joined : (ws : List (List ℕ)) → 0 < length ws → lines_text (with_feeds ws).0 ++ (with_feeds ws).1 ≡ join_with_byte 10 ws
 joined [] some = absurd (omega arith)
 joined (w ∷ ws) some = feeds_join w ws
 
 -- a text is its lines and what stands behind the last line feed
-pub lines_back : (bytes : List ℕ) → text_of (lines_in bytes).0 ++ (lines_in bytes).1 ≡ bytes
+pub lines_back : (bytes : List ℕ) → lines_text (lines_in bytes).0 ++ (lines_in bytes).1 ≡ bytes
 unfolding lines_in
 lines_back bytes = joined (slice_split (λ b. b == 10) bytes) (some_pieces bytes) ∙ join_with_byte-slice_split 10 bytes
 
@@ -118,11 +112,11 @@ unfolding lines_in
 line_first line rest h =
     ap with_feeds (slice_split_at (λ b. b == 10) line 10 rest (each_other 10 line h) refl) ∙ with_feeds-cons line (slice_split (λ b. b == 10) rest) (some_pieces rest)
 
-pub lines_of_text : (lines : List (List ℕ)) (rest : List ℕ) → AllByRecursion (Lacks 10) lines → lines_in (text_of lines ++ rest) ≡ (lines ++ (lines_in rest).0, (lines_in rest).1)
+pub lines_of_text : (lines : List (List ℕ)) (rest : List ℕ) → AllByRecursion (Lacks 10) lines → lines_in (lines_text lines ++ rest) ≡ (lines ++ (lines_in rest).0, (lines_in rest).1)
 lines_of_text [] rest h = refl
 lines_of_text (line ∷ lines) rest h =
-    ap lines_in (append_assoc (line ++ 10 ∷ []) (text_of lines) rest ∙ append_assoc line (10 ∷ []) (text_of lines ++ rest))
-    ∙ line_first line (text_of lines ++ rest) h.0
+    ap lines_in (append_assoc (line ++ 10 ∷ []) (lines_text lines) rest ∙ append_assoc line (10 ∷ []) (lines_text lines ++ rest))
+    ∙ line_first line (lines_text lines ++ rest) h.0
     ∙ ap (λ (x : List (List ℕ) × List ℕ). (line ∷ x.0, x.1)) (lines_of_text lines rest h.1)
 
 pub line_cut : (text line rest : List ℕ) → cut_at 10 text ≡ Some (line, rest) → lines_in text ≡ (line ∷ (lines_in rest).0, (lines_in rest).1)

@@ -12,7 +12,8 @@ use Rattle.seat_certificate.specs.declared.certificate.FirstLine.{FirstLine}
 use Rattle.seat_certificate.specs.declared.certificate.Round.{Round}
 use Rattle.seat_certificate.specs.declared.table.TheConstants.{TABLE}
 use Rattle.seat_certificate.specs.Laws.{TextIsShort}
-use Rattle.seat_certificate.specs.Text.{AverageFits, HasText, IsBloc, IsDecimalNumber, LineFits, RiseAbove, RoundFits, average_word, bloc_line, certificate_lines, certificate_text, round_line, round_lines, text_of, vacant_line}
+use Rattle.urna_base.specs.Lines.{lines_text}
+use Rattle.seat_certificate.specs.Text.{AverageFits, HasText, IsBloc, IsDecimalNumber, LineFits, RiseAbove, RoundFits, average_word, bloc_line, certificate_lines, certificate_text, round_line, round_lines, vacant_line}
 use Rattle.seat_certificate.proofs.Codes.{small_code}
 
 -- ---- numbers
@@ -115,9 +116,9 @@ lines_short code c is =
 -- ---- the text
 
 -- each line has a line feed behind it
-text_length : (lines : List (List ℕ)) → AllByRecursion IsShort lines → length (text_of lines) ≤ 4000 * length lines
+text_length : (lines : List (List ℕ)) → AllByRecursion IsShort lines → length (lines_text lines) ≤ 4000 * length lines
 text_length [] all = omega arith
-text_length (line ∷ lines) all = omega (arith, all.0, text_length lines all.1, length-append (line ++ 10 ∷ []) (text_of lines), length-append line (10 ∷ []))
+text_length (line ∷ lines) all = omega (arith, all.0, text_length lines all.1, length-append (line ++ 10 ∷ []) (lines_text lines), length-append line (10 ∷ []))
 
 length-round_lines : (k : ℕ) (rounds : List Round) → length (round_lines k rounds) ≡ length rounds
 length-round_lines k [] = refl

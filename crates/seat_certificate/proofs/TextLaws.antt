@@ -1,13 +1,14 @@
 -- A text spells one certificate or has one first bad line, which reading line by line finds.
-use Rattle.std.proofs.Common.{◌≡◌, ℕ, suc, ◌+◌, ◌≤◌, List, [], ◌∷◌, ◌++◌, length, take, drop, ◌⊎◌, inl, inr, refl, sym, ap, ◌∙◌, subst, append-nil, append_assoc, length-append, arith}
+use Rattle.std.proofs.Common.{◌≡◌, ℕ, suc, ◌+◌, ◌≤◌, List, [], ◌++◌, length, take, drop, ◌⊎◌, inl, inr, refl, sym, ap, ◌∙◌, subst, append-nil, append_assoc, length-append, arith}
 use Rattle.std.specs.Prelude.{Result, Ok, Err}
 use Rattle.std.proofs.lemmas.Bool.{cases_order}
 use Rattle.std.proofs.lemmas.List.{take-append-drop, take-take, length-take-le}
-use Rattle.std.proofs.lemmas.List.Concat.{flat_map-append}
 use Rattle.std.proofs.Math.Seq.{take-append_seam}
 use Rattle.seat_certificate.specs.declared.certificate.Certificate.{Certificate}
 use Rattle.seat_certificate.specs.Reading.{AtStart, goes, lines_in, read_by}
-use Rattle.seat_certificate.specs.Text.{BeginsAs, HasText, IsFirstBadLine, Spells, certificate_lines, certificate_text, text_of}
+use Rattle.urna_base.specs.Lines.{lines_text}
+use Rattle.urna_base.proofs.LineLaws.{lines_text-append}
+use Rattle.seat_certificate.specs.Text.{BeginsAs, HasText, IsFirstBadLine, Spells, certificate_lines, certificate_text}
 use Rattle.seat_certificate.proofs.Complete.{complete}
 use Rattle.seat_certificate.proofs.Fronts.{front_bad}
 use Rattle.seat_certificate.proofs.Machine.{same_read}
@@ -22,33 +23,30 @@ read_spells bytes code c h =
     let w = whole 1 AtStart (lines_in bytes).0 (lines_in bytes).1 code c tt h in
     record {
       fits = w.fits;
-      text = sym (lines_back bytes) ∙ ap (λ (t : List ℕ). text_of (lines_in bytes).0 ++ t) w.none ∙ append-nil (text_of (lines_in bytes).0) ∙ ap text_of w.all;
+      text = sym (lines_back bytes) ∙ ap (λ (t : List ℕ). lines_text (lines_in bytes).0 ++ t) w.none ∙ append-nil (lines_text (lines_in bytes).0) ∙ ap lines_text w.all;
     }
 
 -- what is spelled is read
 pub spelled_read : (bytes : List ℕ) (code : ℕ) (c : Certificate) → Spells bytes code c → read_by bytes ≡ Ok (code, c)
 unfolding read_by certificate_text lines_in
 spelled_read bytes code c s =
-    let text : bytes ≡ text_of (certificate_lines code c) ++ [] = s.text ∙ sym (append-nil (text_of (certificate_lines code c))) in
+    let text : bytes ≡ lines_text (certificate_lines code c) ++ [] = s.text ∙ sym (append-nil (lines_text (certificate_lines code c))) in
     let lines = ap lines_in text ∙ lines_of_text (certificate_lines code c) [] (lines_lack code c s.fits) in
     ap (λ (x : List (List ℕ) × List ℕ). goes 1 AtStart x.0 x.1) lines
     ∙ ap (λ (l : List (List ℕ)). goes 1 AtStart l []) (append-nil (certificate_lines code c))
     ∙ complete code c s.fits
 
-text_of-append : (xs ys : List (List ℕ)) → text_of (xs ++ ys) ≡ text_of xs ++ text_of ys
-text_of-append xs ys = flat_map-append (λ line. line ++ 10 ∷ []) xs ys
-
-text_cut : (n : ℕ) (lines : List (List ℕ)) → text_of lines ≡ text_of (take n lines) ++ text_of (drop n lines)
-text_cut n lines = ap text_of (sym (take-append-drop n lines)) ∙ text_of-append (take n lines) (drop n lines)
+text_cut : (n : ℕ) (lines : List (List ℕ)) → lines_text lines ≡ lines_text (take n lines) ++ lines_text (drop n lines)
+text_cut n lines = ap lines_text (sym (take-append-drop n lines)) ∙ lines_text-append (take n lines) (drop n lines)
 
 fewer : (m n : ℕ) (bytes : List ℕ) (code : ℕ) (c : Certificate) → m ≤ n → BeginsAs n bytes code c → BeginsAs m bytes code c
 fewer m n bytes code c le (within, rest, is) =
     let all = certificate_lines code c in (
       omega arith,
-      text_of (drop m (take n all)) ++ rest,
+      lines_text (drop m (take n all)) ++ rest,
       is
-          ∙ ap (λ (t : List ℕ). t ++ rest) (text_cut m (take n all) ∙ ap (λ (l : List (List ℕ)). text_of l ++ text_of (drop m (take n all))) (take-take m n all le))
-          ∙ append_assoc (text_of (take m all)) (text_of (drop m (take n all))) rest,
+          ∙ ap (λ (t : List ℕ). t ++ rest) (text_cut m (take n all) ∙ ap (λ (l : List (List ℕ)). lines_text l ++ lines_text (drop m (take n all))) (take-take m n all le))
+          ∙ append_assoc (lines_text (take m all)) (lines_text (drop m (take n all))) rest,
     )
 
 -- the lines of a text that begins as a certificate
@@ -80,15 +78,15 @@ read_bad bytes k h =
     let front : take n (certificate_lines way.code way.certificate) ≡ take n lines =
     ap (λ (l : List (List ℕ)). take n l) all ∙ ap (λ (m : ℕ). take m (take n lines ++ way.rest)) (sym len) ∙ take-append_seam (take n lines) way.rest in
     let count = ap (λ (l : List (List ℕ)). length l) all ∙ length-append (take n lines) way.rest in
-    let text : bytes ≡ text_of (take n lines) ++ (text_of (drop n lines) ++ tail) =
-    sym (lines_back bytes) ∙ ap (λ (t : List ℕ). t ++ tail) (text_cut n lines) ∙ append_assoc (text_of (take n lines)) (text_of (drop n lines)) tail in
+    let text : bytes ≡ lines_text (take n lines) ++ (lines_text (drop n lines) ++ tail) =
+    sym (lines_back bytes) ∙ ap (λ (t : List ℕ). t ++ tail) (text_cut n lines) ∙ append_assoc (lines_text (take n lines)) (lines_text (drop n lines)) tail in
     record {
       place = n;
       number = omega (arith, r.number);
       code = way.code;
       certificate = way.certificate;
       fits = way.fits;
-      before = (omega (arith, count, len), text_of (drop n lines) ++ tail, text ∙ ap (λ (l : List (List ℕ)). text_of l ++ (text_of (drop n lines) ++ tail)) (sym front));
+      before = (omega (arith, count, len), lines_text (drop n lines) ++ tail, text ∙ ap (λ (l : List (List ℕ)). lines_text l ++ (lines_text (drop n lines) ++ tail)) (sym front));
       here = λ m d fits begins.
           let found = begun (n + 1) bytes m d fits begins in
           let bad = front_bad 1 AtStart lines (certificate_lines m d) tail [] n k h r.number (omega (arith, found.0)) (next_front n lines (certificate_lines m d) found.1) in

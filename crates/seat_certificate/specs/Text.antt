@@ -2,6 +2,7 @@
 use Rattle.std.specs.Prelude.{◌≡◌, ◌⊎◌, ℕ, ◌+◌, ◌^◌, ◌≤◌, ◌<◌, true, List, [], ◌∷◌, ◌++◌, length, map, take, flat_map}
 use Rattle.std.specs.Fmt.{decimal}
 use Rattle.std.specs.List.{AllByRecursion, join_with_byte}
+use Rattle.urna_base.specs.Lines.{lines_text}
 use Rattle.election_tables.specs.Offices.{code_proportional}
 use Rattle.quotients.specs.Average.{AverageData}
 use Rattle.seat_remainders.specs.declared.contest.Contest.{Contest}
@@ -110,13 +111,9 @@ abbrev pub certificate_lines : ℕ → Certificate → List (List ℕ)
 certificate_lines code c =
     TABLE.version ∷ office_line code ∷ quotient_line c.quotient ∷ map bloc_line c.first ++ (round_lines 1 c.rounds ++ (vacant_line c.vacant ∷ TABLE.end ∷ []))
 
--- lines as a text, each with a line feed (10) behind it
-abbrev pub text_of : List (List ℕ) → List ℕ
-text_of lines = flat_map (λ line. line ++ 10 ∷ []) lines
-
 -- its text
 unfoldable pub certificate_text : ℕ → Certificate → List ℕ
-certificate_text code c = text_of (certificate_lines code c)
+certificate_text code c = lines_text (certificate_lines code c)
 
 -- ---- what a text is
 
@@ -127,7 +124,7 @@ pub record Spells (bytes : List ℕ) (code : ℕ) (c : Certificate) : Type 0 whe
 
 -- the first k lines of a text, each with its line feed, are those of this certificate
 abbrev pub BeginsAs : ℕ → List ℕ → ℕ → Certificate → Type 0
-BeginsAs k bytes code c = (k ≤ length (certificate_lines code c)) × (rest : List ℕ) × (bytes ≡ text_of (take k (certificate_lines code c)) ++ rest)
+BeginsAs k bytes code c = (k ≤ length (certificate_lines code c)) × (rest : List ℕ) × (bytes ≡ lines_text (take k (certificate_lines code c)) ++ rest)
 
 -- Line number k is the first that may not stand there: the lines before it are those of some certificate that has a text, no such certificate has these and this line,
 -- and the whole text is none's. A line that is missing or has no line feed may not stand there, nor may a line behind the last.

@@ -73,7 +73,10 @@ fn wrong_change(
     changes: &[(&'static str, &'static str, &'static str)],
 ) -> Result<Option<&'static str>, Memory> {
     for (piece, other, expected) in changes {
-        let changed = text.replacen(alloc, piece, other, 1)?;
+        let Some((front, behind)) = text.split_once(*piece) else {
+            return Ok(Some(*other));
+        };
+        let changed = format!(in alloc; "{front}{other}{behind}")?;
         if judged(alloc, row, changed.as_str())?.as_str() != *expected {
             return Ok(Some(*other));
         }

@@ -8,21 +8,22 @@ use seat_remainders::{
 };
 use std::alloc::{AllocError, Global};
 use std::test::Fail;
-use urna_base::Memory;
+use urna_base::{Memory, decimal};
 
 /// The date of birth of a candidate whose row tells none.
 const BIRTH: &str = "19600101";
 
-/// A number of a row; rows have no other words.
-fn number(word: &str) -> Option<u64> {
-    word.parse::<u64>().ok()
-}
+/// No row has a later date of birth.
+const LAST_BIRTH: u64 = 99_991_231;
+
+/// No row has more seats.
+const MOST_SEATS: u64 = 1_000;
 
 /// One candidate more of a party, by its votes and a date of birth behind `@`, or its party votes behind `L`; false where the row is no
 /// such word. A candidate has the number of its party and its place in it, counted from 1, with three digits.
 fn add_word(party: &mut Contestant, word: &str) -> Result<bool, Memory> {
     if let Some(votes) = word.strip_prefix("L") {
-        return Ok(match number(votes) {
+        return Ok(match decimal(votes.as_bytes()) {
             Some(votes) => {
                 party.party_votes = votes;
                 true
@@ -32,11 +33,11 @@ fn add_word(party: &mut Contestant, word: &str) -> Result<bool, Memory> {
     }
     let (votes, birth) = word.split_once("@").unwrap_or((word, BIRTH));
     let place = party.candidates.len();
-    match (number(votes), birth.parse::<u32>()) {
-        (Some(votes), Ok(birth)) if place < 999 => {
+    match (decimal(votes.as_bytes()), decimal(birth.as_bytes())) {
+        (Some(votes), Some(birth)) if birth <= LAST_BIRTH && place < 999 => {
             party.candidates.push(Entry {
                 number: u32::from(party.number) * 1000 + place + 1,
-                birth,
+                birth: birth as u32,
                 votes,
             })?;
             Ok(true)
@@ -50,11 +51,14 @@ fn party_of(alloc: Global, piece: &str) -> Result<Option<Contestant>, Memory> {
     let Some((number, words)) = piece.split_once(": ") else {
         return Ok(None);
     };
-    let Ok(number) = number.parse::<u8>() else {
+    let Some(number) = decimal(number.as_bytes()) else {
         return Ok(None);
     };
+    if number > 99 {
+        return Ok(None);
+    }
     let mut party = Contestant {
-        number,
+        number: number as u8,
         party_votes: 0,
         candidates: Entries::new(alloc),
     };
@@ -71,9 +75,12 @@ pub(crate) fn contest_of(alloc: Global, row: &str) -> Result<Option<Contest>, Me
     let Some((seats, pieces)) = row.split_once(" seats, ") else {
         return Ok(None);
     };
-    let Ok(seats) = seats.parse::<u32>() else {
+    let Some(seats) = decimal(seats.as_bytes()) else {
         return Ok(None);
     };
+    if seats > MOST_SEATS {
+        return Ok(None);
+    }
     let mut parties = Contestants::new(alloc);
     for piece in pieces.split(", ") {
         let Some(party) = party_of(alloc, piece)? else {
@@ -84,7 +91,10 @@ pub(crate) fn contest_of(alloc: Global, row: &str) -> Result<Option<Contest>, Me
         }
         parties.push(party)?;
     }
-    Ok(Some(Contest { seats, parties }))
+    Ok(Some(Contest {
+        seats: seats as u32,
+        parties,
+    }))
 }
 
 /// What each party has: its number, its valid votes, its quotient and its seats.
@@ -218,13 +228,12 @@ fn each_contest_has_its_averages(rt: HostRuntime) -> Result<(), Fail> {
 #[test]
 fn averages_are_kept_as_they_are_pushed(rt: HostRuntime) -> Result<(), Fail> {
     let (greater, lower) = (Average::new(500, 3, 10), Average::new(300, 2, 11));
-    let mut averages = Averages::new(rt.alloc());
-    assert_eq!(rt; averages.push(greater), Ok(()));
-    assert_eq!(rt; averages.push(lower), Ok(()));
-    assert_eq!(rt; averages.len(), 2);
-    assert_eq!(rt; *averages.get(0), greater);
-    assert_eq!(rt; *averages.get(1), lower);
     assert!(rt; greater != lower);
     assert!(rt; greater < lower);
+    let mut averages = Averages::new(rt.alloc());
+    averages.push(greater)?;
+    averages.push(lower)?;
+    assert!(rt; averages.len() == 2);
+    assert!(rt; *averages.get(0) == greater && *averages.get(1) == lower);
     Ok(())
 }

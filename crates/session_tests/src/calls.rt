@@ -5,12 +5,11 @@ use crate::papers::{Paper, cabinet_of};
 use crate::stage::Faults;
 use crate::words::head;
 use ledger_commands::urna_ledger;
+use memory_outside::{Recorder, Watched};
 use state_store::DEVICE_SIZE;
 use std::alloc::Global;
 use std::str;
 use urna_commands::urna;
-use urna_outside::Recorder;
-use watched_shelf::Watched;
 
 /// The file that the keys of a session are.
 const KEYS: &str = "k";

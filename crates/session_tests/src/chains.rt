@@ -7,9 +7,9 @@ use crate::stage::{Stage, kept_as, last_of, no_faults};
 use crate::stops::{told, told_by};
 use crate::words::{head, number};
 use ledger_commands::LedgerStatus;
+use memory_outside::Recorder;
 use std::alloc::Global;
 use urna_commands::Status;
-use urna_outside::Recorder;
 
 /// How many calls a chain has.
 const CALLS: u32 = 4;

@@ -3,9 +3,10 @@ use crate::flashes::Flashes;
 use crate::halt::Halt;
 use crate::stage::{Kept, kept_as};
 use crate::words::hex_bytes;
+use memory_outside::{Recorder, Tear};
 use std::alloc::Global;
 use urna_base::Memory;
-use urna_outside::{Dev, Recorder, Tear};
+use urna_outside::Dev;
 
 /// The ways in which torn bytes may stand, by their names. Bytes of one value can't show a missing sync between a body and its gate;
 /// those of flashes that hold a later state can.

@@ -1,6 +1,6 @@
 //! What both flashes hold.
 ghost use Rattle.std.specs.Prelude.{◌≡◌, ◌<◌, ◌^◌, IfOk};
-ghost use Rattle.urna_outside.specs.Recorder.{recorder_told};
+ghost use Rattle.memory_outside.specs.Recorder.{recorder_told};
 ghost use Rattle.urna_outside.specs.Told.{size_of};
 ghost use Rattle.urna_outside.specs.declared.device.Dev.{Dev};
 
@@ -8,9 +8,10 @@ use crate::halt::Halt;
 use crate::stage::Faults;
 use gate_slot::{FRONT_SIZE, HEADER_SIZE};
 use image_codec::BODY_SIZE;
+use memory_outside::Recorder;
 use state_store::DEVICE_SIZE;
 use std::alloc::Global;
-use urna_outside::{Dev, Recorder};
+use urna_outside::Dev;
 
 /// The program that a command is of. Each has flashes of another size.
 #[derive(Clone, Copy, PartialEq, Eq)]

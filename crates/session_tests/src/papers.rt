@@ -1,9 +1,8 @@
 //! The files that a command is given.
 use crate::halt::Halt;
+use memory_outside::{Shelf, Watched};
 use std::alloc::Global;
 use urna_base::Memory;
-use urna_outside::Shelf;
-use watched_shelf::Watched;
 
 /// A file of the cabinet.
 #[derive(Drop)]

@@ -1,5 +1,5 @@
 //! What is left where a command is stopped: behind each of its operations, inside of one, or at each of its calls.
-use crate::calls::{Call, Ran, call_of, push_files, run, say, session_of, shown};
+use crate::calls::{Call, Ran, call_of, push_files, run, session_of, shown};
 use crate::cuts::{Fill, WAYS, cut, cut_at};
 use crate::flashes::{Flashes, Program, are_same, copied, is_left, left, no_flashes, shut_device};
 use crate::halt::Halt;
@@ -8,8 +8,9 @@ use crate::ranks::told_ranks;
 use crate::runs::{Runs, Ways};
 use crate::stage::{Faults, Last, Stage, kept_as, last_of, no_faults};
 use crate::words::{head, numbers};
+use memory_outside::{Recorder, Tear};
 use std::alloc::Global;
-use urna_outside::{Dev, Recorder, Tear};
+use urna_outside::Dev;
 
 /// What a command without faults shows over some flashes, and its number where it isn't 0.
 pub(crate) fn told_by(

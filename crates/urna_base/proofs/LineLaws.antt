@@ -1,11 +1,12 @@
 -- Laws of the lines of a text.
-use Rattle.std.proofs.Common.{◌≡◌, Bool, true, false, not, cond, ltb, List, [], ◌∷◌, ℕ, suc, ◌+◌, ◌<◌, ◌≤◌, length, take, drop, refl, Some, None, arith}
+use Rattle.std.proofs.Common.{◌≡◌, Bool, true, false, not, cond, ltb, List, [], ◌∷◌, ◌++◌, ℕ, suc, ◌+◌, ◌<◌, ◌≤◌, length, take, drop, refl, sym, ap, ◌∙◌, append_assoc, append-nil, Some, None, arith}
 use Rattle.std.specs.Prelude.{◌==◌, ◌≢◌, position}
+use Rattle.std.proofs.lemmas.List.Concat.{flat_map-append}
 use Rattle.std.proofs.lemmas.Option.{cond_some}
 use Rattle.std.proofs.lemmas.Bool.{ltb-true, ltb-false}
 use Rattle.std.specs.List.{list_all, position_or_len}
 use Rattle.std.proofs.lemmas.Bool.Decides.{nat_tests}
-use Rattle.urna_base.specs.Lines.{lines_of, before_first_line}
+use Rattle.urna_base.specs.Lines.{lines_of, lines_text, before_first_line}
 use Rattle.urna_base.proofs.DigitLaws.{both_from_and}
 
 -- a byte is no line feed
@@ -75,3 +76,12 @@ lines_of-unplaced [] some e = absurd (some refl)
 lines_of-unplaced (c ∷ text) some e =
     let never : ltb (feed_place (c ∷ text)) (length (c ∷ text)) ≡ false = no_value _ (feed_place (c ∷ text)) e in
     lines_of-last c text (no_feeds (c ∷ text) (ltb-false _ _ never))
+
+-- a line put behind a text
+pub line_put : (o p q w : List ℕ) → p ≡ o ++ w → q ≡ p ++ 10 ∷ [] → q ≡ o ++ lines_text (w ∷ [])
+line_put o p q w is fed =
+    fed ∙ ap (λ (t : List ℕ). t ++ 10 ∷ []) is ∙ append_assoc o w (10 ∷ []) ∙ ap (λ (t : List ℕ). o ++ t) (sym (append-nil (w ++ 10 ∷ [])))
+
+-- the text of lines behind others
+pub lines_text-append : (xs ys : List (List ℕ)) → lines_text (xs ++ ys) ≡ lines_text xs ++ lines_text ys
+lines_text-append xs ys = flat_map-append (λ line. line ++ 10 ∷ []) xs ys

@@ -1,5 +1,6 @@
--- The lines of a text.
-use Rattle.std.specs.Prelude.{ℕ, ◌==◌, if◌then◌else◌, List, [], ◌∷◌}
+-- The lines of a text, and a text of lines.
+use Rattle.std.specs.Prelude.{ℕ, ◌==◌, if◌then◌else◌, List, [], ◌∷◌, ◌++◌}
+use Rattle.std.specs.List.{flat_map}
 
 -- a byte in front of the first line
 abbrev pub before_first_line : ℕ → List (List ℕ) → List (List ℕ)
@@ -10,3 +11,7 @@ before_first_line c (line ∷ lines) = (c ∷ line) ∷ lines
 unfoldable pub lines_of : List ℕ → List (List ℕ)
 lines_of [] = []
 lines_of (c ∷ rest) = if c == 10 then [] ∷ lines_of rest else before_first_line c (lines_of rest)
+
+-- lines as a text, each with its line feed (10)
+abbrev pub lines_text : List (List ℕ) → List ℕ
+lines_text lines = flat_map (λ line. line ++ 10 ∷ []) lines

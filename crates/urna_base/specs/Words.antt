@@ -1,5 +1,6 @@
 -- What follows a word in a text, a text cut at a byte, and the pieces of a text
 use Rattle.std.specs.Prelude.{ℕ, ◌==◌, if◌then◌else◌, List, [], ◌∷◌, Option, None, Some, option_map}
+use Rattle.std.specs.Borrow.{Bor}
 use Rattle.std.specs.List.{slice_split}
 
 -- what follows a word, where the text begins with it
@@ -16,3 +17,8 @@ cut_at b (c ∷ text) = if c == b then Some ([], text) else option_map (λ x. (c
 -- the pieces of a text between single spaces (32)
 abbrev pub pieces : List ℕ → List (List ℕ)
 pieces text = slice_split (λ b. b == 32) text
+
+-- the pieces of what is left of a text, if it hasn't ended
+abbrev pub pieces_left : Option (Bor (List ℕ)) → List (List ℕ)
+pieces_left None = []
+pieces_left (Some text) = pieces text.now

@@ -1,8 +1,8 @@
 //! Numbers as digits, dates and moments, big-endian numbers, lines, words, and the bytes of a shown line: the layer under
-//! every format. A crate above takes a text apart by `split_line`, `after` and `cut_at`, reads by `digits` and `decimal`,
-//! prints by `put_digits`, `put_decimal` and `LineBuffer`, takes the memory of a buffer by `zeros`, and cites
+//! every format. A crate above takes a text apart by `split_line`, `split_piece`, `after` and `cut_at`, reads by `digits` and `decimal`,
+//! prints by `put_digits`, `put_decimal`, `put_line` and `LineBuffer`, takes the memory of a buffer by `zeros`, and cites
 //! `specs/Digits.antt` (what digits mean), `specs/Moment.antt` (dates and moments), `specs/Lines.antt` (the lines of a
-//! text) and `specs/Words.antt` (what follows a word, and a cut). That printing and reading undo each other is in `laws`.
+//! text, and a text of lines) and `specs/Words.antt` (what follows a word, and a cut). That printing and reading undo each other is in `laws`.
 #![tactic(auto)]
 
 mod be;
@@ -22,6 +22,6 @@ pub use line::LineBuffer;
 pub use lines::split_line;
 pub use memory::Memory;
 pub use moment::{date_ok, moment_ok};
-pub use print::{decimal_into, put_decimal, put_digits};
+pub use print::{decimal_into, put_decimal, put_digits, put_line};
 pub use read::{decimal, digits};
-pub use words::{after, cut_at};
+pub use words::{after, cut_at, first_place, split_piece};

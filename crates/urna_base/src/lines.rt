@@ -1,5 +1,7 @@
-ghost use Rattle.std.specs.Prelude.{◌≡◌, ◌<◌, ◌==◌, ◌↔◌, [], ◌∷◌, length, position, IsNone, IfSome};
+ghost use Rattle.std.specs.Prelude.{◌≡◌, ◌<◌, ◌↔◌, [], ◌∷◌, length, IsNone, IfSome};
 ghost use Rattle.urna_base.specs.Lines.{lines_of};
+
+use crate::words::first_place;
 
 /// The first line of a text without its line feed, and the text after it; `None` where the text is empty.
 ///
@@ -12,15 +14,8 @@ pub fn split_line(text: &[u8]) -> Option<(&[u8], &[u8])>
     if text.is_empty() {
         return None;
     }
-    match first_feed(text) {
+    match first_place(b'\n', text) {
         Some(end) => Some((&text[..end], &text[end + 1..])),
         None => Some((text, &[])),
     }
-}
-
-/// Where the first line feed stands.
-fn first_feed(text: &[u8]) -> Option<usize>
-    ensures { result ≡ position (λ c. c == 10) text.now }
-{
-    text.iter().position(|byte| *byte == b'\n')
 }

@@ -1,6 +1,7 @@
-ghost use Rattle.std.specs.Prelude.{◌≡◌, ◌^◌, ◌<◌, ◌≤◌, ◌++◌, length, take, drop, OnOk, OnErr};
+ghost use Rattle.std.specs.Prelude.{◌≡◌, ◌^◌, ◌<◌, ◌≤◌, ◌++◌, [], ◌∷◌, length, take, drop, OnOk, OnErr};
 ghost use Rattle.std.specs.Fmt.{decimal};
 ghost use Rattle.urna_base.specs.Digits.{padded};
+ghost use Rattle.urna_base.specs.Lines.{lines_text};
 
 use crate::memory::Memory;
 use itoa::Buffer;
@@ -27,6 +28,15 @@ pub fn put_decimal(out: &mut Vec<u8>, value: u64) -> Result<(), Memory>
 {
     let mut buffer = Buffer::new();
     out.extend_from_slice(buffer.format(value).as_bytes())?;
+    Ok(())
+}
+
+/// Appends a line, with its line feed. `Err` is want of memory; `out` may then have the line without its feed.
+pub fn put_line(out: &mut Vec<u8>, line: &[u8]) -> Result<(), Memory>
+    ensures { OnOk result (out.new.items ≡ out.old.items ++ lines_text (line.now ∷ [])) }
+{
+    out.extend_from_slice(line)?;
+    out.push(b'\n')?;
     Ok(())
 }
 

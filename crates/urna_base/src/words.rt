@@ -1,7 +1,7 @@
-//! What follows a word in a text, and a text cut at a byte.
-ghost use Rattle.std.specs.Prelude.{◌≡◌, ◌==◌, position, MatchOption, None, Some};
+//! What follows a word in a text, a text cut at a byte, and its pieces between spaces.
+ghost use Rattle.std.specs.Prelude.{◌≡◌, ◌==◌, ◌∷◌, position, MatchOption, None, Some};
 ghost use Rattle.std.specs.Option.{option_copied};
-ghost use Rattle.urna_base.specs.Words.{after_word, cut_at};
+ghost use Rattle.urna_base.specs.Words.{after_word, cut_at, pieces, pieces_left};
 
 /// What follows a word, where the text begins with it.
 pub fn after<'a>(word: &[u8], text: &'a [u8]) -> Option<&'a [u8]>
@@ -20,8 +20,19 @@ pub fn cut_at(byte: u8, text: &[u8]) -> Option<(&[u8], &[u8])>
     }
 }
 
-/// Where the first such byte stands.
-fn first_place(byte: u8, text: &[u8]) -> Option<usize>
+/// The first piece of a text, and what stands behind its space, if there is one.
+pub fn split_piece(text: &[u8]) -> (&[u8], Option<&[u8]>)
+    ensures { pieces text.now ≡ result.0.now ∷ pieces_left result.1 }
+{
+    match first_place(b' ', text) {
+        Some(end) => (&text[..end], Some(&text[end + 1..])),
+        None => (text, None),
+    }
+}
+
+/// Where the first byte of this value stands in a text; `None` where there is none. It goes byte by byte, which for pieces of a few bytes
+/// is sooner than `memchr`.
+pub fn first_place(byte: u8, text: &[u8]) -> Option<usize>
     ensures { result ≡ position (λ b. b == byte) text.now }
 {
     text.iter().position(|other| *other == byte)

@@ -11,10 +11,4 @@ pub mod Showing
 pub mod ShowingLines
 pub mod Stages
 pub mod Stops
-mod KeptLemmas
-mod Replays
-mod Tears
-mod Torn
-mod ItemLemmas
 pub mod Traced
-pub mod Marking

@@ -1,15 +1,10 @@
 -- Worked rows of the definitions.
 use Rattle.std.proofs.Common.{◌≡◌, ◌-◌, ◌^◌, true, false, Some, None, inr, [], ◌∷◌, refl}
 use Rattle.urna_outside.specs.Flash.{Op, Put, Sync, Show, clean_flash, put, after, shown_by}
-use Rattle.urna_outside.specs.Kept.{kept_ops}
-use Rattle.urna_outside.specs.Room.{torn_part}
 use Rattle.urna_outside.specs.Stop.{IsPartOf, IsStop}
-use Rattle.urna_outside.specs.Tear.{torn}
 use Rattle.urna_outside.specs.Told.{calls_after, one_more}
 use Rattle.urna_outside.specs.Cabinet.{file_at}
 use Rattle.urna_outside.specs.declared.device.Dev.TheVariants.{Internal, External}
-use Rattle.urna_outside.specs.declared.memory.tape.Operation.TheVariants as kept
-use Rattle.urna_outside.specs.declared.memory.tear.Tear.TheVariants.{Byte}
 
 -- two bytes put from place 1 on
 put_row : put 1 (7 ∷ 8 ∷ []) (clean_flash (0 ∷ 0 ∷ 0 ∷ 0 ∷ [])) ≡ record { content = 0 ∷ 7 ∷ 8 ∷ 0 ∷ []; dirty = false ∷ true ∷ true ∷ false ∷ [] }
@@ -34,22 +29,6 @@ shown_row = refl
 -- the third call, whose number is 2, fails, and the fourth ends well
 calls_row : calls_after true (calls_after false (record { made = 2; failed = 0; last_failed = None })) ≡ record { made = 4; failed = 1; last_failed = Some 2 }
 calls_row = refl
-
--- a show of three bytes that fails shows one, and none where there is no room for an operation
-torn_row : torn_part (record { ops = 1; bytes = 9 }) (70 ∷ 73 ∷ 77 ∷ []) ≡ 70 ∷ []
-torn_row = refl
-
-no_room_row : torn_part (record { ops = 0; bytes = 9 }) (70 ∷ 73 ∷ 77 ∷ []) ≡ []
-no_room_row = refl
-
--- two writes and a show between them, whose bytes are kept in two rows
-kept_row : kept_ops (kept.Put External 2 1 ∷ kept.Show 2 ∷ kept.Sync External ∷ kept.Put Internal 0 2 ∷ []) (5 ∷ 6 ∷ 7 ∷ []) (70 ∷ 73 ∷ [])
-    ≡ Put External 2 (5 ∷ []) ∷ Show (70 ∷ 73 ∷ []) ∷ Sync External ∷ Put Internal 0 (6 ∷ 7 ∷ []) ∷ []
-kept_row = refl
-
--- of two bytes put and not synced a power cut leaves 153 in each
-tear_row : torn (Byte 0x99) (put 1 (7 ∷ 8 ∷ []) (clean_flash (1 ∷ 2 ∷ 3 ∷ 4 ∷ []))) ≡ 1 ∷ 153 ∷ 153 ∷ 4 ∷ []
-tear_row = refl
 
 -- a count stands at its last value
 stands_row : one_more (2 ^ 64 - 1) ≡ 2 ^ 64 - 1

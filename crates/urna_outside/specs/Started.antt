@@ -1,8 +1,8 @@
 -- What a machine in memory starts from, and what one that tells all tells then.
-use Rattle.std.specs.Prelude.{ℕ, List, [], Some, replicate}
+use Rattle.std.specs.Prelude.{ℕ, List, [], None, Some, replicate}
 use Rattle.urna_outside.specs.Flash.{Flashes, clean_flash}
-use Rattle.urna_outside.specs.Told.{Told, Sizes}
-use Rattle.urna_outside.specs.Counters.{no_faults, no_calls}
+use Rattle.urna_outside.specs.Told.{Calls, Told, Sizes}
+use Rattle.urna_outside.specs.Counters.{no_faults}
 
 -- two flashes of these contents, nothing dirty
 abbrev pub clean_flashes : List ℕ → List ℕ → Flashes
@@ -15,6 +15,10 @@ blank_flashes size = clean_flashes (replicate size 0) (replicate size 0)
 -- both devices have so many bytes
 abbrev pub both_sizes : ℕ → Sizes
 both_sizes size = record { internal = size; external = size }
+
+-- no call was made
+abbrev pub no_calls : Calls
+no_calls = record { made = 0; failed = 0; last_failed = None }
 
 -- nothing was done yet
 abbrev pub started_told : ℕ → Flashes → Told

@@ -5,9 +5,8 @@
 //! does on one device or both are in `specs/Confined.antt` and `specs/Stage.antt`, for where it fails in
 //! `specs/Faults.antt`.
 //!
-//! `files` has those of a real run, `FileMachine` and `FolderCabinet`. `memory` has those of tests and benchmarks:
-//! `Recorder` and `Shelf` tell everything, and fail where they are told to or find no room; a `Recorder` also gives
-//! the image of a device at any stop. `Steady` never fails. What both folders need stands beside them.
+//! `files` has those of a real run, `FileMachine` and `FolderCabinet`; those in memory are the crate `memory_outside`.
+//! The counts that both need stand here.
 #![tactic(auto)]
 
 mod bytes;
@@ -16,14 +15,14 @@ mod counters;
 mod device;
 mod files;
 mod machine;
-mod memory;
 mod show;
 mod take_counts;
 
 pub use bytes::overwrite;
 pub use cabinet::{Cabinet, CabinetError};
+pub use counters::Counters;
 pub use device::{Dev, Failed, Port};
 pub use files::{FileLock, FileMachine, FolderCabinet};
 pub use machine::Machine;
-pub use memory::{Recorder, Shelf, Steady, Tear};
 pub use show::{lines_show_their_text, show_line};
+pub use take_counts::TakeCounts;

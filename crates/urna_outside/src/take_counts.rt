@@ -4,8 +4,9 @@ ghost use Rattle.urna_outside.specs.Cabinet.{CountsFault, CountsMissing, CountsT
 
 use crate::CabinetError;
 
+/// How often a cabinet has failed, had no file of the name, or a longer one.
 #[derive(Clone, Copy, Debug, PartialEq, Eq)]
-pub(crate) struct TakeCounts {
+pub struct TakeCounts {
     faults: u64,
     missing: u64,
     too_long: u64,
@@ -14,7 +15,8 @@ pub(crate) struct TakeCounts {
 impl TakeCounts {
     ghost use Rattle.urna_outside.specs.TakeCounts.{tally_of, no_tally};
 
-    pub(crate) fn new() -> TakeCounts
+    /// Nothing was counted.
+    pub fn new() -> TakeCounts
         ensures { tally_of result ≡ no_tally }
     {
         TakeCounts {
@@ -25,7 +27,7 @@ impl TakeCounts {
     }
 
     /// Counts why a file was not taken or put. Want of memory isn't counted.
-    pub(crate) fn count(&mut self, error: CabinetError)
+    pub fn count(&mut self, error: CabinetError)
         ensures memory { error ≡ CabinetError.Memory → tally_of self.new ≡ tally_of self.old }
         ensures failed { error ≡ CabinetError.Failed →
             CountsFault (tally_of self.old) (tally_of self.new) }

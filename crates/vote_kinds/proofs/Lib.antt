@@ -2,3 +2,4 @@ pub mod ChoicePlaces
 pub mod Choices
 pub mod LineChoices
 pub mod Lookups
+pub mod Pairs

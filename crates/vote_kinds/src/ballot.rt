@@ -1,10 +1,10 @@
-ghost use Rattle.std.specs.Prelude.{◌≡◌, ◌≢◌, ◌^◌, ◌<◌, ◌≤◌, length, map, true, nat_eq};
+ghost use Rattle.std.specs.Prelude.{◌≡◌, ◌^◌, ◌<◌, ◌≤◌, length, map, true, nat_eq};
 ghost use Rattle.std.specs.List.{list_any};
 ghost use Rattle.election_tables.specs.Fields.{first_two};
-ghost use Rattle.vote_kinds.specs.Ballot.{IsField, choice_of, is_choice, is_confirmable, is_nominal_of, is_proportional, line_of, names_candidate, panel_at};
+ghost use Rattle.vote_kinds.specs.Ballot.{IsField, choice_of, is_choice, is_confirmable, is_nominal_of, is_proportional, line_of, panel_at};
 
 use crate::choice::{Choice, Field};
-use election_tables::{Kind, Office, Tables};
+use election_tables::{Kind, Office, Tables, first_two};
 
 /// Whether CONFIRMA is taken at a field of a panel: at a blank field, in a proportional office from two digits on, and in a
 /// majority office at all of them (docs/RULES.md, "The field").
@@ -151,17 +151,13 @@ fn has_party(tables: &Tables, number: u8) -> bool
     tables.party_name(number).is_some()
 }
 
-/// The first two of so many digits.
+/// The first two of so many digits, as the number of a party.
+#[tactic(auto, using(crate::proofs::Pairs::pair_small))]
 fn leading_pair(count: u8, value: u32) -> u8
     requires some { 2 ≤ count }
     requires few { count ≤ 5 }
     requires value { value < 10 ^ count }
     ensures { result ≡ first_two count value }
 {
-    match count {
-        2 => value as u8,
-        3 => (value / 10) as u8,
-        4 => (value / 100) as u8,
-        _ => (value / 1000) as u8,
-    }
+    first_two(count, u64::from(value)) as u8
 }

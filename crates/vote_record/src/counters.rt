@@ -7,7 +7,7 @@ ghost use Rattle.vote_record.specs.Bag.{count_of, with_choices};
 ghost use Rattle.vote_record.specs.Counters.{counters_before, most_counters};
 ghost use Rattle.vote_record.specs.BagData.{IsPlace, choices_in, members_of, no_votes, stands_at};
 
-use election_tables::Tables;
+use election_tables::{MOST_CANDIDATES, MOST_PARTIES, Tables};
 use std::alloc::Global;
 use urna_base::Memory;
 use vote_kinds::{Choice, choice_count, chosen_parties};
@@ -19,16 +19,14 @@ pub struct Counter {
     pub votes: u32,
 }
 
-/// The most candidates of all panels together, and the most parties, blank and null of each, which have a counter.
-const MOST_CANDIDATES: u32 = 4_096;
-
-const MOST_OTHERS: u32 = 42;
+/// The most counters of a panel beside its candidates: its parties, blank and null.
+const MOST_OTHERS: u32 = MOST_PARTIES as u32 + 2;
 
 /// How many counters more than these tables need the largest ones with as many panels would.
 pub fn spare_counters(tables: &Tables) -> u32
     ensures { result + counters_before tables.now (length tables.now.panels) ≡ most_counters (length tables.now.panels) }
 {
-    let mut spare = MOST_CANDIDATES + MOST_OTHERS * tables.panels();
+    let mut spare = MOST_CANDIDATES as u32 + MOST_OTHERS * tables.panels();
     for panel in 0..tables.panels() {
         spare -= choice_count(tables, panel);
     }

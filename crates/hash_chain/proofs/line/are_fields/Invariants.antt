@@ -1,9 +1,8 @@
 use Rattle.std.proofs.Common.{◌≡◌, length}
 use Rattle.std.specs.List.{list_all}
-use Rattle.urna_base.specs.Words.{pieces}
+use Rattle.urna_base.specs.Words.{pieces, pieces_left}
 use Rattle.hash_chain.proofs.line.are_fields.Given as goal
 use Rattle.hash_chain.specs.Lines.{is_field}
-use Rattle.hash_chain.specs.Reading.{pieces_left}
 
 -- all are fields if those that are left are
 abbrev pub invariant-loop-rest : goal.invariant-loop-rest

@@ -1,9 +1,8 @@
 use Rattle.std.proofs.Common.{◌≡◌, ◌+◌, length, IfSome}
-use Rattle.urna_base.specs.Words.{pieces}
+use Rattle.urna_base.specs.Words.{pieces, pieces_left}
 use Rattle.hash_chain.proofs.make.count_parts.Given as goal
 use Rattle.hash_chain.specs.Cut.{cut}
 use Rattle.hash_chain.specs.Fault.{AreFields}
-use Rattle.hash_chain.specs.Reading.{pieces_left}
 
 -- so many parts were counted, and these are left
 abbrev pub invariant-loop-rest : goal.invariant-loop-rest

@@ -1,11 +1,10 @@
 use Rattle.std.proofs.Common.{◌≡◌, ◌+◌, ◌++◌, [], length, IfSome}
 use Rattle.std.specs.Prelude.{string_bytes}
-use Rattle.urna_base.specs.Words.{pieces}
+use Rattle.urna_base.specs.Words.{pieces, pieces_left}
 use Rattle.hash_chain.proofs.make.put_parts.Given as goal
 use Rattle.hash_chain.specs.Chain.{links_from, links_text}
 use Rattle.hash_chain.specs.Cut.{cut}
 use Rattle.hash_chain.specs.Fault.{AreFields}
-use Rattle.hash_chain.specs.Reading.{pieces_left}
 
 -- with the lines of the parts that are left, all lines stand there
 abbrev pub invariant-loop-rest : goal.invariant-loop-rest

@@ -1,6 +1,6 @@
 use Rattle.std.proofs.Common.{length, refl, subst}
-use Rattle.urna_outside.specs.Chips.{flashes_in}
-use Rattle.urna_outside.specs.Steady.{steady_told}
+use Rattle.memory_outside.specs.Chips.{flashes_in}
+use Rattle.memory_outside.specs.Steady.{steady_told}
 use Rattle.image_codec.specs.Encoding.{IsStateOf}
 use Rattle.image_codec.specs.Valid.{ready_state}
 use Rattle.state_store.specs.Rest.{AreAtRest}

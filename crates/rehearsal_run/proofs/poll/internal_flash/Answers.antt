@@ -1,6 +1,6 @@
 use Rattle.std.proofs.Common.{◌≡◌, ◌∙◌, ◌+◌, ◌-◌, ℕ, List, ◌++◌, take, drop, length, refl, sym, ap, arith}
 use Rattle.std.proofs.lemmas.List.{take_all, take_at}
-use Rattle.urna_outside.specs.Chips.{flashes_in}
+use Rattle.memory_outside.specs.Chips.{flashes_in}
 use Rattle.urna_outside.specs.Flash.{part}
 use Rattle.rehearsal_run.proofs.poll.internal_flash.Goals as goal
 

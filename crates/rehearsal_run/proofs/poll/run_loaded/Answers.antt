@@ -1,5 +1,5 @@
 use Rattle.std.proofs.Common.{◌∙◌, ℕ, length, refl, subst}
-use Rattle.urna_outside.specs.Chips.{flashes_in}
+use Rattle.memory_outside.specs.Chips.{flashes_in}
 use Rattle.election_tables.specs.Roll.{IsRoll, RollData}
 use Rattle.election_tables.specs.TablesData.{IsTables, TablesData}
 use Rattle.election_tables.specs.declared.tables.sections.Section.{Section}

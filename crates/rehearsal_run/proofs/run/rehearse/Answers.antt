@@ -75,8 +75,8 @@ returns c =
     let closes : closed ≡ closing_moment = cc in
     let with_digest = subst (λ (d : List ℕ). IsRehearsal n d last run.0) (ap (λ (x : TablesData). x.digest) c.in_ok-tables_text.ensures.tables) run.1 in
     rehearsed_by n _ s run.0 t r opened closed c.in_ok-tables_text.ensures.tables c.in_ok-roll_text.ensures.roll opens closes
-    c.in_ok-tables_text.ensures.printed c.in_ok-roll_text.ensures.lines c.in_ok-rehearsal_keys.ensures.lines c.in_ok-tables_text.ensures.read
-    c.in_ok-roll_text.ensures.read c.in_ok-rehearsal_keys.ensures.read (subst (λ (u : State). IsRehearsal n digest u run.0) (sym is_last) with_digest)
+    c.in_ok-tables_text.ensures.printed c.in_ok-roll_text.ensures.lines c.in_ok-keys.ensures.lines c.in_ok-tables_text.ensures.read
+    c.in_ok-roll_text.ensures.read c.in_ok-keys.ensures.read (subst (λ (u : State). IsRehearsal n digest u run.0) (sym is_last) with_digest)
     (ap (λ (u : State). u.phase) is_last ∙ run_seals n t.digest last run.0 run.1)
     (c.in_ok-held.ensures.flash ∙ ap (λ (u : State). rest t (load_of t r (generated_section n)) Internal u) (sym is_last)) c.in_ok-totalled.ensures.report
     c.in_ok-totalled.ensures.accepted c.in_ok-totalled.ensures.record_file c.in_ok-totalled.ensures.lines

@@ -2,12 +2,12 @@ use Rattle.std.proofs.Common.{ℕ, List, length, length-append, ap, ◌∙◌, �
 use Rattle.quotients.specs.Average.{AverageData}
 use Rattle.quotients.specs.Order.{parts_of}
 use Rattle.seat_certificate.specs.Reading.{averages_at}
-use Rattle.seat_certificate.specs.Words.{words_left}
+use Rattle.urna_base.specs.Words.{pieces_left}
 use Rattle.seat_certificate.proofs.Passing.{above_last, averages_done, averages_go, averages_stop}
 use Rattle.seat_certificate.proofs.line.averages_of.Goals as goal
 
 pub returns-in_default-average_above : goal.returns-in_default-average_above
-returns-in_default-average_above c = averages_stop c.loop-left.averages c.loop-left.last c.loop-left.left c.in-Some.text _ _ _ c.in-Some.is c.split_word.ensures c.in_default-average_above.ensures c.loop-left.invariant.told
+returns-in_default-average_above c = averages_stop c.loop-left.averages c.loop-left.last c.loop-left.left c.in-Some.text _ _ _ c.in-Some.is c.split_piece.ensures c.in_default-average_above.ensures c.loop-left.invariant.told
 
 pub push-requires : goal.push-requires
 push-requires c =
@@ -20,7 +20,7 @@ loop-left-preserved c =
     let above = above_last c.loop-left.last _ a c.in-Some-average_above.ensures in
     let len = ap (λ (l : List AverageData). length l) c.in_ok-push.ensures.pushed ∙ length-append c.loop-left.averages (a ∷ []) in
     record {
-      told = ap (λ (n : ℕ). averages_at c.push.new.self n (words_left c.split_word.result.1)) c.party-last.ensures ∙ averages_go c.loop-left.averages c.push.new.self c.loop-left.last c.loop-left.left c.in-Some.text _ _ a _ c.in-Some.is c.split_word.ensures c.in-Some-average_above.ensures c.in_ok-push.ensures.pushed c.loop-left.invariant.told;
+      told = ap (λ (n : ℕ). averages_at c.push.new.self n (pieces_left c.split_piece.result.1)) c.party-last.ensures ∙ averages_go c.loop-left.averages c.push.new.self c.loop-left.last c.loop-left.left c.in-Some.text _ _ a _ c.in-Some.is c.split_piece.ensures c.in-Some-average_above.ensures c.in_ok-push.ensures.pushed c.loop-left.invariant.told;
       few = omega (arith, above, len, c.loop-left.invariant.few, c.party-last.ensures);
     }
 

@@ -1,7 +1,8 @@
 use Rattle.std.proofs.Common.{sym, ◌∙◌, ap}
 use Rattle.qr_text.proofs.PieceLaws.{some_piece}
 use Rattle.qr_text.proofs.reader.Reader.has_ended.Goals as goal
-use Rattle.qr_text.specs.Sections.{FieldsLeft, pieces_left}
+use Rattle.qr_text.specs.Sections.{FieldsLeft}
+use Rattle.urna_base.specs.Words.{pieces_left}
 
 pub returns-in-Some : goal.returns-in-Some
 returns-in-Some c = (

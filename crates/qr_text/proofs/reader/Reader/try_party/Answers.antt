@@ -1,7 +1,8 @@
 use Rattle.std.proofs.Common.{Some, None, refl, sym, ◌∙◌, ap}
 use Rattle.qr_text.proofs.VoteLaws.{first_end, first_field}
 use Rattle.qr_text.proofs.reader.Reader.try_party.Goals as goal
-use Rattle.qr_text.specs.Sections.{FieldsLeft, pieces_left}
+use Rattle.qr_text.specs.Sections.{FieldsLeft}
+use Rattle.urna_base.specs.Words.{pieces_left}
 use Rattle.qr_text.specs.Votes.{party_after, party_first}
 
 pub returns-in_default-clause-exact : goal.returns-in_default-clause-exact
@@ -15,8 +16,8 @@ unfolding party_first
 returns-in-None-clause-exact c =
     let s : FieldsLeft = record { left = pieces_left c.self.inside.rest; next = c.self.inside.next } in (
       ap (λ (x : FieldsLeft). party_first c.args.last x) (sym c.self.view_is)
-          ∙ first_field (party_after c.args.last) s.next s.left c.split_field.result.0.now (pieces_left c.split_field.result.1) None
-          (ap pieces_left c.in-Some.is ∙ c.split_field.ensures) (sym c.party_after.ensures ∙ c.in-None.is),
+          ∙ first_field (party_after c.args.last) s.next s.left c.split_piece.result.0.now (pieces_left c.split_piece.result.1) None
+          (ap pieces_left c.in-Some.is ∙ c.split_piece.ensures) (sym c.party_after.ensures ∙ c.in-None.is),
       refl,
     )
 
@@ -25,5 +26,5 @@ unfolding party_first
 returns-in-Some-party_after-clause-exact c =
     let s : FieldsLeft = record { left = pieces_left c.self.inside.rest; next = c.self.inside.next } in
     ap (λ (x : FieldsLeft). party_first c.args.last x) (sym c.self.view_is)
-    ∙ first_field (party_after c.args.last) s.next s.left c.split_field.result.0.now (pieces_left c.split_field.result.1) (Some c.in-Some-party_after.number)
-    (ap pieces_left c.in-Some.is ∙ c.split_field.ensures) (sym c.party_after.ensures ∙ c.in-Some-party_after.is)
+    ∙ first_field (party_after c.args.last) s.next s.left c.split_piece.result.0.now (pieces_left c.split_piece.result.1) (Some c.in-Some-party_after.number)
+    (ap pieces_left c.in-Some.is ∙ c.split_piece.ensures) (sym c.party_after.ensures ∙ c.in-Some-party_after.is)

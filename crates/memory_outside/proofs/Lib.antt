@@ -1,0 +1,7 @@
+mod ItemLemmas
+mod KeptLemmas
+mod Marking
+mod Replays
+mod Rows
+mod Tears
+mod Torn

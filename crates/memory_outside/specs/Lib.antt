@@ -1,0 +1,14 @@
+pub mod CallCounts
+pub mod Chip
+pub mod Chips
+pub mod Item
+pub mod Items
+pub mod Kept
+pub mod MachineLaws
+pub mod Marks
+pub mod Recorder
+pub mod Room
+pub mod Shelf
+pub mod Steady
+pub mod Tape
+pub mod Tear

@@ -1,5 +1,0 @@
-use Rattle.section_intake.specs.Intake.{IsIntakeFor}
-use Rattle.report_bench.proofs.reports.are_accepted.Given as goal
-
-abbrev pub invariant-loop-file : goal.invariant-loop-file
-invariant-loop-file l = IsIntakeFor l.tables l.intake

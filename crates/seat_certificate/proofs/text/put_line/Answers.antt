@@ -1,5 +1,0 @@
-use Rattle.seat_certificate.proofs.Passing.{line_put}
-use Rattle.seat_certificate.proofs.text.put_line.Goals as goal
-
-pub returns : goal.returns
-returns c = line_put c.args.out.now.items c.extend_from_slice.new.self.items c.push.new.self.items c.args.line.now c.in_ok-extend_from_slice.ensures.items c.in_ok-push.ensures.items

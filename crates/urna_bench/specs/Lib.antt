@@ -1,0 +1,2 @@
+pub mod DayBank
+pub mod LedgerBank

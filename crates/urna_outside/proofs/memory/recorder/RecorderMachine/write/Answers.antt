@@ -1,8 +1,0 @@
-use Rattle.std.proofs.Common.{rules}
-use Rattle.urna_outside.specs.Recorder.{room_left}
-use Rattle.urna_outside.proofs.Torn.{runs_torn_put}
-use Rattle.urna_outside.proofs.memory.recorder.RecorderMachine.write.Goals as goal
-
-pub returns-then-not-writes-clause-torn : goal.returns-then-not-writes-clause-torn
-returns-then-not-writes-clause-torn c =
-    runs_torn_put c.fail.result (room_left c.args.self.now) c.args.dev c.args.at c.args.bytes.now _ _ (search rules)

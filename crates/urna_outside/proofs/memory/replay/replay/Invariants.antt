@@ -1,6 +1,0 @@
-use Rattle.urna_outside.specs.Chip.{flash}
-use Rattle.urna_outside.proofs.Replays.{IsReplayed}
-use Rattle.urna_outside.proofs.memory.replay.replay.Given as goal
-
-abbrev pub invariant-loop-op : goal.invariant-loop-op
-invariant-loop-op l = IsReplayed l.tape l.dev l.first l.op-index l.from (flash l.chip)
