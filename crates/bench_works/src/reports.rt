@@ -1,5 +1,5 @@
 //! What is done with the text or the file of a report.
-ghost use Rattle.std.specs.Prelude.{◌≡◌, Some, codes};
+ghost use Rattle.std.specs.Prelude.{◌≡◌, ◌↔◌, Some, codes};
 
 /// What is done with the text or the file of a report.
 #[derive(Clone, Copy, Debug, PartialEq, Eq)]
@@ -21,12 +21,12 @@ pub enum ReportWork {
 impl ReportWork {
     /// The work that a word names.
     pub fn of(word: &str) -> Option<ReportWork>
-        ensures read { result ≡ Some ReportWork.Read → word.now ≡ codes "le" }
-        ensures write { result ≡ Some ReportWork.Write → word.now ≡ codes "escreve" }
-        ensures hash { result ≡ Some ReportWork.Hash → word.now ≡ codes "hash" }
-        ensures join { result ≡ Some ReportWork.Join → word.now ≡ codes "junta" }
-        ensures make { result ≡ Some ReportWork.Make → word.now ≡ codes "parte" }
-        ensures record { result ≡ Some ReportWork.Record → word.now ≡ codes "registro" }
+        ensures read { (result ≡ Some ReportWork.Read) ↔ (word.now ≡ codes "le") }
+        ensures write { (result ≡ Some ReportWork.Write) ↔ (word.now ≡ codes "escreve") }
+        ensures hash { (result ≡ Some ReportWork.Hash) ↔ (word.now ≡ codes "hash") }
+        ensures join { (result ≡ Some ReportWork.Join) ↔ (word.now ≡ codes "junta") }
+        ensures make { (result ≡ Some ReportWork.Make) ↔ (word.now ≡ codes "parte") }
+        ensures record { (result ≡ Some ReportWork.Record) ↔ (word.now ≡ codes "registro") }
     {
         match word {
             "le" => Some(ReportWork::Read),

@@ -1,5 +1,5 @@
 //! What is done with a document of tables.
-ghost use Rattle.std.specs.Prelude.{◌≡◌, Some, codes};
+ghost use Rattle.std.specs.Prelude.{◌≡◌, ◌↔◌, Some, codes};
 
 /// What is done with a document of tables.
 #[derive(Clone, Copy, Debug, PartialEq, Eq)]
@@ -13,8 +13,8 @@ pub enum TablesWork {
 impl TablesWork {
     /// The work that a word names.
     pub fn of(word: &str) -> Option<TablesWork>
-        ensures tables { result ≡ Some TablesWork.Tables → word.now ≡ codes "tables" }
-        ensures toml { result ≡ Some TablesWork.Toml → word.now ≡ codes "toml" }
+        ensures tables { (result ≡ Some TablesWork.Tables) ↔ (word.now ≡ codes "tables") }
+        ensures toml { (result ≡ Some TablesWork.Toml) ↔ (word.now ≡ codes "toml") }
     {
         match word {
             "tables" => Some(TablesWork::Tables),

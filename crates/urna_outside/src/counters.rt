@@ -1,5 +1,5 @@
 //! Counts of faults. At its last value a count stands.
-ghost use Rattle.std.specs.Prelude.{◌≡◌, IsErr, is_ok};
+ghost use Rattle.std.specs.Prelude.{◌≡◌, IsErr, OnErr, is_ok};
 ghost use Rattle.urna_outside.specs.Told.{Counts, faults_after};
 
 use crate::{Failed, Port};
@@ -43,6 +43,7 @@ impl Counters {
     /// Counts a failure where that came of a call, and answers whether it did.
     pub fn count<E: Drop>(&mut self, port: Port, outcome: Result<(), E>) -> Result<(), Failed>
         ensures result { is_ok result ≡ is_ok outcome }
+        ensures after { OnErr result (faults_in self.new ≡ faults_after port (faults_in self.old)) }
         ensures counts { Counts port result (faults_in self.old) (faults_in self.new) }
     {
         match outcome {

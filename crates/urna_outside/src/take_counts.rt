@@ -13,7 +13,7 @@ pub struct TakeCounts {
 }
 
 impl TakeCounts {
-    ghost use Rattle.urna_outside.specs.TakeCounts.{tally_of, no_tally};
+    ghost use Rattle.urna_outside.specs.TakeCounts.{no_tally, tally_after, tally_of};
 
     /// Nothing was counted.
     pub fn new() -> TakeCounts
@@ -28,6 +28,7 @@ impl TakeCounts {
 
     /// Counts why a file was not taken or put. Want of memory isn't counted.
     pub fn count(&mut self, error: CabinetError)
+        ensures after { tally_of self.new ≡ tally_after error (tally_of self.old) }
         ensures memory { error ≡ CabinetError.Memory → tally_of self.new ≡ tally_of self.old }
         ensures failed { error ≡ CabinetError.Failed →
             CountsFault (tally_of self.old) (tally_of self.new) }
