@@ -1,4 +1,4 @@
--- The counts of a machine in memory.
+-- The counts of a machine's calls.
 use Rattle.urna_outside.specs.Told.{Calls}
 use Rattle.memory_outside.specs.declared.call_counts.CallCounts.{CallCounts}
 

@@ -1,7 +1,7 @@
 //! The outside in memory: machines and cabinets that serve the rehearsal and tests. No real election runs them.
 //!
 //! `Recorder` and `Shelf` tell everything, and fail where they are told to or find no room; a `Recorder` also gives the
-//! image of a device at any stop. `Steady` never fails. `Watched` is a `Shelf` that notes what is put.
+//! image of a device at any stop. `Steady` never fails. `WatchedShelf` is a `Shelf` that notes what is put.
 #![tactic(auto)]
 
 mod call_counts;
@@ -21,4 +21,4 @@ pub use recorder::Recorder;
 pub use shelf::Shelf;
 pub use steady::Steady;
 pub use tear::Tear;
-pub use watched::Watched;
+pub use watched::WatchedShelf;

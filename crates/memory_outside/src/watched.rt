@@ -1,4 +1,5 @@
-//! A shelf that notes the names of the files that are put. It keeps the clauses of `Cabinet`, so a command can be given it.
+//! A shelf that notes the names of the files that are put. It keeps the clauses of `Cabinet`, so a command can be given it. What it notes is
+//! said by no clause; the scripts of `session_tests` show it.
 
 ghost use Rattle.std.specs.Prelude.{◌≡◌};
 ghost use Rattle.memory_outside.specs.Shelf.{shelf_told};
@@ -9,14 +10,27 @@ use urna_outside::{Cabinet, CabinetError, Failed};
 
 /// A shelf, the names of the files that were put on it, in their order, and whether one of these couldn't be noted.
 #[derive(Drop)]
-pub struct Watched {
+pub struct WatchedShelf {
     pub shelf: Shelf,
-    pub alloc: Global,
+    alloc: Global,
     pub puts: Vec<String>,
     pub lost: bool,
 }
 
-impl Watched {
+impl WatchedShelf {
+    /// A shelf on which nothing was put yet.
+    pub fn new(alloc: Global, shelf: Shelf) -> WatchedShelf
+        ensures { result.shelf ≡ shelf }
+    {
+        WatchedShelf {
+            shelf,
+            alloc,
+            puts: Vec::new(alloc),
+            lost: false,
+        }
+    }
+
+    /// Notes a name behind the others, or that one is lost.
     fn note(&mut self, name: &str)
         ensures { self.new.shelf ≡ self.old.shelf }
     {
@@ -28,7 +42,7 @@ impl Watched {
     }
 }
 
-impl Cabinet for Watched {
+impl Cabinet for WatchedShelf {
     ghost told = { λ watched. shelf_told watched.shelf };
 
     fn take(&mut self, alloc: Global, name: &str, limit: u32) -> Result<Vec<u8>, CabinetError> {

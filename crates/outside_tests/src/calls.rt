@@ -47,7 +47,7 @@ fn write<M: Machine>(
     m.write(dev, at, bytes)
 }
 
-pub(crate) fn make<M: Machine>(rt: &impl Abort, m: &mut M, call: Call<'_>) -> Result<(), Failed> {
+fn make<M: Machine>(rt: &impl Abort, m: &mut M, call: Call<'_>) -> Result<(), Failed> {
     match call {
         Call::Read(dev, at, bytes) => read(rt, m, dev, at, bytes),
         Call::Write(dev, at, bytes) => write(rt, m, dev, at, bytes),
@@ -66,7 +66,7 @@ pub(crate) fn make_all<M: Machine>(rt: &impl Abort, m: &mut M, calls: &[(Call<'_
 }
 
 /// What is taken: a file's bytes, or why it isn't.
-pub(crate) fn check_take<C: Cabinet>(
+fn check_take<C: Cabinet>(
     rt: &impl Abort,
     alloc: Global,
     cabinet: &mut C,
@@ -83,13 +83,33 @@ pub(crate) fn check_take<C: Cabinet>(
 }
 
 /// Puts a file, which ends well or not.
-pub(crate) fn check_put<C: Cabinet>(
-    rt: &impl Abort,
-    cabinet: &mut C,
-    name: &str,
-    bytes: &[u8],
-    is_ok: bool,
-) {
+fn check_put<C: Cabinet>(rt: &impl Abort, cabinet: &mut C, name: &str, bytes: &[u8], is_ok: bool) {
     let answer = cabinet.put(name, bytes);
     assert!(rt; answer.is_ok() == is_ok, "at {name}");
+}
+
+/// A call of a cabinet, and what comes of it.
+#[derive(Clone, Copy)]
+pub(crate) enum FileCall<'a> {
+    // Up to a limit: a file's bytes, or why it isn't taken.
+    Take(&'a str, u32, Result<&'a [u8], CabinetError>),
+    // Of these bytes, which ends well or not.
+    Put(&'a str, &'a [u8], bool),
+}
+
+/// Makes one after the other.
+pub(crate) fn make_file_calls<C: Cabinet>(
+    rt: &impl Abort,
+    alloc: Global,
+    cabinet: &mut C,
+    calls: &[FileCall<'_>],
+) {
+    for call in calls {
+        match *call {
+            FileCall::Take(name, limit, taken) => {
+                check_take(rt, alloc, cabinet, name, limit, taken)
+            }
+            FileCall::Put(name, bytes, is_ok) => check_put(rt, cabinet, name, bytes, is_ok),
+        }
+    }
 }

@@ -1,5 +1,5 @@
 //! What is done to real files, and what is left of them.
-use crate::calls::{Call, check_put, check_take, make_all};
+use crate::calls::{Call, FileCall, make_all, make_file_calls};
 use crate::watched::{Fault, OWN_FOLDER, Step, Watch, Watched};
 use std::alloc::Global;
 use std::io::ErrorKind;
@@ -31,28 +31,39 @@ fn there(rt: &HostRuntime) -> [bool; 4] {
     ]
 }
 
-fn remove_files(rt: &HostRuntime) {
-    for name in FILES {
-        let _ = fs::remove_file(rt, name);
+fn remove(rt: &HostRuntime, names: &[&str]) {
+    for name in names {
+        let _ = fs::remove_file(rt, *name);
     }
+}
+
+fn remove_files(rt: &HostRuntime) {
+    remove(rt, &FILES);
 }
 
 fn place(abort: &impl Abort, rt: &HostRuntime, name: &str, bytes: &[u8]) {
     assert!(abort; fs::write(rt, name, bytes).is_ok(), "{name}");
 }
 
+/// A name that leads to another, which may be none.
+fn link(abort: &impl Abort, rt: &HostRuntime, to: &str, name: &str) {
+    assert!(abort; symlink(rt, to, name).is_ok(), "{name}");
+}
+
 fn check_left(abort: &impl Abort, rt: &HostRuntime, name: &str, bytes: &[u8]) {
-    match fs::read(rt, name) {
-        Ok(left) => assert_eq!(abort; left.as_slice(), bytes, "{name}"),
-        Err(error) => assert_eq!(abort; Some(error.kind()), None, "{name}"),
-    }
+    let is_left = match fs::read(rt, name) {
+        Ok(left) => left.as_slice() == bytes,
+        Err(_) => false,
+    };
+    assert!(abort; is_left, "{name}");
 }
 
 fn check_steps(abort: &impl Abort, alloc: Global, watch: &Watch, steps: &[Step]) {
-    match watch.take_steps(alloc) {
-        Ok(taken) => assert_eq!(abort; taken.as_slice(), steps),
-        Err(error) => assert_eq!(abort; Some(error.kind()), None),
-    }
+    let are_taken = match watch.take_steps(alloc) {
+        Ok(taken) => taken.as_slice() == steps,
+        Err(_) => false,
+    };
+    assert!(abort; are_taken, "{} steps", steps.len());
 }
 
 /// Makes calls on a machine over two flashes of so many bytes. It ends here, and its locks with it.
@@ -85,6 +96,27 @@ fn run_watched(abort: &impl Abort, rt: &HostRuntime, fault: Fault, rows: &[Row<'
     make_rows(abort, rt.alloc(), &watch, &mut m, rows);
 }
 
+/// Takes and puts files of the working folder.
+fn use_folder(abort: &impl Abort, rt: &HostRuntime, calls: &[FileCall<'_>]) {
+    let mut folder = FolderCabinet::new(rt);
+    make_file_calls(abort, rt.alloc(), &mut folder, calls);
+}
+
+/// The same over watched files, with these steps.
+fn use_watched_folder(
+    abort: &impl Abort,
+    rt: &HostRuntime,
+    fault: Fault,
+    calls: &[FileCall<'_>],
+    steps: &[Step],
+) {
+    let watch = Watch::new(rt.alloc(), fault);
+    let watched = Watched { rt, watch: &watch };
+    let mut folder = FolderCabinet::new(&watched);
+    make_file_calls(abort, rt.alloc(), &mut folder, calls);
+    check_steps(abort, rt.alloc(), &watch, steps);
+}
+
 /// What a first write does where nothing has the name of the flash.
 const MADE: [Step; 9] = [
     Step::Open,
@@ -104,7 +136,7 @@ fn a_flash_is_whole_on_the_disk_before_it_has_its_name(rt: HostRuntime) {
     let opened = [Step::Open, Step::Lock, Step::Duplicate, Step::Write];
     let making = [(Call::Write(Dev::External, 3, &[7]), true, MADE.as_slice())];
     run_watched(&rt, &rt, Fault::Nothing, &making);
-    assert_eq!(rt; there(&rt), [false, true, false, false]);
+    assert!(rt; there(&rt) == [false, true, false, false]);
     let opening = [(Call::Write(Dev::External, 4, &[8]), true, opened.as_slice())];
     run_watched(&rt, &rt, Fault::Nothing, &opening);
     let left = [0, 0, 0, 7, 8, 0, 0, 0, 0, 0, 0, 0, 0, 0, 0, 0];
@@ -194,7 +226,7 @@ fn a_making_that_fails_leaves_no_file(rt: HostRuntime) {
     ] {
         let rows = [(Call::Read(Dev::Internal, 0, &[0]), false, steps)];
         run_watched(&rt, &rt, Fault::Kind(failing), &rows);
-        assert_eq!(rt; there(&rt), [false; 4], "at {failing:?}");
+        assert!(rt; there(&rt) == [false; 4], "after {} steps", steps.len());
     }
 }
 
@@ -208,9 +240,9 @@ fn a_new_file_that_is_not_locked_stays(rt: HostRuntime) {
         [Step::Open, Step::Create, Step::Lock].as_slice(),
     )];
     run_watched(&rt, &rt, Fault::Kind(Step::Lock), &rows);
-    assert_eq!(rt; there(&rt), [false, false, true, false]);
+    assert!(rt; there(&rt) == [false, false, true, false]);
     run(&rt, &rt, 16, &[(Call::Sync(Dev::Internal), true)]);
-    assert_eq!(rt; there(&rt), [true, false, false, false]);
+    assert!(rt; there(&rt) == [true, false, false, false]);
     remove_files(&rt);
 }
 
@@ -253,12 +285,12 @@ fn one_run_at_a_time_makes_a_flash(rt: HostRuntime) -> Result<(), Fail> {
     other.lock()?;
     let mut m = FileMachine::new(&rt, 4);
     make_all(&rt, &mut m, &[(Call::Sync(Dev::Internal), false)]);
-    assert_eq!(rt; there(&rt), [false, false, true, false]);
+    assert!(rt; there(&rt) == [false, false, true, false]);
     // That run is killed.
     other.unlock()?;
     let after = [(Call::Write(Dev::Internal, 3, &[1]), true)];
     make_all(&rt, &mut m, &after);
-    assert_eq!(rt; there(&rt), [true, false, false, false]);
+    assert!(rt; there(&rt) == [true, false, false, false]);
     check_left(&rt, &rt, "internal.flash", &[0, 0, 0, 1]);
     remove_files(&rt);
     Ok(())
@@ -269,12 +301,11 @@ fn one_file_under_both_names_is_a_fault(rt: HostRuntime) {
     remove_files(&rt);
     for is_link in [false, true] {
         place(&rt, &rt, "internal.flash", &[7; 4]);
-        let linked = if is_link {
-            symlink(&rt, "internal.flash", "external.flash")
+        if is_link {
+            link(&rt, &rt, "internal.flash", "external.flash");
         } else {
-            fs::hard_link(&rt, "internal.flash", "external.flash")
-        };
-        assert!(rt; linked.is_ok());
+            assert!(rt; fs::hard_link(&rt, "internal.flash", "external.flash").is_ok());
+        }
         let calls = [
             (Call::Sync(Dev::Internal), true),
             (Call::Sync(Dev::External), false),
@@ -287,54 +318,56 @@ fn one_file_under_both_names_is_a_fault(rt: HostRuntime) {
 }
 
 #[test]
-fn a_link_that_leads_nowhere_stays(rt: HostRuntime) -> Result<(), Fail> {
+fn a_link_that_leads_nowhere_stays(rt: HostRuntime) {
     remove_files(&rt);
-    symlink(&rt, "card/e", "external.flash")?;
+    link(&rt, &rt, "card/e", "external.flash");
     let calls = [
         (Call::Sync(Dev::External), false),
         (Call::Read(Dev::External, 0, &[0]), false),
         (Call::Write(Dev::External, 0, &[1]), false),
     ];
     run(&rt, &rt, 4, &calls);
-    assert_eq!(rt; there(&rt), [false, true, false, false]);
-    assert_eq!(rt; fs::read_link(&rt, "external.flash")?.as_str(), "card/e");
+    assert!(rt; there(&rt) == [false, true, false, false]);
+    let stays = match fs::read_link(&rt, "external.flash") {
+        Ok(to) => to.as_str() == "card/e",
+        Err(_) => false,
+    };
+    assert!(rt; stays);
     remove_files(&rt);
-    Ok(())
 }
 
 #[test]
-fn what_a_leftover_leads_to_stays(rt: HostRuntime) -> Result<(), Fail> {
+fn what_a_leftover_leads_to_stays(rt: HostRuntime) {
     remove_files(&rt);
     place(&rt, &rt, "kept.tmp", b"kept");
-    symlink(&rt, "kept.tmp", "internal.flash.new")?;
-    fs::hard_link(&rt, "kept.tmp", "external.flash.new")?;
+    link(&rt, &rt, "kept.tmp", "internal.flash.new");
+    assert!(rt; fs::hard_link(&rt, "kept.tmp", "external.flash.new").is_ok());
     let calls = [
         (Call::Write(Dev::Internal, 0, &[1]), true),
         (Call::Write(Dev::External, 0, &[2]), true),
     ];
     run(&rt, &rt, 2, &calls);
-    assert_eq!(rt; there(&rt), [true, true, false, false]);
+    assert!(rt; there(&rt) == [true, true, false, false]);
     check_left(&rt, &rt, "kept.tmp", b"kept");
     check_left(&rt, &rt, "internal.flash", &[1, 0]);
     check_left(&rt, &rt, "external.flash", &[2, 0]);
-    fs::remove_file(&rt, "kept.tmp")?;
+    remove(&rt, &["kept.tmp"]);
     remove_files(&rt);
-    Ok(())
 }
 
 #[test]
 fn a_file_machine_makes_no_file_before_an_operation_on_it(rt: HostRuntime) {
     remove_files(&rt);
     let mut m = FileMachine::new(&rt, 16);
-    assert_eq!(rt; m.size(Dev::Internal), 16);
+    assert!(rt; m.size(Dev::Internal) == 16);
     make_all(&rt, &mut m, &[(Call::Show(b"URNA PRONTA 0\n"), true)]);
-    assert_eq!(rt; there(&rt), [false; 4]);
+    assert!(rt; there(&rt) == [false; 4]);
     make_all(
         &rt,
         &mut m,
         &[(Call::Read(Dev::External, 0, &[0; 16]), true)],
     );
-    assert_eq!(rt; there(&rt), [false, true, false, false]);
+    assert!(rt; there(&rt) == [false, true, false, false]);
     check_left(&rt, &rt, "external.flash", &[0; 16]);
     remove_files(&rt);
 }
@@ -365,14 +398,6 @@ fn another_machine_reads_what_was_written_to_the_files(rt: HostRuntime) {
     let left = [0, 0, 0, 1, 8, 3, 0, 0, 0, 0, 0, 0, 0, 0, 0, 0];
     check_left(&rt, &rt, "internal.flash", &left);
     remove_files(&rt);
-}
-
-/// A folder, each call on which fails in the same way, takes this.
-fn check_refused(abort: &impl Abort, rt: &HostRuntime, kind: ErrorKind, error: CabinetError) {
-    let watch = Watch::new(rt.alloc(), Fault::Everything(kind));
-    let watched = Watched { rt, watch: &watch };
-    let mut folder = FolderCabinet::new(&watched);
-    check_take(abort, rt.alloc(), &mut folder, "rol", 9, Err(error));
 }
 
 #[test]
@@ -407,7 +432,8 @@ fn a_refusal_of_the_system_is_a_failure(rt: HostRuntime) {
             (Call::Write(Dev::External, 0, &[1]), false, steps),
             (Call::Sync(Dev::Internal), false, steps),
         ];
-        check_refused(&rt, &rt, kind, error);
+        let taking = [FileCall::Take("rol", 9, Err(error))];
+        use_watched_folder(&rt, &rt, Fault::Everything(kind), &taking, &refused);
         run_watched(&rt, &rt, Fault::Everything(kind), &rows);
     }
 }
@@ -415,39 +441,31 @@ fn a_refusal_of_the_system_is_a_failure(rt: HostRuntime) {
 #[test]
 fn a_document_is_read_through_a_duplicate(rt: HostRuntime) {
     place(&rt, &rt, "taken.tmp", b"1");
-    let watch = Watch::new(rt.alloc(), Fault::Nothing);
-    let watched = Watched {
-        rt: &rt,
-        watch: &watch,
-    };
-    let mut folder = FolderCabinet::new(&watched);
-    check_take(&rt, rt.alloc(), &mut folder, "taken.tmp", 9, Ok(b"1"));
-    check_steps(&rt, rt.alloc(), &watch, &[Step::Open, Step::Duplicate]);
-    let _ = fs::remove_file(&rt, "taken.tmp");
+    let taking = [FileCall::Take("taken.tmp", 9, Ok(b"1"))];
+    let steps = [Step::Open, Step::Duplicate];
+    use_watched_folder(&rt, &rt, Fault::Nothing, &taking, &steps);
+    remove(&rt, &["taken.tmp"]);
 }
 
 /// Of a file of 70,000 bytes.
 #[test]
-fn a_folder_gives_a_file_up_to_the_limit(rt: HostRuntime) -> Result<(), Fail> {
-    let name = "taken.tmp";
-    let bytes = vec![in rt.alloc(); b'x'; 70_000]?;
-    place(&rt, &rt, name, &bytes);
-    let mut folder = FolderCabinet::new(&rt);
-    for (name, limit, taken) in [
-        (name, 70_000, Ok(bytes.as_slice())),
-        (name, 69_999, Err(CabinetError::TooLong)),
+fn a_folder_gives_a_file_up_to_the_limit(rt: HostRuntime) {
+    let bytes = [b'x'; 70_000];
+    place(&rt, &rt, "taken.tmp", &bytes);
+    let calls = [
+        FileCall::Take("taken.tmp", 70_000, Ok(&bytes)),
+        FileCall::Take("taken.tmp", 69_999, Err(CabinetError::TooLong)),
         // A file where a folder should be.
-        ("taken.tmp/x", 9, Err(CabinetError::Failed)),
-        ("taken", 9, Err(CabinetError::Missing)),
-        ("", 9, Err(CabinetError::Missing)),
-        ("no/such/file", 9, Err(CabinetError::Missing)),
-        (".", 9, Err(CabinetError::Failed)),
-        ("a\0b", 9, Err(CabinetError::Failed)),
-    ] {
-        check_take(&rt, rt.alloc(), &mut folder, name, limit, taken);
-    }
-    fs::remove_file(&rt, name)?;
-    Ok(())
+        FileCall::Take("taken.tmp/x", 9, Err(CabinetError::Failed)),
+        FileCall::Take("taken", 9, Err(CabinetError::Missing)),
+        FileCall::Take("", 9, Err(CabinetError::Missing)),
+        FileCall::Take("no/such/file", 9, Err(CabinetError::Missing)),
+        FileCall::Take(".", 9, Err(CabinetError::Failed)),
+        FileCall::Take("a\0b", 9, Err(CabinetError::Failed)),
+    ];
+    use_folder(&rt, &rt, &calls);
+    check_left(&rt, &rt, "taken.tmp", &bytes);
+    remove(&rt, &["taken.tmp"]);
 }
 
 /// Puts a file in the stead of another, with these steps. The other name is gone then.
@@ -460,14 +478,11 @@ fn check_watched_put(
     steps: &[Step],
 ) {
     place(abort, rt, "put.tmp", b"1");
-    let watch = Watch::new(rt.alloc(), fault);
-    let watched = Watched { rt, watch: &watch };
-    let mut folder = FolderCabinet::new(&watched);
-    check_put(abort, &mut folder, "put.tmp", b"23", is_ok);
+    let putting = [FileCall::Put("put.tmp", b"23", is_ok)];
+    use_watched_folder(abort, rt, fault, &putting, steps);
     check_left(abort, rt, "put.tmp", left);
-    check_steps(abort, rt.alloc(), &watch, steps);
     assert!(abort; !is_there(rt, "put.tmp.new"));
-    let _ = fs::remove_file(rt, "put.tmp");
+    remove(rt, &["put.tmp"]);
 }
 
 /// What a put does where a file has the name, which is tried for its lock before it is replaced.
@@ -489,19 +504,10 @@ fn a_put_is_whole_on_the_disk_before_it_has_its_name(rt: HostRuntime) {
     check_watched_put(&rt, &rt, Fault::Nothing, true, b"23", &PUT);
 }
 
-/// Puts a file into a folder of its own.
-fn check_put_in_folder(abort: &impl Abort, rt: &HostRuntime, watch: &Watch) {
-    let watched = Watched { rt, watch };
-    let mut folder = FolderCabinet::new(&watched);
-    check_put(abort, &mut folder, "own.tmp/put.tmp", b"1", true);
-    let _ = fs::remove_file(rt, "own.tmp/put.tmp");
-}
-
 #[test]
-fn a_put_syncs_the_folder_of_its_own_path(rt: HostRuntime) -> Result<(), Fail> {
-    fs::create_dir(&rt, OWN_FOLDER)?;
-    let watch = Watch::new(rt.alloc(), Fault::Nothing);
-    check_put_in_folder(&rt, &rt, &watch);
+fn a_put_syncs_the_folder_of_its_own_path(rt: HostRuntime) {
+    assert!(rt; fs::create_dir(&rt, OWN_FOLDER).is_ok());
+    let putting = [FileCall::Put("own.tmp/put.tmp", b"1", true)];
     let steps = [
         Step::Create,
         Step::Lock,
@@ -512,9 +518,9 @@ fn a_put_syncs_the_folder_of_its_own_path(rt: HostRuntime) -> Result<(), Fail> {
         Step::OpenOwnFolder,
         Step::SyncFolder,
     ];
-    check_steps(&rt, rt.alloc(), &watch, &steps);
-    fs::remove_dir(&rt, OWN_FOLDER)?;
-    Ok(())
+    use_watched_folder(&rt, &rt, Fault::Nothing, &putting, &steps);
+    remove(&rt, &["own.tmp/put.tmp"]);
+    assert!(rt; fs::remove_dir(&rt, OWN_FOLDER).is_ok());
 }
 
 /// The steps up to one that fails, and the removal of the new file.
@@ -552,21 +558,13 @@ fn a_put_that_fails_behind_the_name_leaves_the_new_file(rt: HostRuntime) {
 
 /// A second run has removed the new file and made its own.
 #[test]
-fn a_put_leaves_a_file_that_is_not_its_own(rt: HostRuntime) -> Result<(), Fail> {
+fn a_put_leaves_a_file_that_is_not_its_own(rt: HostRuntime) {
     place(&rt, &rt, "put.tmp", b"1");
-    let watch = Watch::new(rt.alloc(), Fault::Stolen);
-    let watched = Watched {
-        rt: &rt,
-        watch: &watch,
-    };
-    let mut folder = FolderCabinet::new(&watched);
-    check_put(&rt, &mut folder, "put.tmp", b"23", false);
+    let putting = [FileCall::Put("put.tmp", b"23", false)];
+    use_watched_folder(&rt, &rt, Fault::Stolen, &putting, &PUT[..5]);
     check_left(&rt, &rt, "put.tmp", b"1");
     check_left(&rt, &rt, "put.tmp.new", b"stolen");
-    check_steps(&rt, rt.alloc(), &watch, &PUT[..5]);
-    fs::remove_file(&rt, "put.tmp")?;
-    fs::remove_file(&rt, "put.tmp.new")?;
-    Ok(())
+    remove(&rt, &["put.tmp", "put.tmp.new"]);
 }
 
 /// Whoever has it locked goes on with it.
@@ -576,90 +574,87 @@ fn one_run_at_a_time_puts_a_file(rt: HostRuntime) -> Result<(), Fail> {
     place(&rt, &rt, "put.tmp.new", b"0");
     let other = fs::open(&rt, "put.tmp.new")?;
     other.lock()?;
-    let mut folder = FolderCabinet::new(&rt);
-    check_put(&rt, &mut folder, "put.tmp", b"1", false);
+    use_folder(&rt, &rt, &[FileCall::Put("put.tmp", b"1", false)]);
     check_left(&rt, &rt, "put.tmp.new", b"0");
     assert!(rt; !is_there(&rt, "put.tmp"));
     // That run is killed.
     other.unlock()?;
-    check_put(&rt, &mut folder, "put.tmp", b"1", true);
+    use_folder(&rt, &rt, &[FileCall::Put("put.tmp", b"1", true)]);
+    check_left(&rt, &rt, "put.tmp", b"1");
     assert!(rt; !is_there(&rt, "put.tmp.new"));
-    fs::remove_file(&rt, "put.tmp")?;
+    remove(&rt, &["put.tmp"]);
     Ok(())
 }
 
 #[test]
-fn a_put_replaces_no_flash_that_is_open(rt: HostRuntime) -> Result<(), Fail> {
+fn a_put_replaces_no_flash_that_is_open(rt: HostRuntime) {
     remove_files(&rt);
     place(&rt, &rt, "put.tmp", &[7; 4]);
-    symlink(&rt, "put.tmp", "internal.flash")?;
+    link(&rt, &rt, "put.tmp", "internal.flash");
     let mut m = FileMachine::new(&rt, 4);
     make_all(&rt, &mut m, &[(Call::Sync(Dev::Internal), true)]);
-    let mut folder = FolderCabinet::new(&rt);
-    check_put(&rt, &mut folder, "put.tmp", b"1", false);
+    use_folder(&rt, &rt, &[FileCall::Put("put.tmp", b"1", false)]);
     check_left(&rt, &rt, "put.tmp", &[7; 4]);
     assert!(rt; !is_there(&rt, "put.tmp.new"));
     // The link is replaced, and not the flash that it leads to.
-    check_put(&rt, &mut folder, "internal.flash", b"1", true);
+    use_folder(&rt, &rt, &[FileCall::Put("internal.flash", b"1", true)]);
     check_left(&rt, &rt, "put.tmp", &[7; 4]);
-    fs::remove_file(&rt, "put.tmp")?;
+    remove(&rt, &["put.tmp"]);
     remove_files(&rt);
-    Ok(())
+}
+
+/// Puts a file under a name of these letters, which ends well or not.
+fn check_long_name(abort: &impl Abort, rt: &HostRuntime, bytes: &[u8], is_ok: bool) {
+    let name = str::from_utf8(bytes).ok().expect(abort, "letters");
+    use_folder(abort, rt, &[FileCall::Put(name, b"1", is_ok)]);
+    remove(rt, &[name]);
 }
 
 /// A name has 255 bytes at most, also while its file is made.
 #[test]
-fn a_put_has_room_for_the_end_of_its_other_name(rt: HostRuntime) -> Result<(), Fail> {
-    let mut folder = FolderCabinet::new(&rt);
+fn a_put_has_room_for_the_end_of_its_other_name(rt: HostRuntime) {
     for (len, is_ok) in [(251, true), (252, false), (255, false), (256, false)] {
-        // a slice of a longer name would owe that it ends at a letter
-        let bytes = vec![in rt.alloc(); b'n'; len]?;
-        let name = str::from_utf8(&bytes).ok().ok_or("it has other bytes")?;
-        check_put(&rt, &mut folder, name, b"1", is_ok);
-        let _ = fs::remove_file(&rt, name);
+        check_long_name(&rt, &rt, &[b'n'; 256][..len], is_ok);
     }
-    Ok(())
 }
 
 /// Over links, which aren't followed, and over what an earlier run left.
 #[test]
-fn a_folder_puts_files(rt: HostRuntime) -> Result<(), Fail> {
+fn a_folder_puts_files(rt: HostRuntime) {
     place(&rt, &rt, "other.tmp", b"other");
     place(&rt, &rt, "put.tmp.new", b"left over");
-    symlink(&rt, "other.tmp", "linked.tmp")?;
-    symlink(&rt, "other.tmp", "linked.tmp.new")?;
-    fs::create_dir(&rt, "folder.tmp")?;
-    let mut folder = FolderCabinet::new(&rt);
-    for (name, bytes, is_ok) in [
-        ("put.tmp", b"1".as_slice(), true),
-        ("put.tmp", b"", true),
-        ("linked.tmp", b"23", true),
-        ("folder.tmp/put.tmp", b"4", true),
-        ("folder.tmp", b"5", false),
-        ("no/such/file", b"6", false),
-        ("put.tmp/x", b"7", false),
-        ("", b"8", false),
-        ("a\0b", b"9", false),
-    ] {
-        check_put(&rt, &mut folder, name, bytes, is_ok);
-        if is_ok {
-            check_take(&rt, rt.alloc(), &mut folder, name, 9, Ok(bytes));
-        }
-    }
+    link(&rt, &rt, "other.tmp", "linked.tmp");
+    link(&rt, &rt, "other.tmp", "linked.tmp.new");
+    assert!(rt; fs::create_dir(&rt, "folder.tmp").is_ok());
+    let calls = [
+        FileCall::Put("no/such/file", b"6", false),
+        FileCall::Put("put.tmp", b"1", true),
+        FileCall::Take("put.tmp", 9, Ok(b"1")),
+        FileCall::Put("put.tmp", b"", true),
+        FileCall::Take("put.tmp", 9, Ok(b"")),
+        FileCall::Put("linked.tmp", b"23", true),
+        FileCall::Take("linked.tmp", 9, Ok(b"23")),
+        FileCall::Put("folder.tmp/put.tmp", b"4", true),
+        FileCall::Take("folder.tmp/put.tmp", 9, Ok(b"4")),
+        FileCall::Put("folder.tmp", b"5", false),
+        FileCall::Put("put.tmp/x", b"7", false),
+        FileCall::Put("", b"8", false),
+        FileCall::Put("a\0b", b"9", false),
+    ];
+    use_folder(&rt, &rt, &calls);
     check_left(&rt, &rt, "other.tmp", b"other");
-    for name in [
-        "put.tmp",
-        "linked.tmp",
-        "folder.tmp",
-        "folder.tmp/put.tmp",
-        "",
+    for unfinished in [
+        "put.tmp.new",
+        "linked.tmp.new",
+        "folder.tmp.new",
+        "folder.tmp/put.tmp.new",
+        ".new",
     ] {
-        let unfinished = format!(in rt.alloc(); "{name}.new")?;
-        assert!(rt; !is_there(&rt, unfinished.as_str()), "{name}");
+        assert!(rt; !is_there(&rt, unfinished), "{unfinished}");
     }
-    for name in ["other.tmp", "put.tmp", "linked.tmp", "folder.tmp/put.tmp"] {
-        fs::remove_file(&rt, name)?;
-    }
-    fs::remove_dir(&rt, "folder.tmp")?;
-    Ok(())
+    remove(
+        &rt,
+        &["other.tmp", "put.tmp", "linked.tmp", "folder.tmp/put.tmp"],
+    );
+    assert!(rt; fs::remove_dir(&rt, "folder.tmp").is_ok());
 }

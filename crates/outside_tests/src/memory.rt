@@ -1,5 +1,5 @@
 //! Machines and a cabinet in memory.
-use crate::calls::{Call, check_put, check_take, make_all};
+use crate::calls::{Call, FileCall, make_all, make_file_calls};
 use memory_outside::{Recorder, Shelf, Steady, Tear};
 use std::alloc::Global;
 use std::process::Abort;
@@ -10,7 +10,7 @@ use urna_outside::{CabinetError, Dev, Machine};
 #[test]
 fn a_recorder_shows_what_it_is_given(rt: HostRuntime) -> Result<(), Fail> {
     let mut m = Recorder::new(rt.alloc(), 512, 4, 64, &[])?;
-    assert_eq!(rt; m.size(Dev::External), 512);
+    assert!(rt; m.size(Dev::External) == 512);
     make_all(
         &rt,
         &mut m,
@@ -20,7 +20,7 @@ fn a_recorder_shows_what_it_is_given(rt: HostRuntime) -> Result<(), Fail> {
             (Call::Show(b"ZERESIMA\n"), true),
         ],
     );
-    assert_eq!(rt; m.shown(), b"URNA PRONTA 0\nZERESIMA\n".as_slice());
+    assert!(rt; m.shown() == b"URNA PRONTA 0\nZERESIMA\n".as_slice());
     Ok(())
 }
 
@@ -44,7 +44,12 @@ fn check_shows(
             (Call::Show(b"ABC"), is_ok[1]),
         ],
     );
-    assert_eq!(rt; m.shown(), shown, "at {ops} {bytes} {failing:?}");
+    assert!(rt;
+        m.shown() == shown,
+        "at {ops} {bytes}, failing {} and {}",
+        failing[0],
+        failing[1]
+    );
     Ok(())
 }
 
@@ -77,7 +82,20 @@ fn check_stop(
 ) -> Result<(), Memory> {
     assert!(rt; ops <= m.trail_len());
     let left = m.stop(alloc, dev, ops, tear)?;
-    assert!(rt; left.as_slice() == image, "at {dev:?} {ops} {tear:?}");
+    assert!(rt; left.as_slice() == image, "after {ops}");
+    Ok(())
+}
+
+/// The same of each row.
+fn check_stops(
+    rt: &impl Abort,
+    alloc: Global,
+    m: &Recorder,
+    rows: &[(Dev, u32, Tear, [u8; 4])],
+) -> Result<(), Memory> {
+    for (dev, ops, tear, image) in rows {
+        check_stop(rt, alloc, m, *dev, *ops, *tear, image)?;
+    }
     Ok(())
 }
 
@@ -96,8 +114,8 @@ fn a_stop_tears_what_was_not_synced(rt: HostRuntime) -> Result<(), Fail> {
             (Call::Write(Dev::External, 2, &[5, 6]), true),
         ],
     );
-    assert_eq!(rt; m.trail_len(), 5);
-    assert_eq!(rt; m.content(Dev::Internal), [1, 9, 3, 0].as_slice());
+    assert!(rt; m.trail_len() == 5);
+    assert!(rt; m.content(Dev::Internal) == [1, 9, 3, 0].as_slice());
     let rows = [
         (Dev::Internal, 0, Tear::Byte(7), [0, 0, 0, 0]),
         (Dev::Internal, 1, Tear::Byte(7), [7, 7, 7, 0]),
@@ -108,9 +126,7 @@ fn a_stop_tears_what_was_not_synced(rt: HostRuntime) -> Result<(), Fail> {
         (Dev::External, 5, Tear::Byte(7), [0, 0, 7, 7]),
         (Dev::External, 5, Tear::AsPut, [0, 0, 5, 6]),
     ];
-    for (dev, ops, tear, image) in rows {
-        check_stop(&rt, rt.alloc(), &m, dev, ops, tear, &image)?;
-    }
+    check_stops(&rt, rt.alloc(), &m, &rows)?;
     Ok(())
 }
 
@@ -136,10 +152,11 @@ fn check_writes(
             (Call::Read(Dev::Internal, 0, &content), is_ok[3]),
         ],
     );
-    assert_eq!(rt;
-        m.content(Dev::Internal),
-        content.as_slice(),
-        "at {room:?} {failing}"
+    assert!(rt;
+        m.content(Dev::Internal) == content.as_slice(),
+        "at {} {}, failing {failing}",
+        room.0,
+        room.1
     );
     let ops = m.trail_len();
     check_stop(rt, alloc, &m, Dev::Internal, ops, Tear::Byte(7), &torn)
@@ -199,7 +216,7 @@ fn a_machine_restarts_over_what_was_left(rt: HostRuntime) -> Result<(), Fail> {
     let external = m.stop(rt.alloc(), Dev::External, 1, Tear::Byte(7))?;
     assert!(rt; external.len() == internal.len() && internal.len() == 2);
     let mut m = Recorder::restart(rt.alloc(), internal, external, 3, 9, &[1])?;
-    assert_eq!(rt; m.trail_len(), 0);
+    assert!(rt; m.trail_len() == 0);
     make_all(
         &rt,
         &mut m,
@@ -236,71 +253,83 @@ fn a_steady_machine_reads_what_it_wrote(rt: HostRuntime) -> Result<(), Fail> {
             (Call::Read(Dev::Internal, 0, &[0; 4]), true),
         ],
     );
-    assert_eq!(rt; m.size(Dev::External), 4);
-    assert_eq!(rt; m.size(Dev::Internal), 4);
+    assert!(rt; m.size(Dev::External) == 4);
+    assert!(rt; m.size(Dev::Internal) == 4);
+    Ok(())
+}
+
+/// A shelf with these files takes these calls. Behind them files can be placed, over others too, whatever room is left.
+fn check_shelf(
+    rt: &impl Abort,
+    alloc: Global,
+    room: u32,
+    failing: &[u32],
+    placed: &[(&str, &[u8])],
+    calls: &[FileCall<'_>],
+) -> Result<(), Memory> {
+    let mut shelf = Shelf::new(alloc, room, failing)?;
+    for (name, bytes) in placed {
+        shelf.place(name, bytes)?;
+    }
+    make_file_calls(rt, alloc, &mut shelf, calls);
+    assert!(rt; shelf.get("last") == None);
+    for name in ["rol", "last"] {
+        shelf.place(name, b"789")?;
+        assert!(rt; shelf.get(name) == Some(b"789".as_slice()), "{name}");
+    }
     Ok(())
 }
 
 #[test]
 fn a_shelf_gives_what_was_placed_last(rt: HostRuntime) -> Result<(), Fail> {
-    let mut shelf = Shelf::new(rt.alloc(), 64, &[4])?;
-    shelf.place("rol", b"1")?;
-    shelf.place("teclas", b"M ABRE")?;
-    shelf.place("rol", b"234")?;
-    for (name, limit, taken) in [
-        ("rol", 3, Ok(b"234".as_slice())),
-        ("teclas", 6, Ok(b"M ABRE".as_slice())),
-        ("rol", 2, Err(CabinetError::TooLong)),
-        ("ro", 3, Err(CabinetError::Missing)),
-        ("rol", 3, Err(CabinetError::Failed)),
-        ("rol", 3, Ok(b"234".as_slice())),
-    ] {
-        check_take(&rt, rt.alloc(), &mut shelf, name, limit, taken);
-    }
+    let placed = [
+        ("rol", b"1".as_slice()),
+        ("teclas", b"M ABRE"),
+        ("rol", b"234"),
+    ];
+    let calls = [
+        FileCall::Take("rol", 3, Ok(b"234")),
+        FileCall::Take("teclas", 6, Ok(b"M ABRE")),
+        FileCall::Take("rol", 2, Err(CabinetError::TooLong)),
+        FileCall::Take("ro", 3, Err(CabinetError::Missing)),
+        FileCall::Take("rol", 3, Err(CabinetError::Failed)),
+        FileCall::Take("rol", 3, Ok(b"234")),
+    ];
+    check_shelf(&rt, rt.alloc(), 64, &[4], &placed, &calls)?;
     Ok(())
 }
 
 #[test]
 fn a_shelf_puts_in_its_room_and_fails_where_it_is_told_to(rt: HostRuntime) -> Result<(), Fail> {
-    let mut shelf = Shelf::new(rt.alloc(), 12, &[2])?;
-    shelf.place("rol", b"1")?;
-    shelf.place("teclas", b"M ABRE")?;
-    for (name, bytes, is_ok, left) in [
+    let placed = [("rol", b"1".as_slice()), ("teclas", b"M ABRE")];
+    let calls = [
         // 12 bytes of room, then 7 and 5.
-        ("rol", b"23".as_slice(), true, Some(b"23".as_slice())),
-        ("bu", b"", true, Some(b"".as_slice())),
-        ("rol", b"4", false, Some(b"23".as_slice())),
-        ("ro", b"1234", false, None),
-        ("rol", b"56", true, Some(b"56".as_slice())),
+        FileCall::Put("rol", b"23", true),
+        FileCall::Put("bu", b"", true),
+        FileCall::Put("rol", b"4", false),
+        FileCall::Take("rol", 9, Ok(b"23")),
+        FileCall::Put("ro", b"1234", false),
+        FileCall::Put("rol", b"56", true),
         // Without room.
-        ("", b"7", false, None),
-        ("", b"", true, Some(b"".as_slice())),
-        ("teclas", b"", false, Some(b"M ABRE".as_slice())),
-    ] {
-        check_put(&rt, &mut shelf, name, bytes, is_ok);
-        assert_eq!(rt; shelf.get(name), left, "at {name:?}");
-    }
-    shelf.place("rol", b"789")?;
-    for (name, limit, taken) in [
-        ("rol", 9, Ok(b"789".as_slice())),
-        ("bu", 0, Ok(b"".as_slice())),
-        ("ro", 9, Err(CabinetError::Missing)),
-    ] {
-        check_take(&rt, rt.alloc(), &mut shelf, name, limit, taken);
-    }
+        FileCall::Put("", b"7", false),
+        FileCall::Take("", 9, Err(CabinetError::Missing)),
+        FileCall::Put("", b"", true),
+        FileCall::Take("", 9, Ok(b"")),
+        FileCall::Put("teclas", b"", false),
+        FileCall::Take("rol", 9, Ok(b"56")),
+        FileCall::Take("bu", 0, Ok(b"")),
+        FileCall::Take("ro", 9, Err(CabinetError::Missing)),
+        FileCall::Take("teclas", 9, Ok(b"M ABRE")),
+    ];
+    check_shelf(&rt, rt.alloc(), 12, &[2], &placed, &calls)?;
     Ok(())
 }
 
 #[test]
 fn a_shelf_has_room_for_64_puts(rt: HostRuntime) -> Result<(), Fail> {
-    let mut shelf = Shelf::new(rt.alloc(), 1000, &[])?;
-    for _ in 0..64 {
-        check_put(&rt, &mut shelf, "bu", b"1", true);
-    }
-    check_put(&rt, &mut shelf, "", b"", false);
-    shelf.place("rol", b"2")?;
-    for (name, left) in [("rol", b"2".as_slice()), ("bu", b"1")] {
-        assert_eq!(rt; shelf.get(name), Some(left), "at {name:?}");
-    }
+    let mut calls = [FileCall::Put("bu", b"1", true); 66];
+    calls[64] = FileCall::Put("", b"", false);
+    calls[65] = FileCall::Take("bu", 1, Ok(b"1"));
+    check_shelf(&rt, rt.alloc(), 1000, &[], &[], &calls)?;
     Ok(())
 }

@@ -11,7 +11,7 @@ use urna_outside::FileLock;
 /// The folder of a test that puts a file elsewhere than in the working folder.
 pub(crate) const OWN_FOLDER: &str = "own.tmp";
 
-#[derive(Clone, Copy, PartialEq, Eq, Debug)]
+#[derive(Clone, Copy, PartialEq, Eq)]
 pub(crate) enum Step {
     Open,
     OpenFolder,

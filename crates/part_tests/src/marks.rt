@@ -8,11 +8,11 @@ fn check_marks(rt: &impl Abort, turnout: &mut Turnout) {
     for (place, came) in [(2, 1), (0, 2)] {
         assert!(rt; place < turnout.voters() && !turnout.came(place), "{place}");
         turnout.mark(place);
-        assert_eq!(rt; turnout.len(), came, "after {place}");
+        assert!(rt; turnout.len() == came, "after {place}");
     }
-    assert_eq!(rt; turnout.voters(), 3);
+    assert!(rt; turnout.voters() == 3);
     for (place, came) in [(0, true), (1, false), (2, true), (3, false)] {
-        assert_eq!(rt; turnout.came(place), came, "{place}");
+        assert!(rt; turnout.came(place) == came, "{place}");
     }
 }
 

@@ -29,15 +29,15 @@ candidato = [
 secao = [{zona = 1, secao = 42, eleitores = 3}]
 "#;
 
-/// The key of a byte of a row; the rows have no other bytes than digits, B, R and C.
+/// The key of a byte of a row; C, as any other byte, confirms.
 fn key_of(byte: u8) -> Key
     ensures { IsKey result }
 {
     match byte {
         b'B' => Key::Blank,
         b'R' => Key::Correct,
-        b'C' => Key::Confirm,
-        digit => Key::Digit(digit.saturating_sub(b'0').min(9)),
+        b'0'..=b'9' => Key::Digit(byte - b'0'),
+        _ => Key::Confirm,
     }
 }
 

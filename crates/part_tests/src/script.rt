@@ -31,8 +31,8 @@ fn the_events_come_in_order(rt: HostRuntime) {
     let mut place = 0;
     for event in script.events() {
         assert!(rt; place < 11);
-        assert_eq!(rt; event, want[place]);
+        assert!(rt; event == want[place]);
         place += 1;
     }
-    assert_eq!(rt; place, 11);
+    assert!(rt; place == 11);
 }

@@ -1,5 +1,5 @@
 //! The states of a poll, and their bodies, worked out by hand from docs/FORMATS.md (the crate `image_codec`).
-ghost use Rattle.std.specs.Prelude.{◌≡◌, ◌+◌, ◌<◌, ◌≤◌, length, vec_len, IfOk};
+ghost use Rattle.std.specs.Prelude.{◌≡◌, ◌<◌, ◌≤◌, length, vec_len, IfOk};
 ghost use Rattle.election_tables.specs.Limits.{most_voters};
 
 use crate::bodies::body_of;
@@ -64,13 +64,18 @@ fn check_poll(rt: &(impl Abort + AllocGlobal), tables: &Tables) -> Result<(), Fa
     state.ballot(tables, 1, &[Choice::Blank]);
     let voted = state.rank();
     state.seal(CLOSED);
-    assert_eq!(rt; (ready, voted), (0, 2));
+    assert!(rt; ready == 0 && voted == 2 && is_sealed(&state));
+    Ok(())
+}
+
+fn is_sealed(state: &State) -> bool
+    requires { 0 < length state.now.bags }
+{
     let sealed = Phase::Sealed {
         opened: OPENED,
         closed: CLOSED,
     };
-    assert_eq!(rt; told(&state), (3, sealed, [false, true, false], [0, 0, 1]));
-    Ok(())
+    told(state) == (3, sealed, [false, true, false], [0, 0, 1])
 }
 
 #[test]
@@ -124,6 +129,18 @@ fn read(alloc: Global, tables: &Tables, voters: u32, body: &[u8]) -> Result<Opti
     }
 }
 
+fn is_read(
+    alloc: Global,
+    tables: &Tables,
+    voters: u32,
+    body: &[u8],
+    want: Told,
+) -> Result<bool, Memory>
+    requires { voters ≤ most_voters }
+{
+    Ok(read(alloc, tables, voters, body)? == Some(want))
+}
+
 /// A body of that many voters is of a state that tells this.
 fn check_read(
     rt: &(impl Abort + AllocGlobal),
@@ -134,7 +151,7 @@ fn check_read(
     requires { voters ≤ most_voters }
 {
     let tables = Tables::read(rt.alloc(), TABLES)?;
-    assert_eq!(rt; read(rt.alloc(), &tables, voters, body)?, Some(want));
+    assert!(rt; is_read(rt.alloc(), &tables, voters, body, want)?);
     Ok(())
 }
 
@@ -157,48 +174,54 @@ fn an_open_poll_is_read(rt: HostRuntime) -> Result<(), Fail> {
     check_read(&rt, 1, &counted(rt.alloc(), &POLLING, &COUNTER)?, told)
 }
 
-/// Whether the sealed poll of a body is written in version 2, over whatever stands there.
-fn is_written(alloc: Global, tables: &Tables, body: &[u8]) -> Result<bool, Memory> {
+/// Whether the poll of a body is written as these bytes, over whatever stands there.
+fn is_written(alloc: Global, tables: &Tables, body: &[u8], want: &[u8]) -> Result<bool, Memory> {
     let Some(state) = decode(alloc, tables, 3, body)? else {
         return Ok(false);
     };
     let mut written = vec![in alloc; 255; 65_536]?;
     encode_into(&state, tables, &mut written);
-    Ok(written.as_slice() == counted(alloc, &SEALED, &COUNTERS)?.as_slice())
+    Ok(written.as_slice() == want)
 }
 
-fn check_written(rt: &(impl Abort + AllocGlobal), body: &[u8]) -> Result<(), Fail> {
+fn check_written(rt: &(impl Abort + AllocGlobal), body: &[u8], want: &[u8]) -> Result<(), Fail> {
     let tables = Tables::read(rt.alloc(), TABLES)?;
-    assert!(rt; is_written(rt.alloc(), &tables, body)?);
+    assert!(rt; is_written(rt.alloc(), &tables, body, want)?);
     Ok(())
 }
 
 #[test]
 fn a_sealed_poll_of_either_version_is_written_in_version_2(rt: HostRuntime) -> Result<(), Fail> {
-    check_written(&rt, &body_of(rt.alloc(), &SEALED, &VOTES)?)?;
-    check_written(&rt, &counted(rt.alloc(), &SEALED, &COUNTERS)?)
+    let want = counted(rt.alloc(), &SEALED, &COUNTERS)?;
+    check_written(&rt, &want, &want)?;
+    check_written(&rt, &body_of(rt.alloc(), &SEALED, &VOTES)?, &want)
 }
+
+/// Whether bytes are the encoding of a state of one voter.
+fn is_state_of(alloc: Global, tables: &Tables, body: &[u8]) -> Result<bool, Memory> {
+    Ok(decode(alloc, tables, 1, body)?.is_some())
+}
+
+/// Versions, how many bytes of a body of version 1 there are, and whether they are a state's.
+const LENGTHS: [(u8, usize, bool); 7] = [
+    (1, 65_536, true),
+    (2, 65_536, false),
+    (9, 65_536, false),
+    (1, 65_535, false),
+    (1, 65_537, false),
+    (1, 107, false),
+    (1, 0, false),
+];
 
 /// The body of an open poll under other versions and lengths.
 fn check_lengths(rt: &(impl Abort + AllocGlobal), tables: &Tables) -> Result<(), Fail> {
     let mut body = body_of(rt.alloc(), &POLLING, &VOTE)?;
     body.push(0)?;
-    for (version, length, is_state) in [
-        (1, 65_536, true),
-        (2, 65_536, false),
-        (9, 65_536, false),
-        (1, 65_535, false),
-        (1, 65_537, false),
-        (1, 107, false),
-        (1, 0, false),
-    ] {
+    for (version, length, is_state) in LENGTHS {
         assert!(rt; 0 < body.len() && length <= body.len());
         body[0] = version;
-        let state = decode(rt.alloc(), tables, 1, &body[..length])?;
-        assert!(rt;
-            state.is_some() == is_state,
-            "version {version}, {length} bytes"
-        );
+        let found = is_state_of(rt.alloc(), tables, &body[..length])?;
+        assert!(rt; found == is_state, "version {version}, {length} bytes");
     }
     Ok(())
 }
@@ -209,41 +232,59 @@ fn only_a_whole_body_of_its_version_is_a_state(rt: HostRuntime) -> Result<(), Fa
     check_lengths(&rt, &tables)
 }
 
-/// Each of these changes refuses a body of version 1.
+/// A body of three voters is no encoding with these bytes in a place.
+fn check_refused(
+    rt: &impl Abort,
+    tables: &Tables,
+    body: &mut [u8],
+    at: usize,
+    bytes: &[u8],
+    what: &str,
+) {
+    assert!(rt;
+        at <= body.len() && bytes.len() <= body.len() - at,
+        "{what}"
+    );
+    body[at..at + bytes.len()].copy_from_slice(bytes);
+    assert!(rt; rank_of(tables, 3, body).is_none(), "{what}");
+}
+
+/// Places, what is put there, and what is wrong then: in a body of version 1.
+const WRONG: [(usize, &[u8], &str); 15] = [
+    (0, &[2], "version 2 over the votes of version 1"),
+    (0, &[9], "version 9"),
+    (1, &[3], "phase 3"),
+    (
+        10,
+        &[0, 0, 18, 109, 97, 246, 11, 144],
+        "closing at 25 hours",
+    ),
+    (
+        10,
+        &[0, 0, 18, 109, 97, 243, 76, 112],
+        "closing at 7 hours, opening at 8",
+    ),
+    (1, &[1], "a closing moment, and polling"),
+    (22, &[176], "the fourth of three voters came too"),
+    (22, &[224], "three are marked, and two came"),
+    (97, &[2], "two panels"),
+    (106, &[46], "a vote for candidate 46"),
+    (102, &[2], "a vote for a party where a mayor is elected"),
+    (
+        102,
+        &[3, 0, 0, 0, 0, 1, 0, 0, 0, 45],
+        "the blank vote before the nominal one",
+    ),
+    (111, &[45], "a blank vote with a number"),
+    (112, &[1], "a byte after the last vote"),
+    (65_535, &[1], "the last byte"),
+];
+
+/// Each of these changes refuses it.
 fn check_fields(rt: &(impl Abort + AllocGlobal), tables: &Tables) -> Result<(), Fail> {
-    let wrong: [(usize, &[u8], &str); 15] = [
-        (0, &[2], "version 2 over the votes of version 1"),
-        (0, &[9], "version 9"),
-        (1, &[3], "phase 3"),
-        (
-            10,
-            &[0, 0, 18, 109, 97, 246, 11, 144],
-            "closing at 25 hours",
-        ),
-        (
-            10,
-            &[0, 0, 18, 109, 97, 243, 76, 112],
-            "closing at 7 hours, opening at 8",
-        ),
-        (1, &[1], "a closing moment, and polling"),
-        (22, &[176], "the fourth of three voters came too"),
-        (22, &[224], "three are marked, and two came"),
-        (97, &[2], "two panels"),
-        (106, &[46], "a vote for candidate 46"),
-        (102, &[2], "a vote for a party where a mayor is elected"),
-        (
-            102,
-            &[3, 0, 0, 0, 0, 1, 0, 0, 0, 45],
-            "the blank vote before the nominal one",
-        ),
-        (111, &[45], "a blank vote with a number"),
-        (112, &[1], "a byte after the last vote"),
-        (65_535, &[1], "the last byte"),
-    ];
-    for (at, bytes, what) in wrong {
-        assert!(rt; at <= 65_536 && bytes.len() <= 65_536 - at);
+    for (at, bytes, what) in WRONG {
         let mut body = body_of(rt.alloc(), &SEALED, &VOTES)?;
-        assert!(rt; is_refused(tables, &mut body, at, bytes), "{what}");
+        check_refused(rt, tables, &mut body, at, bytes, what);
     }
     Ok(())
 }
@@ -254,30 +295,31 @@ fn a_body_with_a_wrong_field_is_no_encoding(rt: HostRuntime) -> Result<(), Fail>
     check_fields(&rt, &tables)
 }
 
-/// Each of these changes refuses a body of version 2.
+/// The same of version 2.
+const WRONG_COUNTED: [(usize, &[u8], &str); 12] = [
+    (0, &[0], "version 0"),
+    (0, &[1], "version 1 over the counters of version 2"),
+    (0, &[3], "version 3"),
+    (22, &[224], "three are marked, and two came"),
+    (97, &[2], "two panels"),
+    (98, &[1], "the first byte behind the head"),
+    (511, &[1], "the last byte before the counters"),
+    (515, &[1], "a vote more than came"),
+    (519, &[0], "a vote less"),
+    (
+        512,
+        &[255, 255, 255, 255, 0, 0, 0, 2],
+        "2^32 and two votes of two who came",
+    ),
+    (528, &[1], "the first byte behind the last counter"),
+    (65_535, &[1], "the last byte"),
+];
+
+/// Each of these changes refuses it.
 fn check_counted_fields(rt: &(impl Abort + AllocGlobal), tables: &Tables) -> Result<(), Fail> {
-    let wrong: [(usize, &[u8], &str); 12] = [
-        (0, &[0], "version 0"),
-        (0, &[1], "version 1 over the counters of version 2"),
-        (0, &[3], "version 3"),
-        (22, &[224], "three are marked, and two came"),
-        (97, &[2], "two panels"),
-        (98, &[1], "the first byte behind the head"),
-        (511, &[1], "the last byte before the counters"),
-        (515, &[1], "a vote more than came"),
-        (519, &[0], "a vote less"),
-        (
-            512,
-            &[255, 255, 255, 255, 0, 0, 0, 2],
-            "2^32 and two votes of two who came",
-        ),
-        (528, &[1], "the first byte behind the last counter"),
-        (65_535, &[1], "the last byte"),
-    ];
-    for (at, bytes, what) in wrong {
-        assert!(rt; at <= 65_536 && bytes.len() <= 65_536 - at);
+    for (at, bytes, what) in WRONG_COUNTED {
         let mut body = counted(rt.alloc(), &SEALED, &COUNTERS)?;
-        assert!(rt; is_refused(tables, &mut body, at, bytes), "{what}");
+        check_refused(rt, tables, &mut body, at, bytes, what);
     }
     Ok(())
 }
@@ -286,14 +328,6 @@ fn check_counted_fields(rt: &(impl Abort + AllocGlobal), tables: &Tables) -> Res
 fn a_body_of_version_2_with_a_wrong_field_is_no_encoding(rt: HostRuntime) -> Result<(), Fail> {
     let tables = Tables::read(rt.alloc(), TABLES)?;
     check_counted_fields(&rt, &tables)
-}
-
-/// Whether a body of three voters is no encoding with these bytes in a place.
-fn is_refused(tables: &Tables, body: &mut [u8], at: usize, bytes: &[u8]) -> bool
-    requires { at + length bytes.now ≤ length body.old }
-{
-    body[at..at + bytes.len()].copy_from_slice(bytes);
-    rank_of(tables, 3, body).is_none()
 }
 
 /// The rank of a body of version 1 of so many voters.
@@ -331,14 +365,13 @@ fn rank_counted(
 /// The ranks of a body of its roll and of another one, of a ready one, and of one with a moment.
 fn check_ranks(rt: &(impl Abort + AllocGlobal), tables: &Tables) -> Result<(), Fail> {
     let opened = [1, 0, 0, 0, 18, 109, 97, 243, 115, 128];
-    assert_eq!(rt;
+    assert!(rt;
         [
             rank(rt.alloc(), tables, 3, &SEALED, &VOTES)?,
             rank(rt.alloc(), tables, 2, &SEALED, &VOTES)?,
             rank(rt.alloc(), tables, 3, &[1, 0], &[1])?,
             rank(rt.alloc(), tables, 3, &opened, &[1])?,
-        ],
-        [Some(4), None, Some(0), None]
+        ] == [Some(4), None, Some(0), None]
     );
     Ok(())
 }
@@ -352,14 +385,13 @@ fn a_body_is_of_its_roll_and_a_ready_one_has_no_moments(rt: HostRuntime) -> Resu
 /// The same of version 2.
 fn check_counted_ranks(rt: &(impl Abort + AllocGlobal), tables: &Tables) -> Result<(), Fail> {
     let opened = [1, 0, 0, 0, 18, 109, 97, 243, 115, 128];
-    assert_eq!(rt;
+    assert!(rt;
         [
             rank_counted(rt.alloc(), tables, 3, &SEALED, &COUNTERS)?,
             rank_counted(rt.alloc(), tables, 2, &SEALED, &COUNTERS)?,
             rank_counted(rt.alloc(), tables, 3, &[1, 0], &[])?,
             rank_counted(rt.alloc(), tables, 3, &opened, &[])?,
-        ],
-        [Some(4), None, Some(0), None]
+        ] == [Some(4), None, Some(0), None]
     );
     Ok(())
 }
@@ -370,14 +402,26 @@ fn so_is_a_body_of_version_2(rt: HostRuntime) -> Result<(), Fail> {
     check_counted_ranks(&rt, &tables)
 }
 
-/// A ready state refuses a body that is too short, and takes on the sealed poll of this one.
+/// A ready state is offered a body that is too short, and then this one: its rank behind the first, whether it took on the second, and its
+/// rank and how many came then. Nothing where it took on the first.
+fn loads(
+    alloc: Global,
+    tables: &Tables,
+    body: &[u8],
+) -> Result<Option<(u32, bool, u32, u32)>, Memory> {
+    let mut state = State::ready(alloc, tables, 3)?;
+    if state.load(tables, &SEALED) {
+        return Ok(None);
+    }
+    let before = state.rank();
+    let whole = state.load(tables, body);
+    Ok(Some((before, whole, state.rank(), state.turnout().len())))
+}
+
+/// It refuses the one, and takes on the sealed poll of the other.
 fn check_load(rt: &(impl Abort + AllocGlobal), body: &[u8]) -> Result<(), Fail> {
     let tables = Tables::read(rt.alloc(), TABLES)?;
-    let mut state = State::ready(rt.alloc(), &tables, 3)?;
-    let short = state.load(&tables, &SEALED);
-    assert!(rt; !short && state.rank() == 0);
-    let whole = state.load(&tables, body);
-    assert!(rt; whole && state.rank() == 4 && state.turnout().len() == 2);
+    assert!(rt; loads(rt.alloc(), &tables, body)? == Some((0, true, 4, 2)));
     Ok(())
 }
 

@@ -6,6 +6,7 @@ ghost use Rattle.section_intake.specs.Intake.{IsIntakeFor, panels_of};
 use crate::files::REPORT;
 use crate::reports::TABLES;
 use election_tables::Tables;
+use seat_remainders::{Contest, Contestant, Entry};
 use section_intake::{Intake, Verdict};
 use std::alloc::Global;
 use std::process::Abort;
@@ -33,10 +34,18 @@ const FIRST_SUMS: [Sums; 2] = [[1, 0, 0, 0, 0, 1, 0, 1, 0], [0, 1, 1, 0, 0, 0, 0
 
 const BOTH_SUMS: [Sums; 2] = [[1, 0, 0, 0, 0, 3, 0, 1, 2], [0, 1, 4, 0, 0, 0, 0, 1, 1]];
 
-/// The contest of the first office over both reports.
-const CONTEST: &str = "Contest { seats: 5, parties: Contestants { items: [\
-     Contestant { number: 13, party_votes: 0, candidates: Items { items: [Entry { number: 13001, birth: 19700101, votes: 1 }] } }, \
-     Contestant { number: 45, party_votes: 3, candidates: Items { items: [Entry { number: 45001, birth: 19650520, votes: 0 }] } }] } }";
+/// The candidates of the first office, each alone in its party, over both reports.
+const ANA: Entry = Entry {
+    number: 13_001,
+    birth: 19_700_101,
+    votes: 1,
+};
+
+const BRUNO: Entry = Entry {
+    number: 45_001,
+    birth: 19_650_520,
+    votes: 0,
+};
 
 fn sums_of(intake: &Intake, panel: u32) -> Sums
     requires { panel < panels_of intake.now }
@@ -71,7 +80,10 @@ fn check_sums(rt: &impl Abort, tables: &Tables, intake: &Intake, accepted: u32, 
     requires { IsIntakeFor tables.now intake.now }
 {
     assert!(rt; intake.accepted() == accepted);
-    assert_eq!(rt; other_sums(tables, intake, want), None);
+    assert!(rt;
+        other_sums(tables, intake, want) == None,
+        "{accepted} accepted"
+    );
 }
 
 /// A file is offered, and is accepted as the report of a section.
@@ -92,13 +104,29 @@ fn check_offer(
     Ok(())
 }
 
+/// Whether a party has this number, these votes and this candidate alone.
+fn is_party(party: &Contestant, number: u8, votes: u64, candidate: Entry) -> bool {
+    party.number == number
+        && party.party_votes == votes
+        && party.candidates.as_slice() == [candidate].as_slice()
+}
+
+/// Whether a contest is that of the first office over both reports.
+fn is_of_both(contest: &Contest) -> bool {
+    match contest.parties.as_slice() {
+        [first, second] => {
+            contest.seats == 5 && is_party(first, 13, 0, ANA) && is_party(second, 45, 3, BRUNO)
+        }
+        _ => false,
+    }
+}
+
 /// Whether the contest of the first office is that of both reports.
 fn has_contest(alloc: Global, tables: &Tables, intake: &Intake) -> Result<bool, Fail>
     requires panel { 0 < length tables.now.panels }
     requires made { IsIntakeFor tables.now intake.now }
 {
-    let contest = contest_of(alloc, tables, intake, 0)?;
-    Ok(format!(in alloc; "{contest:?}")?.as_str() == CONTEST)
+    Ok(is_of_both(&contest_of(alloc, tables, intake, 0)?))
 }
 
 /// Two reports are offered to an intake. Its sums, and then the contest, are those of both.

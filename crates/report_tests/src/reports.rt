@@ -34,9 +34,8 @@ fn field_at_fault(alloc: Global, text: &str) -> Result<Option<u32>, Memory> {
 fn texts_that_no_part_holds_have_their_fault(rt: HostRuntime) -> Result<(), Fail> {
     for (old, new, field) in NO_PART {
         let text = TWO_OFFICES.replace(rt.alloc(), *old, *new)?;
-        assert_eq!(rt;
-            field_at_fault(rt.alloc(), text.as_str())?,
-            Some(*field),
+        assert!(rt;
+            field_at_fault(rt.alloc(), text.as_str())? == Some(*field),
             "{new}"
         );
     }

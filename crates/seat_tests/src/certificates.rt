@@ -37,7 +37,8 @@ fn wrong_certificate(alloc: Global) -> Result<Option<&'static str>, Memory> {
 
 #[test]
 fn each_contest_with_seats_is_certified(rt: HostRuntime) -> Result<(), Fail> {
-    assert_eq!(rt; wrong_certificate(rt.alloc())?, None);
+    let wrong = wrong_certificate(rt.alloc())?;
+    assert!(rt; wrong == None, "{}", wrong.unwrap_or(""));
     Ok(())
 }
 
@@ -89,8 +90,9 @@ fn each_certificate_is_valid_and_each_change_is_refused_at_its_first_fault(
     rt: HostRuntime,
 ) -> Result<(), Fail> {
     for (row, text, changes) in CERTIFICATES {
-        assert_eq!(rt; judged(rt.alloc(), row, text)?.as_str(), "valid");
-        assert_eq!(rt; wrong_change(rt.alloc(), row, text, changes)?, None);
+        assert!(rt; judged(rt.alloc(), row, text)?.as_str() == "valid", "{row}");
+        let wrong = wrong_change(rt.alloc(), row, text, changes)?;
+        assert!(rt; wrong == None, "{}", wrong.unwrap_or(""));
     }
     Ok(())
 }
@@ -98,7 +100,10 @@ fn each_certificate_is_valid_and_each_change_is_refused_at_its_first_fault(
 #[test]
 fn a_contest_without_seats_has_no_valid_certificate(rt: HostRuntime) -> Result<(), Fail> {
     for (row, text, expected) in NOT_CERTIFIED {
-        assert_eq!(rt; judged(rt.alloc(), row, text)?.as_str(), *expected);
+        assert!(rt;
+            judged(rt.alloc(), row, text)?.as_str() == *expected,
+            "{row}"
+        );
     }
     Ok(())
 }

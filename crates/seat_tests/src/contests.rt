@@ -185,8 +185,9 @@ fn wrong_contest(alloc: Global) -> Result<Option<&'static str>, Memory> {
 
 #[test]
 fn each_contest_has_its_outcome(rt: HostRuntime) -> Result<(), Fail> {
-    assert_eq!(rt; CONTESTS.len(), 40);
-    assert_eq!(rt; wrong_contest(rt.alloc())?, None);
+    assert!(rt; CONTESTS.len() == 40);
+    let wrong = wrong_contest(rt.alloc())?;
+    assert!(rt; wrong == None, "{}", wrong.unwrap_or(""));
     Ok(())
 }
 
@@ -219,8 +220,9 @@ fn wrong_averages(alloc: Global) -> Result<Option<&'static str>, Memory> {
 
 #[test]
 fn each_contest_has_its_averages(rt: HostRuntime) -> Result<(), Fail> {
-    assert_eq!(rt; AVERAGES.len(), 10);
-    assert_eq!(rt; wrong_averages(rt.alloc())?, None);
+    assert!(rt; AVERAGES.len() == 10);
+    let wrong = wrong_averages(rt.alloc())?;
+    assert!(rt; wrong == None, "{}", wrong.unwrap_or(""));
     Ok(())
 }
 

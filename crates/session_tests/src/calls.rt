@@ -5,7 +5,7 @@ use crate::papers::{Paper, cabinet_of};
 use crate::stage::Faults;
 use crate::words::head;
 use ledger_commands::urna_ledger;
-use memory_outside::{Recorder, Watched};
+use memory_outside::{Recorder, WatchedShelf};
 use state_store::DEVICE_SIZE;
 use std::alloc::Global;
 use std::str;
@@ -59,9 +59,9 @@ fn answer(
     alloc: Global,
     program: Program,
     words: &[String],
-    flashes: Flashes,
+    flashes: &Flashes,
     faults: &Faults,
-    cabinet: &mut Watched,
+    cabinet: &mut WatchedShelf,
 ) -> Result<(u8, Recorder), Halt> {
     match program {
         Program::Urna => {
@@ -78,7 +78,7 @@ fn answer(
 }
 
 /// The files that were put, in their order.
-fn made_of(alloc: Global, cabinet: &Watched) -> Result<Vec<Paper>, Halt> {
+fn made_of(alloc: Global, cabinet: &WatchedShelf) -> Result<Vec<Paper>, Halt> {
     let mut made = Vec::new(alloc);
     for name in &cabinet.puts {
         if let Some(bytes) = cabinet.shelf.get(name) {
@@ -92,11 +92,30 @@ fn made_of(alloc: Global, cabinet: &Watched) -> Result<Vec<Paper>, Halt> {
 }
 
 /// Whether a file that was given isn't as it was, but for those that the command has put, and for the keys of a session, which are its own.
-fn is_spoiled(cabinet: &Watched, papers: &[Paper], is_session: bool) -> bool {
+fn is_spoiled(cabinet: &WatchedShelf, papers: &[Paper], is_session: bool) -> bool {
     papers.iter().any(|paper| {
         let is_other = is_session && paper.name.as_str() == KEYS
             || cabinet.puts.iter().any(|name| *name == paper.name);
         !is_other && cabinet.shelf.get(&paper.name) != Some(paper.bytes.as_slice())
+    })
+}
+
+/// How a command over these flashes and this cabinet ends, which has these files and the keys of a session.
+fn run_in(
+    alloc: Global,
+    papers: &[Paper],
+    faults: &Faults,
+    call: &Call,
+    flashes: &Flashes,
+    cabinet: &mut WatchedShelf,
+) -> Result<Ran, Halt> {
+    let words = words_of(alloc, &call.words)?;
+    let (code, machine) = answer(alloc, call.program, &words, flashes, faults, cabinet)?;
+    Ok(Ran {
+        code,
+        machine,
+        made: made_of(alloc, cabinet)?,
+        spoiled: is_spoiled(cabinet, papers, call.keys.is_some()),
     })
 }
 
@@ -106,25 +125,17 @@ pub(crate) fn run(
     papers: &[Paper],
     faults: &Faults,
     call: &Call,
-    flashes: Flashes,
+    flashes: &Flashes,
 ) -> Result<Ran, Halt> {
-    let words = words_of(alloc, &call.words)?;
     let mut cabinet = cabinet_of(alloc, papers, &faults.cabinet)?;
     if let Some(keys) = &call.keys {
         cabinet.shelf.place(KEYS, keys.as_bytes())?;
     }
-    let (code, machine) = answer(alloc, call.program, &words, flashes, faults, &mut cabinet)?;
+    let ran = run_in(alloc, papers, faults, call, flashes, &mut cabinet)?;
     if cabinet.lost {
         return Err(Halt::Memory);
     }
-    let made = made_of(alloc, &cabinet)?;
-    let spoiled = is_spoiled(&cabinet, papers, call.keys.is_some());
-    Ok(Ran {
-        code,
-        machine,
-        made,
-        spoiled,
-    })
+    Ok(ran)
 }
 
 /// A session of the section with these keys.
@@ -165,25 +176,25 @@ pub(crate) fn say_whole(alloc: Global, text: &str, out: &mut String) -> Result<(
     say(out, &format!(in alloc; "{text}…")?)
 }
 
-/// What a command has done to files: each that it has put, and whether it has changed another one.
-fn told_files(alloc: Global, ran: &Ran) -> Result<String, Halt> {
-    let mut text = String::new(alloc);
+/// Puts what a command has done to files behind a text, each behind a word: those that it has put, and whether it has changed another one.
+fn put_files(text: &mut String, before: &str, ran: &Ran, after: &str) -> Result<(), Halt> {
     for paper in &ran.made {
-        text.push_str(&format!(in alloc; "+ {}\n", paper.name)?)?;
+        text.push_str(before)?;
+        text.push_str("+ ")?;
+        text.push_str(&paper.name)?;
+        text.push_str(after)?;
     }
     if ran.spoiled {
-        text.push_str("! a file that was given\n")?;
+        text.push_str(before)?;
+        text.push_str("! a file that was given")?;
+        text.push_str(after)?;
     }
-    Ok(text)
+    Ok(())
 }
 
 /// Puts what a command has done to files behind a text, in one line.
-pub(crate) fn push_files(alloc: Global, text: &mut String, ran: &Ran) -> Result<(), Halt> {
-    for line in told_files(alloc, ran)?.lines() {
-        text.push_str(", ")?;
-        text.push_str(line)?;
-    }
-    Ok(())
+pub(crate) fn push_files(text: &mut String, ran: &Ran) -> Result<(), Halt> {
+    put_files(text, ", ", ran, "")
 }
 
 /// Prints what a command has shown behind what it had shown before, its number where it isn't 0, and what it has done to files. Where it
@@ -210,5 +221,5 @@ pub(crate) fn say_end(alloc: Global, ran: &Ran, out: &mut String) -> Result<(), 
     if ran.code != 0 {
         say(out, &format!(in alloc; "= {}", ran.code)?)?;
     }
-    say(out, &told_files(alloc, ran)?)
+    put_files(out, INDENT, ran, "\n")
 }

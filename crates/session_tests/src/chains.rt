@@ -127,7 +127,7 @@ fn place_held(
         }
         Program::Ledger => {
             let call = call_of(alloc, "livro recebe t none")?;
-            let line = told_by(alloc, &stage.papers, &call, copied(alloc, flashes)?)?;
+            let line = told_by(alloc, &stage.papers, &call, flashes)?;
             Ok(LEDGERS.iter().position(|held| *held == line.as_str()))
         }
     }
@@ -146,61 +146,75 @@ fn is_whole(code: u8) -> bool {
     code == 0 || code == LedgerStatus::SomeRefused(1).code()
 }
 
-/// A command over some flashes is stopped behind one of its operations, or before the first: how many lines that tell a state it began,
-/// and what a power cut then leaves. Nothing where the command, not stopped, would end with another number than it may.
+/// A command over some flashes is stopped behind one of its operations, or before the first, and they hold what a power cut then leaves.
+/// Answers how many lines that tell a state it began; nothing where the command, not stopped, would end with another number than it may.
 fn stopped(
     alloc: Global,
     stage: &Stage,
     call: &Call,
     drawn: &mut Draws,
-    flashes: Flashes,
+    flashes: &mut Flashes,
     later: &Flashes,
-) -> Result<Option<(usize, Flashes)>, Halt> {
+) -> Result<Option<usize>, Halt> {
     let ran = run(alloc, &stage.papers, &no_faults(alloc), call, flashes)?;
     if !is_whole(ran.code) && ran.code != Status::NotSealed.code() {
         return Ok(None);
     }
     let ops = drawn.below(ran.machine.trail_len().saturating_add(1));
     let fill = fill_at(later, drawn.below(5));
-    let next = cut(alloc, &ran.machine, ops, fill)?;
-    Ok(Some((states_begun(&ran.machine, ops)?, next)))
+    *flashes = cut(alloc, &ran.machine, ops, fill)?;
+    Ok(Some(states_begun(&ran.machine, ops)?))
 }
 
-/// What a chain leaves, if behind each call both flashes hold the state whose line it began last, or, of the last command, the next; where
-/// it began none, the state that it found.
-fn chain(
+/// Whether behind each call of a chain both flashes hold the state whose line it began last, or, of the last command, the next; where it
+/// began none, the state that it found. Where they do, the flashes hold what the chain leaves.
+fn keeps_states(
+    alloc: Global,
+    stage: &Stage,
+    idle: &Call,
+    seed: u64,
+    flashes: &mut Flashes,
+    later: &Flashes,
+) -> Result<bool, Halt> {
+    let last = &last_of(&stage.last)?.call;
+    let mut drawn = Draws::of(seed);
+    let mut held = 0usize;
+    for _ in 0..CALLS {
+        let is_last = drawn.below(4) > 0;
+        let call = if is_last { last } else { idle };
+        let Some(begun) = stopped(alloc, stage, call, &mut drawn, flashes, later)? else {
+            return Ok(false);
+        };
+        let Some(place) = place_held(alloc, stage, last.program, flashes)? else {
+            return Ok(false);
+        };
+        let least = held.saturating_add(begun);
+        let most = least.saturating_add(usize::from(is_last));
+        if place < least || most < place {
+            return Ok(false);
+        }
+        held = place;
+    }
+    Ok(true)
+}
+
+/// Whether a chain keeps the states, and the last command behind it each voter, or each report.
+fn keeps_all(
     alloc: Global,
     stage: &Stage,
     idle: &Call,
     seed: u64,
     later: &Flashes,
-) -> Result<Option<Flashes>, Halt> {
-    let last = &last_of(&stage.last)?.call;
-    let mut drawn = Draws::of(seed);
+) -> Result<bool, Halt> {
     let mut flashes = copied(alloc, &last_of(&stage.last)?.given)?;
-    let mut held = 0usize;
-    for _ in 0..CALLS {
-        let is_last = drawn.below(4) > 0;
-        let call = if is_last { last } else { idle };
-        let Some((begun, next)) = stopped(alloc, stage, call, &mut drawn, flashes, later)? else {
-            return Ok(None);
-        };
-        let Some(place) = place_held(alloc, stage, last.program, &next)? else {
-            return Ok(None);
-        };
-        let least = held.saturating_add(begun);
-        let most = least.saturating_add(usize::from(is_last));
-        if place < least || most < place {
-            return Ok(None);
-        }
-        held = place;
-        flashes = next;
-    }
-    Ok(Some(flashes))
+    Ok(
+        keeps_states(alloc, stage, idle, seed, &mut flashes, later)?
+            && ends_as(alloc, stage, &flashes, later)?,
+    )
 }
 
 /// Whether the last command behind a chain takes the voters, or the reports, that are left: it ends with what the kept flashes hold.
-fn ends_as(alloc: Global, stage: &Stage, flashes: Flashes, kept: &Flashes) -> Result<bool, Halt> {
+fn ends_as(alloc: Global, stage: &Stage, flashes: &Flashes, kept: &Flashes) -> Result<bool, Halt> {
     let call = &last_of(&stage.last)?.call;
     let ran = run(alloc, &stage.papers, &no_faults(alloc), call, flashes)?;
     Ok(is_whole(ran.code) && is_left(&ran.machine, kept))
@@ -225,11 +239,7 @@ pub(crate) fn each_chain(
     };
     let mut kept = 0u32;
     for seed in 0..number(count)? {
-        let keeps = match chain(alloc, stage, &idle, u64::from(seed), later)? {
-            Some(flashes) => ends_as(alloc, stage, flashes, later)?,
-            None => false,
-        };
-        if keeps {
+        if keeps_all(alloc, stage, &idle, u64::from(seed), later)? {
             kept = kept.saturating_add(1);
         } else {
             say(out, &format!(in alloc; "seed {seed} loses a {one}")?)?;

@@ -1,34 +1,35 @@
 //! A document that is cut at each length, and changed in each bit.
 use crate::calls::{Ran, push_files, run, say, shown};
-use crate::flashes::{copied, is_left};
+use crate::flashes::is_left;
 use crate::halt::Halt;
 use crate::papers::{bytes_of, place};
 use crate::runs::{Runs, Ways};
 use crate::stage::{Last, Stage, last_of, no_faults};
-use crate::stops::told_by;
+use crate::stops::{last_line, told_by};
 use std::alloc::Global;
 
-/// How a command ended: its number, the line that tells its fault but for a number, and whether the flashes are other ones.
-fn told_end(alloc: Global, last: &Last, ran: &Ran) -> Result<String, Halt> {
-    let text = shown(&ran.machine)?.trim_end();
-    let line = match text.rsplit_once("\n") {
-        Some((_, line)) => line,
-        None => text,
-    };
+/// Puts the line that tells a fault behind a text, but for a number at its end.
+fn push_fault(told: &mut String, line: &str) -> Result<(), Halt> {
     let is_digit = |byte: u8| byte.is_ascii_digit();
     let fault = match line.rsplit_once(" ") {
         Some((words, number)) if number.bytes().all(is_digit) => words,
         _ => line,
     };
-    let mut told = format!(in alloc; "= {}", ran.code)?;
     if fault.starts_with("ERRO ") {
         told.push_str(" ")?;
         told.push_str(fault)?;
     }
+    Ok(())
+}
+
+/// How a command ended: its number, its fault, and whether the flashes are other ones.
+fn told_end(alloc: Global, last: &Last, ran: &Ran) -> Result<String, Halt> {
+    let mut told = format!(in alloc; "= {}", ran.code)?;
+    push_fault(&mut told, last_line(shown(&ran.machine)?))?;
     if !is_left(&ran.machine, &last.given) {
         told.push_str(", other flashes")?;
     }
-    push_files(alloc, &mut told, ran)?;
+    push_files(&mut told, ran)?;
     Ok(told)
 }
 
@@ -52,8 +53,8 @@ fn add_end(
 ) -> Result<(), Halt> {
     place(alloc, &mut stage.papers, name, bytes)?;
     let last = last_of(&stage.last)?;
-    let given = copied(alloc, &last.given)?;
-    let ran = run(alloc, &stage.papers, &no_faults(alloc), &last.call, given)?;
+    let faults = no_faults(alloc);
+    let ran = run(alloc, &stage.papers, &faults, &last.call, &last.given)?;
     add(ends, told_end(alloc, last, &ran)?)
 }
 
@@ -68,7 +69,45 @@ fn turned(alloc: Global, whole: &[u8], at: usize, bit: u8) -> Result<Vec<u8>, Ha
     Ok(bytes)
 }
 
-/// Prints each way in which the last command ends where a document is cut at each length, and changed in each bit.
+/// A document that is cut at a length.
+fn front(alloc: Global, whole: &[u8], at: usize) -> Result<Vec<u8>, Halt> {
+    Ok(whole.get(..at).unwrap_or(&[]).to_vec(alloc)?)
+}
+
+/// Adds how the last command ends where a document is cut at each length, and changed in each bit.
+fn add_ends(
+    alloc: Global,
+    stage: &mut Stage,
+    name: &str,
+    whole: &[u8],
+    ends: &mut Vec<String>,
+) -> Result<(), Halt> {
+    for at in 0..whole.len() {
+        add_end(alloc, stage, name, front(alloc, whole, at)?, ends)?;
+        for bit in BITS {
+            add_end(alloc, stage, name, turned(alloc, whole, at, bit)?, ends)?;
+        }
+    }
+    Ok(())
+}
+
+/// Prints each way in which it ends so.
+fn say_ends(
+    alloc: Global,
+    stage: &mut Stage,
+    name: &str,
+    whole: &[u8],
+    out: &mut String,
+) -> Result<(), Halt> {
+    let mut ends = Vec::new(alloc);
+    add_ends(alloc, stage, name, whole, &mut ends)?;
+    for end in &ends {
+        say(out, end)?;
+    }
+    Ok(())
+}
+
+/// The same of a document among the files, which then is as it was.
 pub(crate) fn each_change(
     alloc: Global,
     stage: &mut Stage,
@@ -76,52 +115,87 @@ pub(crate) fn each_change(
     out: &mut String,
 ) -> Result<(), Halt> {
     let whole = bytes_of(&stage.papers, name)?.to_vec(alloc)?;
-    let mut ends = Vec::new(alloc);
-    for at in 0..whole.len() {
-        let front = whole.get(..at).unwrap_or(&[]).to_vec(alloc)?;
-        add_end(alloc, stage, name, front, &mut ends)?;
-        for bit in BITS {
-            let bytes = turned(alloc, &whole, at, bit)?;
-            add_end(alloc, stage, name, bytes, &mut ends)?;
-        }
-    }
-    place(alloc, &mut stage.papers, name, whole)?;
-    for end in &ends {
-        say(out, end)?;
-    }
-    Ok(())
+    say_ends(alloc, stage, name, &whole, out)?;
+    place(alloc, &mut stage.papers, name, whole)
 }
 
 /// What the last command tells over other bytes of a document.
 fn told_over(alloc: Global, stage: &mut Stage, name: &str, bytes: Vec<u8>) -> Result<String, Halt> {
     place(alloc, &mut stage.papers, name, bytes)?;
     let last = last_of(&stage.last)?;
-    told_by(
-        alloc,
-        &stage.papers,
-        &last.call,
-        copied(alloc, &last.given)?,
-    )
+    told_by(alloc, &stage.papers, &last.call, &last.given)
 }
 
-/// What it tells where one byte is changed by each bit.
-fn told_turned(
+/// Tells what it tells where one byte is changed by a bit.
+fn tell_turned(
+    alloc: Global,
+    stage: &mut Stage,
+    name: &str,
+    bytes: Vec<u8>,
+    bit: u8,
+    ways: &mut Ways,
+) -> Result<(), Halt> {
+    let told = told_over(alloc, stage, name, bytes)?;
+    ways.add(&format!(in alloc; "{bit}")?, &told)
+}
+
+/// Prints what the last command tells where a document is cut at each length.
+fn say_cuts(
+    alloc: Global,
+    stage: &mut Stage,
+    name: &str,
+    whole: &[u8],
+    out: &mut String,
+) -> Result<(), Halt> {
+    let mut runs = Runs::new(alloc);
+    for at in 0..whole.len() {
+        let told = told_over(alloc, stage, name, front(alloc, whole, at)?)?;
+        runs.add(alloc, &told, out)?;
+    }
+    runs.say(alloc, out)
+}
+
+/// Adds what it tells where one byte of a document is changed by each bit.
+fn add_turns(
     alloc: Global,
     stage: &mut Stage,
     name: &str,
     whole: &[u8],
     at: usize,
-) -> Result<String, Halt> {
-    let mut told = Ways::new(alloc);
+    ways: &mut Ways,
+) -> Result<(), Halt> {
+    ways.clear();
     for bit in BITS {
-        let bytes = turned(alloc, whole, at, bit)?;
-        let way = format!(in alloc; "{bit}")?;
-        told.add(&way, told_over(alloc, stage, name, bytes)?)?;
+        tell_turned(
+            alloc,
+            stage,
+            name,
+            turned(alloc, whole, at, bit)?,
+            bit,
+            ways,
+        )?;
     }
-    Ok(told.text)
+    Ok(())
 }
 
-/// Prints what the last command tells where a document is cut at each length, and then where each of its bytes is changed in each bit.
+/// Prints what it tells where each byte is changed so.
+fn say_turns(
+    alloc: Global,
+    stage: &mut Stage,
+    name: &str,
+    whole: &[u8],
+    out: &mut String,
+) -> Result<(), Halt> {
+    let mut ways = Ways::new(alloc);
+    let mut runs = Runs::new(alloc);
+    for at in 0..whole.len() {
+        add_turns(alloc, stage, name, whole, at, &mut ways)?;
+        runs.add(alloc, ways.text(), out)?;
+    }
+    runs.say(alloc, out)
+}
+
+/// Prints both of a document among the files, which then is as it was.
 pub(crate) fn each_answer(
     alloc: Global,
     stage: &mut Stage,
@@ -129,15 +203,7 @@ pub(crate) fn each_answer(
     out: &mut String,
 ) -> Result<(), Halt> {
     let whole = bytes_of(&stage.papers, name)?.to_vec(alloc)?;
-    let (mut cuts, mut turns) = (Runs::new(alloc), Runs::new(alloc));
-    for at in 0..whole.len() {
-        let front = whole.get(..at).unwrap_or(&[]).to_vec(alloc)?;
-        cuts.add(alloc, told_over(alloc, stage, name, front)?, out)?;
-    }
-    cuts.say(alloc, out)?;
-    for at in 0..whole.len() {
-        turns.add(alloc, told_turned(alloc, stage, name, &whole, at)?, out)?;
-    }
-    turns.say(alloc, out)?;
+    say_cuts(alloc, stage, name, &whole, out)?;
+    say_turns(alloc, stage, name, &whole, out)?;
     place(alloc, &mut stage.papers, name, whole)
 }

@@ -1,5 +1,5 @@
 //! What a power cut leaves of a machine in memory.
-use crate::flashes::Flashes;
+use crate::flashes::{Flashes, set};
 use crate::halt::Halt;
 use crate::stage::{Kept, kept_as};
 use crate::words::hex_bytes;
@@ -55,6 +55,9 @@ pub(crate) fn cut(alloc: Global, m: &Recorder, ops: u32, fill: Fill<'_>) -> Resu
         Fill::Like(other) => {
             let zeros = torn(alloc, m, ops, Tear::Byte(0))?;
             let ones = torn(alloc, m, ops, Tear::Byte(1))?;
+            if !have_same_sizes(&zeros, other) {
+                return Err(Halt::Script);
+            }
             Ok(Flashes {
                 internal: filled(alloc, &zeros.internal, &ones.internal, &other.internal)?,
                 external: filled(alloc, &zeros.external, &ones.external, &other.external)?,
@@ -63,14 +66,19 @@ pub(crate) fn cut(alloc: Global, m: &Recorder, ops: u32, fill: Fill<'_>) -> Resu
     }
 }
 
+fn have_same_sizes(one: &Flashes, other: &Flashes) -> bool {
+    one.internal.len() == other.internal.len() && one.external.len() == other.external.len()
+}
+
 /// An image with the bytes of another one wherever two tears differ, which is where it is dirty.
 fn filled(alloc: Global, zeros: &[u8], ones: &[u8], other: &[u8]) -> Result<Vec<u8>, Memory> {
-    let bytes = zeros.iter().zip(ones.iter()).zip(other.iter());
-    Ok(
-        bytes
-            .map(|((zero, one), byte)| if zero == one { *zero } else { *byte })
-            .collect(alloc)?,
-    )
+    let mut image = zeros.to_vec(alloc)?;
+    for ((place, one), byte) in image.iter_mut().zip(ones).zip(other) {
+        if *place != *one {
+            *place = *byte;
+        }
+    }
+    Ok(image)
 }
 
 /// What is left where the operation behind these has put its bytes up to a place.
@@ -85,10 +93,7 @@ pub(crate) fn cut_at(alloc: Global, m: &Recorder, ops: u32, at: usize) -> Result
 
 /// The front of one image and the rest of another.
 fn joined(alloc: Global, new: &[u8], old: &[u8], at: usize) -> Result<Vec<u8>, Memory> {
-    let bytes = new.iter().zip(old.iter()).enumerate();
-    Ok(
-        bytes
-            .map(|(place, (new, old))| if place < at { *new } else { *old })
-            .collect(alloc)?,
-    )
+    let mut image = old.to_vec(alloc)?;
+    set(&mut image, 0, new.get(..at).unwrap_or(new));
+    Ok(image)
 }

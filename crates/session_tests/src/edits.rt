@@ -30,23 +30,21 @@ fn found(bytes: &[u8], from: usize, piece: &[u8]) -> Option<usize> {
     (from..bytes.len()).find(|at| bytes[*at..].starts_with(piece))
 }
 
-/// Bytes in which a piece stands in the place of another, wherever that one stands, and whether it stands anywhere.
-fn replaced(alloc: Global, bytes: &[u8], old: &[u8], new: &[u8]) -> Result<(Vec<u8>, bool), Halt> {
+/// Bytes in which a piece stands in the place of another, wherever that one stands.
+fn replaced(alloc: Global, bytes: &[u8], old: &[u8], new: &[u8]) -> Result<Vec<u8>, Halt> {
     let mut made = Vec::new(alloc);
     let mut skip = 0usize;
-    let mut any = false;
     for at in 0..bytes.len() {
         if skip > 0 {
             skip -= 1;
         } else if bytes[at..].starts_with(old) {
             made.extend_from_slice(new)?;
             skip = old.len().saturating_sub(1);
-            any = true;
         } else {
             made.push(bytes[at])?;
         }
     }
-    Ok((made, any))
+    Ok(made)
 }
 
 /// The bytes from the first place of one piece to the end of the other that stands next behind it.
@@ -89,20 +87,23 @@ fn new_of(alloc: Global, text: &str) -> Result<Vec<u8>, Halt> {
     Ok(bytes)
 }
 
-/// A document with changes, `OLD => NEW` with ` | ` between them, each of which finds its place.
+/// A document with a change, which finds its place.
+fn changed(alloc: Global, bytes: &[u8], change: &str) -> Result<Vec<u8>, Halt> {
+    let Some((old, new)) = change.split_once(" => ") else {
+        return Err(Halt::Script);
+    };
+    let old = old_of(alloc, bytes, old)?;
+    if old.is_empty() || found(bytes, 0, &old).is_none() {
+        return Err(Halt::Script);
+    }
+    replaced(alloc, bytes, &old, &new_of(alloc, new)?)
+}
+
+/// A document with changes, `OLD => NEW` with ` | ` between them.
 pub(crate) fn edited(alloc: Global, bytes: &[u8], changes: &str) -> Result<Vec<u8>, Halt> {
     let mut bytes = bytes.to_vec(alloc)?;
     for change in changes.split(" | ") {
-        let Some((old, new)) = change.split_once(" => ") else {
-            return Err(Halt::Script);
-        };
-        let old = old_of(alloc, &bytes, old)?;
-        let new = new_of(alloc, new)?;
-        let (made, any) = replaced(alloc, &bytes, &old, &new)?;
-        if old.is_empty() || !any {
-            return Err(Halt::Script);
-        }
-        bytes = made;
+        bytes = changed(alloc, &bytes, change)?;
     }
     Ok(bytes)
 }
@@ -119,14 +120,24 @@ pub(crate) fn hashed(alloc: Global, bytes: &[u8]) -> Result<Vec<u8>, Halt> {
             Some((part, _)) => part,
             None => line,
         };
-        let mut hasher = Sha512::new();
-        hasher.update(before.as_bytes());
-        hasher.update(part.as_bytes());
-        before = encode_upper(alloc, hasher.finalize())?;
-        file.extend_from_slice(part.as_bytes())?;
-        file.extend_from_slice(b" HASH:")?;
-        file.extend_from_slice(before.as_bytes())?;
-        file.push(b'\n')?;
+        before = hash_behind(alloc, &before, part)?;
+        put_part(&mut file, part, &before)?;
     }
     Ok(file)
+}
+
+/// The hash of a part behind that of the part before it.
+fn hash_behind(alloc: Global, before: &str, part: &str) -> Result<String, Halt> {
+    let mut hasher = Sha512::new();
+    hasher.update(before.as_bytes());
+    hasher.update(part.as_bytes());
+    Ok(encode_upper(alloc, hasher.finalize())?)
+}
+
+fn put_part(file: &mut Vec<u8>, part: &str, hash: &str) -> Result<(), Halt> {
+    file.extend_from_slice(part.as_bytes())?;
+    file.extend_from_slice(b" HASH:")?;
+    file.extend_from_slice(hash.as_bytes())?;
+    file.push(b'\n')?;
+    Ok(())
 }

@@ -85,17 +85,17 @@ pub(crate) fn is_left(m: &Recorder, flashes: &Flashes) -> bool {
         && m.content(Dev::External) == flashes.external.as_slice()
 }
 
-/// A machine over these flashes, which have so many bytes, with these faults.
+/// A machine over a copy of these flashes, which have so many bytes, with these faults.
 pub(crate) fn machine(
     alloc: Global,
-    flashes: Flashes,
+    flashes: &Flashes,
     faults: &Faults,
     size: u32,
 ) -> Result<Recorder, Halt>
     requires { size < 2 ^ 31 }
     ensures { IfOk result (λ m. (d : Dev) → size_of d (recorder_told m).sizes ≡ size) }
 {
-    let Flashes { internal, external } = flashes;
+    let Flashes { internal, external } = copied(alloc, flashes)?;
     if internal.len() != size as usize || external.len() != size as usize {
         return Err(Halt::Script);
     }

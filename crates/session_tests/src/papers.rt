@@ -1,6 +1,6 @@
 //! The files that a command is given.
 use crate::halt::Halt;
-use memory_outside::{Shelf, Watched};
+use memory_outside::{Shelf, WatchedShelf};
 use std::alloc::Global;
 use urna_base::Memory;
 
@@ -19,17 +19,12 @@ pub(crate) fn cabinet_of(
     alloc: Global,
     papers: &[Paper],
     failing: &[u32],
-) -> Result<Watched, Memory> {
+) -> Result<WatchedShelf, Memory> {
     let mut shelf = Shelf::new(alloc, SHELF_ROOM, failing)?;
     for paper in papers {
         shelf.place(&paper.name, &paper.bytes)?;
     }
-    Ok(Watched {
-        shelf,
-        alloc,
-        puts: Vec::new(alloc),
-        lost: false,
-    })
+    Ok(WatchedShelf::new(alloc, shelf))
 }
 
 /// The place of the file of that name.

@@ -26,20 +26,14 @@ impl Runs {
             return Ok(());
         }
         let (first, last) = (self.first, self.next.saturating_sub(1));
-        let line = format!(in alloc; "{first} to {last}: {}", self.text)?;
-        say(out, &line)
+        say(out, &format!(in alloc; "{first} to {last}: {}", self.text)?)
     }
 
-    pub(crate) fn add(
-        &mut self,
-        alloc: Global,
-        text: String,
-        out: &mut String,
-    ) -> Result<(), Halt> {
-        if text != self.text {
+    pub(crate) fn add(&mut self, alloc: Global, text: &str, out: &mut String) -> Result<(), Halt> {
+        if self.text.as_str() != text {
             self.say(alloc, out)?;
             self.first = self.next;
-            self.text = text;
+            self.text = String::from_str(alloc, text)?;
         }
         self.next = self.next.saturating_add(1);
         Ok(())
@@ -49,7 +43,7 @@ impl Runs {
 /// What is told one way after another, of which only what isn't told of the way before is kept.
 #[derive(Drop)]
 pub(crate) struct Ways {
-    pub text: String,
+    text: String,
     before: String,
 }
 
@@ -61,8 +55,18 @@ impl Ways {
         }
     }
 
-    pub(crate) fn add(&mut self, way: &str, told: String) -> Result<(), Halt> {
-        if told == self.before {
+    /// Begins anew.
+    pub(crate) fn clear(&mut self) {
+        self.text.clear();
+        self.before.clear();
+    }
+
+    pub(crate) fn text(&self) -> &str {
+        self.text.as_str()
+    }
+
+    pub(crate) fn add(&mut self, way: &str, told: &str) -> Result<(), Halt> {
+        if self.before.as_str() == told {
             return Ok(());
         }
         if !self.text.is_empty() {
@@ -70,8 +74,9 @@ impl Ways {
             self.text.push_str(way)?;
             self.text.push_str(" on ")?;
         }
-        self.text.push_str(&told)?;
-        self.before = told;
+        self.text.push_str(told)?;
+        self.before.clear();
+        self.before.push_str(told)?;
         Ok(())
     }
 }

@@ -1,5 +1,5 @@
 //! The lines of a script that set up, and those that are commands.
-use crate::calls::{Call, call_of, run, say_end, say_ran, session_of, shown};
+use crate::calls::{Call, Ran, call_of, run, say_end, say_ran, session_of, shown};
 use crate::cuts::{cut, fill_of};
 use crate::edits::{edited, hashed};
 use crate::flashes::{Flashes, Program, blank, copied, left, set, shut_device};
@@ -148,15 +148,20 @@ fn change(alloc: Global, stage: &mut Stage, word: &str, rest: &str) -> Result<bo
     Ok(true)
 }
 
-/// Runs a command over flashes. Those of the script then hold what it left, and the files that it put are among the files.
-fn command(alloc: Global, stage: &mut Stage, call: Call, given: Flashes) -> Result<(), Halt> {
-    let over = copied(alloc, &given)?;
-    let ran = run(alloc, &stage.papers, &stage.faults, &call, over)?;
+/// The flashes of the script hold what a command left, and the files that it put are among the files.
+fn take_over(alloc: Global, stage: &mut Stage, ran: &Ran) -> Result<(), Halt> {
     stage.flashes = left(alloc, &ran.machine)?;
     for paper in &ran.made {
         let bytes = paper.bytes.to_vec(alloc)?;
         place(alloc, &mut stage.papers, &paper.name, bytes)?;
     }
+    Ok(())
+}
+
+/// Runs a command over flashes, and takes over what it left. It is the last command then.
+fn command(alloc: Global, stage: &mut Stage, call: Call, given: Flashes) -> Result<(), Halt> {
+    let ran = run(alloc, &stage.papers, &stage.faults, &call, &given)?;
+    take_over(alloc, stage, &ran)?;
     stage.last = Some(Last { call, given, ran });
     Ok(())
 }
@@ -204,6 +209,13 @@ fn run_hushed(alloc: Global, stage: &mut Stage, words: &str, out: &mut String) -
     say_end(alloc, &last_of(&stage.last)?.ran, out)
 }
 
+/// Runs the last command over the flashes that it was given and the files as they are now, and prints what it shows.
+fn say_once_more(alloc: Global, stage: &Stage, out: &mut String) -> Result<(), Halt> {
+    let last = last_of(&stage.last)?;
+    let ran = run(alloc, &stage.papers, &stage.faults, &last.call, &last.given)?;
+    say_ran(alloc, &ran, "", out)
+}
+
 /// The last command over the flashes that it was given and other bytes of a document. Nothing stays of it.
 fn run_over(
     alloc: Global,
@@ -214,10 +226,7 @@ fn run_over(
 ) -> Result<(), Halt> {
     let whole = bytes_of(&stage.papers, name)?.to_vec(alloc)?;
     place(alloc, &mut stage.papers, name, bytes)?;
-    let last = last_of(&stage.last)?;
-    let given = copied(alloc, &last.given)?;
-    let ran = run(alloc, &stage.papers, &stage.faults, &last.call, given)?;
-    say_ran(alloc, &ran, "", out)?;
+    say_once_more(alloc, stage, out)?;
     place(alloc, &mut stage.papers, name, whole)
 }
 

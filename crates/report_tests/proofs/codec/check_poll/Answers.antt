@@ -18,8 +18,8 @@ ballot-requires-clause-ballot g c =
     let one : length (ballot_lines t) ≡ 1 = omega (arith, lines_length t) in
     (first_blank (ballot_lines t) one, sym one)
 
-pub told-requires : goal.told-requires
-told-requires g c =
+pub is_sealed-requires : goal.is_sealed-requires
+is_sealed-requires g c =
     let one : length c.args.tables.now.panels ≡ 1 = omega arith in
     let bags_of : State → ℕ = λ s. length s.bags in
     let ready = ap bags_of c.in_ok-state.ensures in

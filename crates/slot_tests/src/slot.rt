@@ -7,29 +7,13 @@ ghost use Rattle.urna_outside.specs.declared.device.Dev.TheVariants.{External};
 ghost use Rattle.gate_slot.specs.Device.{OnFlash};
 ghost use Rattle.gate_slot.specs.Slot.{room};
 
+use crate::device::{DEVICE, OLD, OPEN};
+use crate::twins::{CLOSED, NEW, TEARS};
 use gate_slot::{Live, Slot, Step, Torn, adopt};
 use memory_outside::{Recorder, Tear};
 use std::process::Abort;
 use std::test::Fail;
 use urna_outside::{Dev, Machine};
-
-const OLD: [u8; 4] = [1; 4];
-
-const NEW: [u8; 4] = [2; 4];
-
-const OPEN: u8 = 0xA5;
-
-const CLOSED: u8 = 0x5A;
-
-const TEARS: [Tear; 4] = [
-    Tear::AsPut,
-    Tear::Byte(0x00),
-    Tear::Byte(CLOSED),
-    Tear::Byte(OPEN),
-];
-
-/// The bytes of a device: a header of 512, and two slots of a gate, a padding of 511 and a body of 4.
-const DEVICE: usize = 1_544;
 
 /// The slot that begins at 512 + 516.
 const SLOT: Slot<4> = Slot {
@@ -79,7 +63,7 @@ fn left(
 ) -> Result<(u8, [u8; 4]), Fail> {
     assert!(rt; ops <= m.trail_len());
     let image = m.stop(rt.alloc(), Dev::External, ops, tear)?;
-    assert_eq!(rt; image.len(), DEVICE);
+    assert!(rt; image.len() == DEVICE);
     let mut body = [0; 4];
     body.copy_from_slice(&image[BODY..]);
     Ok((image[GATE], body))
@@ -92,20 +76,12 @@ fn a_slot_is_taken_over_shut_filled_and_published(rt: HostRuntime) -> Result<(),
     let mut buffer = [0; 4];
     let live = adopt(&mut m, SLOT, &OLD, &mut buffer)?.expect(&rt, "it is open with that body");
     let live = turn(&mut m, live.slot(), &NEW)?;
-    assert_eq!(rt; live.slot(), SLOT);
-    assert_eq!(rt; m.trail_len(), 6);
+    assert!(rt; live.slot() == SLOT);
+    assert!(rt; m.trail_len() == 6);
     for tear in TEARS {
-        assert_eq!(rt; left(&rt, &m, 2, tear)?, (CLOSED, OLD), "shut, at {tear:?}");
-        assert_eq!(rt;
-            left(&rt, &m, 4, tear)?,
-            (CLOSED, NEW),
-            "filled, at {tear:?}"
-        );
-        assert_eq!(rt;
-            left(&rt, &m, 6, tear)?,
-            (OPEN, NEW),
-            "published, at {tear:?}"
-        );
+        assert!(rt; left(&rt, &m, 2, tear)? == (CLOSED, OLD), "shut");
+        assert!(rt; left(&rt, &m, 4, tear)? == (CLOSED, NEW), "filled");
+        assert!(rt; left(&rt, &m, 6, tear)? == (OPEN, NEW), "published");
     }
     Ok(())
 }
@@ -117,6 +93,33 @@ fn a_slot_with_another_body_or_a_shut_one_is_not_taken_over(rt: HostRuntime) -> 
     assert!(rt; adopt(&mut m, SLOT, &NEW, &mut buffer)?.is_none());
     SLOT.shut(&mut m)?;
     assert!(rt; adopt(&mut m, SLOT, &OLD, &mut buffer)?.is_none());
+    Ok(())
+}
+
+/// A turn of the slot whose call of this number fails is torn in this step.
+fn check_torn(rt: &(impl Abort + AllocGlobal), call: u32, step: Step) -> Result<(), Fail> {
+    let mut m = machine(rt, &[call])?;
+    let torn = Torn { slot: SLOT, step };
+    assert!(rt; turn(&mut m, SLOT, &NEW).err() == Some(torn), "at {call}");
+    check_owed(rt, &m, call, step)
+}
+
+/// What a machine owes whose call of this number failed in a step.
+fn check_owed(
+    rt: &(impl Abort + AllocGlobal),
+    m: &Recorder,
+    call: u32,
+    step: Step,
+) -> Result<(), Fail> {
+    for tear in TEARS {
+        let (gate, body) = left(rt, m, m.trail_len(), tear)?;
+        let is_owed = match step {
+            Step::Shutting => body == OLD,
+            Step::Filling => gate == CLOSED,
+            Step::Publishing => body == NEW,
+        };
+        assert!(rt; is_owed, "at {call}");
+    }
     Ok(())
 }
 
@@ -132,18 +135,7 @@ fn a_step_that_fails_leaves_what_it_owes(rt: HostRuntime) -> Result<(), Fail> {
         (5, Step::Publishing),
         (6, Step::Publishing),
     ] {
-        let mut m = machine(&rt, &[call])?;
-        let torn = Torn { slot: SLOT, step };
-        assert_eq!(rt; turn(&mut m, SLOT, &NEW).err(), Some(torn), "at {call}");
-        for tear in TEARS {
-            let (gate, body) = left(&rt, &m, m.trail_len(), tear)?;
-            let leaves = match step {
-                Step::Shutting => body == OLD,
-                Step::Filling => gate == CLOSED,
-                Step::Publishing => body == NEW,
-            };
-            assert!(rt; leaves, "at {call} {tear:?}");
-        }
+        check_torn(&rt, call, step)?;
     }
     Ok(())
 }
@@ -155,7 +147,7 @@ fn a_device_that_fails_to_read_is_answered(rt: HostRuntime) -> Result<(), Fail> 
         let mut m = machine(&rt, &[call])?;
         let mut buffer = [0; 4];
         let failed = adopt(&mut m, SLOT, &OLD, &mut buffer).err();
-        assert_eq!(rt; failed, Some(Dev::External), "at {call}");
+        assert!(rt; failed == Some(Dev::External), "at {call}");
     }
     Ok(())
 }

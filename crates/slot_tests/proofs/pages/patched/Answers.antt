@@ -6,7 +6,7 @@ use Rattle.gate_slot.specs.Slot.{IsGateShut, body_in, room}
 use Rattle.gate_slot.proofs.Images.{body_image}
 use Rattle.gate_slot.proofs.Written.{body_stays_there}
 use Rattle.twin_image.proofs.Renewing.{content_image}
-use Rattle.outside_tests.proofs.pages.patched.Goals as goal
+use Rattle.slot_tests.proofs.pages.patched.Goals as goal
 
 -- a shut gate leaves the body
 pub patch-requires : goal.patch-requires

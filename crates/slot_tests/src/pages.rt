@@ -121,28 +121,85 @@ fn check_left(
     Ok(())
 }
 
+/// The slot of a machine with the old body is patched, in seven operations.
+fn check_patched(rt: &impl Abort, m: &mut Recorder) -> Result<(), Fail>
+    requires room { room 1536 ≤ size_of Internal (recorder_told m.old).sizes }
+    requires clean { OnFlash Internal IsClean (recorder_told m.old) }
+{
+    let mut buffer = [0; SIZE];
+    let live = taken_and_patched(m, SLOT, &OLD, &new_body(), &mut buffer)??;
+    assert!(rt; live.slot() == SLOT);
+    assert!(rt; m.trail_len() == 7);
+    Ok(())
+}
+
+/// What a cut in a patch leaves of the gate and of the three pages, after so many operations.
+fn check_cut(
+    rt: &(impl Abort + AllocGlobal),
+    m: &Recorder,
+    ops: u32,
+    bytes: [u8; 4],
+) -> Result<(), Fail> {
+    let ranges = [
+        (512, 513, bytes[0]),
+        (1_024, 1_536, bytes[1]),
+        (1_536, 2_048, bytes[2]),
+        (2_048, 2_560, bytes[3]),
+    ];
+    check_left(rt, m, ops, Tear::Byte(0x99), &ranges)
+}
+
 /// Two operations shut the gate, three put and sync the pages, and two open the gate.
 #[test]
 fn a_patch_puts_the_pages_that_change(rt: HostRuntime) -> Result<(), Fail> {
     let mut m = machine(&rt, 4_096)?;
+    check_patched(&rt, &mut m)?;
+    for (ops, bytes) in [
+        (2, [CLOSED, 1, 1, 1]),
+        (3, [CLOSED, 0x99, 1, 1]),
+        (4, [CLOSED, 0x99, 1, 0x99]),
+        (5, [CLOSED, 2, 1, 3]),
+        (7, [OPEN, 2, 1, 3]),
+    ] {
+        check_cut(&rt, &m, ops, bytes)?;
+    }
+    Ok(())
+}
+
+/// A patch is torn in the page that begins there, behind so many bytes of it, which are these.
+fn check_torn(
+    rt: &(impl Abort + AllocGlobal),
+    m: &mut Recorder,
+    page: usize,
+    part: usize,
+    byte: u8,
+) -> Result<(), Fail>
+    requires room { room 1536 ≤ size_of Internal (recorder_told m.old).sizes }
+    requires clean { OnFlash Internal IsClean (recorder_told m.old) }
+    requires within { (page ≤ 4096) × (part ≤ 512) }
+{
+    let torn = Torn {
+        slot: SLOT,
+        step: Step::Filling,
+    };
     let mut buffer = [0; SIZE];
-    let live = taken_and_patched(&mut m, SLOT, &OLD, &new_body(), &mut buffer)??;
-    assert_eq!(rt; live.slot(), SLOT);
-    assert_eq!(rt; m.trail_len(), 7);
-    for (ops, gate, first, middle, last) in [
-        (2, CLOSED, 1, 1, 1),
-        (3, CLOSED, 0x99, 1, 1),
-        (4, CLOSED, 0x99, 1, 0x99),
-        (5, CLOSED, 2, 1, 3),
-        (7, OPEN, 2, 1, 3),
+    let ended = taken_and_patched(m, SLOT, &OLD, &new_body(), &mut buffer)?;
+    assert!(rt; ended.err() == Some(torn), "at {page} {part}");
+    let end = page + part;
+    for (tear, left) in [
+        (Tear::AsPut, byte),
+        (Tear::Byte(OPEN), OPEN),
+        (Tear::Byte(1), 1),
     ] {
         let ranges = [
-            (512, 513, gate),
-            (1_024, 1_536, first),
-            (1_536, 2_048, middle),
-            (2_048, 2_560, last),
+            (512, 513, CLOSED),
+            (page, end, left),
+            (end, page + 512, 1),
+            (1_536, 2_048, 1),
+            (2_560, 2_561, OPEN),
+            (3_072, DEVICE, 1),
         ];
-        check_left(&rt, &m, ops, Tear::Byte(0x99), &ranges)?;
+        check_left(rt, m, m.trail_len(), tear, &ranges)?;
     }
     Ok(())
 }
@@ -150,45 +207,30 @@ fn a_patch_puts_the_pages_that_change(rt: HostRuntime) -> Result<(), Fail> {
 /// There is room for the shut gate, for whole pages before it, and for a part of the page.
 #[test]
 fn a_patch_is_torn_in_each_page_at_three_places(rt: HostRuntime) -> Result<(), Fail> {
-    let new = new_body();
-    let torn = Torn {
-        slot: SLOT,
-        step: Step::Filling,
-    };
-    for (used, page, byte) in [(1, 1_024, 2), (513, 2_048, 3)] {
-        for part in [1, 100, 256] {
-            let mut m = machine(&rt, used + part)?;
-            let mut buffer = [0; SIZE];
-            let ended = taken_and_patched(&mut m, SLOT, &OLD, &new, &mut buffer)?;
-            assert_eq!(rt; ended.err(), Some(torn), "at {page} {part}");
-            let end = page + part as usize;
-            for (tear, left) in [
-                (Tear::AsPut, byte),
-                (Tear::Byte(OPEN), OPEN),
-                (Tear::Byte(1), 1),
-            ] {
-                let ranges = [
-                    (512, 513, CLOSED),
-                    (page, end, left),
-                    (end, page + 512, 1),
-                    (1_536, 2_048, 1),
-                    (2_560, 2_561, OPEN),
-                    (3_072, DEVICE, 1),
-                ];
-                check_left(&rt, &m, m.trail_len(), tear, &ranges)?;
-            }
-        }
+    for part in [1, 100, 256] {
+        let mut m = machine(&rt, 1 + part)?;
+        check_torn(&rt, &mut m, 1_024, part as usize, 2)?;
+        let mut m = machine(&rt, 513 + part)?;
+        check_torn(&rt, &mut m, 2_048, part as usize, 3)?;
     }
     Ok(())
 }
 
-/// Seven operations a slot.
+/// Both slots of a machine with the old bodies are renewed, in seven operations each.
+fn check_renewed(rt: &impl Abort, m: &mut Recorder) -> Result<(), Fail>
+    requires room { room 1536 ≤ size_of Internal (recorder_told m.old).sizes }
+    requires clean { OnFlash Internal IsClean (recorder_told m.old) }
+{
+    let mut buffer = [0; SIZE];
+    renewed::<_, SIZE>(m, Dev::Internal, &OLD, &new_body(), &mut buffer)??;
+    assert!(rt; m.trail_len() == 14);
+    Ok(())
+}
+
 #[test]
 fn a_renewal_puts_the_pages_that_change(rt: HostRuntime) -> Result<(), Fail> {
     let mut m = machine(&rt, 4_096)?;
-    let mut buffer = [0; SIZE];
-    renewed::<_, SIZE>(&mut m, Dev::Internal, &OLD, &new_body(), &mut buffer)??;
-    assert_eq!(rt; m.trail_len(), 14);
+    check_renewed(&rt, &mut m)?;
     let ranges = [
         (512, 513, CLOSED),
         (1_024, 1_536, 0x99),

@@ -1,5 +1,5 @@
 use Rattle.urna_outside.proofs.Keeping.{started_clean}
-use Rattle.outside_tests.proofs.device.machine.Goals as goal
+use Rattle.slot_tests.proofs.device.machine.Goals as goal
 
 pub returns-clause-clean : goal.returns-clause-clean
 returns-clause-clean g c = λ fs some. (started_clean _ _ _ _ c.in_ok-m.ensures.told fs some).0

@@ -14,11 +14,11 @@ use std::test::Fail;
 use twin_image::renew;
 use urna_outside::{Dev, Machine};
 
-const NEW: [u8; 4] = [2; 4];
+pub(crate) const NEW: [u8; 4] = [2; 4];
 
 pub(crate) const CLOSED: u8 = 0x5A;
 
-const TEARS: [Tear; 4] = [
+pub(crate) const TEARS: [Tear; 4] = [
     Tear::AsPut,
     Tear::Byte(0x00),
     Tear::Byte(CLOSED),
@@ -61,7 +61,7 @@ fn left(
 {
     assert!(rt; ops <= m.trail_len());
     let image = m.stop(rt.alloc(), dev, ops, tear)?;
-    assert_eq!(rt; image.len(), DEVICE);
+    assert!(rt; image.len() == DEVICE);
     Ok(image)
 }
 
@@ -90,15 +90,15 @@ fn a_renewal_is_stopped_at_a_body_and_at_a_gate(rt: HostRuntime) -> Result<(), F
     let mut m = machine(&rt, &[])?;
     let mut buffer = [0; 4];
     let (first, second) = renewed::<_, 4>(&mut m, Dev::Internal, &OLD, &NEW, &mut buffer)??;
-    assert_eq!(rt; [first.slot().index, second.slot().index], [0, 1]);
-    assert_eq!(rt; m.trail_len(), 12);
+    assert!(rt; [first.slot().index, second.slot().index] == [0, 1]);
+    assert!(rt; m.trail_len() == 12);
     for (ops, byte, slots) in [
         (3, 0x99, [(CLOSED, [0x99; 4]), (OPEN, OLD)]),
         (5, OPEN, [(OPEN, NEW), (OPEN, OLD)]),
         (12, 0x99, [(OPEN, NEW), (OPEN, NEW)]),
     ] {
         let image = left(&rt, &m, Dev::Internal, ops, Tear::Byte(byte))?;
-        assert_eq!(rt; held(&image), slots, "after {ops}");
+        assert!(rt; held(&image) == slots, "after {ops}");
     }
     Ok(())
 }
@@ -121,10 +121,10 @@ fn a_renewal_is_stopped_after_each_operation(rt: HostRuntime) -> Result<(), Fail
     for ops in 0..=12 {
         for tear in TEARS {
             let image = left(&rt, &m, Dev::Internal, ops, tear)?;
-            assert!(rt; holds_either(held(&image)), "after {ops} {tear:?}");
-            assert!(rt; have_same_frame(&image, &internal), "after {ops} {tear:?}");
+            assert!(rt; holds_either(held(&image)), "after {ops}");
+            assert!(rt; have_same_frame(&image, &internal), "after {ops}");
             let other = left(&rt, &m, Dev::External, ops, tear)?;
-            assert!(rt; other == external, "after {ops} {tear:?}");
+            assert!(rt; other == external, "after {ops}");
         }
     }
     Ok(())
@@ -143,8 +143,8 @@ fn a_renewal_whose_device_fails_is_torn(rt: HostRuntime) -> Result<(), Fail> {
         step: Step::Filling,
     };
     let ended = renewed::<_, 4>(&mut m, Dev::Internal, &OLD, &NEW, &mut buffer)?;
-    assert_eq!(rt; ended.err(), Some(torn));
+    assert!(rt; ended.err() == Some(torn));
     let image = left(&rt, &m, Dev::Internal, m.trail_len(), Tear::AsPut)?;
-    assert_eq!(rt; held(&image), [(CLOSED, [2, 2, 1, 1]), (OPEN, OLD)]);
+    assert!(rt; held(&image) == [(CLOSED, [2, 2, 1, 1]), (OPEN, OLD)]);
     Ok(())
 }
