@@ -3,7 +3,7 @@
 use Rattle.std.proofs.Common.{◌≡◌, ℕ, List, [], ◌∷◌, ◌++◌, refl, lit<, lit≤}
 use Rattle.std.specs.Prelude.{codes}
 use Rattle.std.specs.Fmt.{digits}
-use Rattle.std.specs.List.{flat_map}
+use Rattle.urna_base.specs.Lines.{lines_text as text}
 use Rattle.urna_base.specs.Digits.{decimal_value, digits_value, padded}
 use Rattle.urna_base.specs.Moment.{is_date}
 use Rattle.urna_base.specs.Words.{cut_at}
@@ -34,9 +34,6 @@ record_with votes = record {
 
 abbrev two_offices : RecordText
 two_offices = record_with (choice.Nominal 13001 ∷ choice.Party 45 ∷ choice.Blank ∷ [])
-
-abbrev text : List (List ℕ) → List ℕ
-text lines = flat_map (λ line. line ++ 10 ∷ []) lines
 
 abbrev head : List (List ℕ)
 head = codes "RDV U1" ∷ codes "PROC 7 DTPL 20261004 TURN 1 ZONA 1 SECA 42" ∷ []

@@ -3,6 +3,7 @@
 //! `rehearsal_tables`, `rehearsal_roll` and `rehearsal_keys` make the texts. What their readers make of them stands in
 //! `specs/Tables.antt`, `specs/Roll.antt` and `specs/Script.antt`, and in `specs/Typing.antt` what each voter types. `read_tables`,
 //! `read_roll` and `read_script` read the texts as well: no reader refuses its text (`laws`), so want of memory is their only error too.
+//! `is_suspended` says whom the clerk suspends.
 #![tactic(auto)]
 
 ghost use Rattle.std.specs.Prelude.{◌≡◌, ◌+◌, ◌^◌, ◌<◌, ◌≤◌, false, IfOk, Some, vec_len};

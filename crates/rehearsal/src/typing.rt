@@ -44,7 +44,7 @@ pub(crate) fn typed_at(place: u32) -> Option<(Typed, Typed)>
     }
 }
 
-/// Whether the clerk suspends the voter at a place behind panel 1.
+/// Whether the clerk suspends, after panel 1, the voter at a place of the roll; places are counted from 0.
 pub fn is_suspended(place: u32) -> bool
     ensures { result ≡ is_suspended place }
 {

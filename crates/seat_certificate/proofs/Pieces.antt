@@ -88,9 +88,6 @@ with_feeds-cons : (w : List ℕ) (ws : List (List ℕ)) → 0 < length ws → wi
 with_feeds-cons w [] some = absurd (omega arith)
 with_feeds-cons w (v ∷ ws) some = refl
 
-some_pieces : (text : List ℕ) → 0 < length (slice_split (λ b. b == 10) text)
-some_pieces text = omega (arith, length-slice_split (λ b. b == 10) text)
-
 feeds_join : (w : List ℕ) (ws : List (List ℕ)) → lines_text (with_feeds (w ∷ ws)).0 ++ (with_feeds (w ∷ ws)).1 ≡ join_with_byte 10 (w ∷ ws)
 feeds_join w [] = refl
 feeds_join w (v ∷ ws) =
@@ -104,13 +101,13 @@ joined (w ∷ ws) some = feeds_join w ws
 -- a text is its lines and what stands behind the last line feed
 pub lines_back : (bytes : List ℕ) → lines_text (lines_in bytes).0 ++ (lines_in bytes).1 ≡ bytes
 unfolding lines_in
-lines_back bytes = joined (slice_split (λ b. b == 10) bytes) (some_pieces bytes) ∙ join_with_byte-slice_split 10 bytes
+lines_back bytes = joined (slice_split (λ b. b == 10) bytes) (parts_there 10 bytes) ∙ join_with_byte-slice_split 10 bytes
 
 -- lines without a line feed are the lines of their text
 pub line_first : (line rest : List ℕ) → Lacks 10 line → lines_in (line ++ 10 ∷ rest) ≡ (line ∷ (lines_in rest).0, (lines_in rest).1)
 unfolding lines_in
 line_first line rest h =
-    ap with_feeds (slice_split_at (λ b. b == 10) line 10 rest (each_other 10 line h) refl) ∙ with_feeds-cons line (slice_split (λ b. b == 10) rest) (some_pieces rest)
+    ap with_feeds (slice_split_at (λ b. b == 10) line 10 rest (each_other 10 line h) refl) ∙ with_feeds-cons line (slice_split (λ b. b == 10) rest) (parts_there 10 rest)
 
 pub lines_of_text : (lines : List (List ℕ)) (rest : List ℕ) → AllByRecursion (Lacks 10) lines → lines_in (lines_text lines ++ rest) ≡ (lines ++ (lines_in rest).0, (lines_in rest).1)
 lines_of_text [] rest h = refl

@@ -1,8 +1,8 @@
 //! Numbers as digits, dates and moments, big-endian numbers, lines, words, and the bytes of a shown line: the layer under
-//! every format. A crate above takes a text apart by `split_line`, `split_piece`, `after` and `cut_at`, reads by `digits` and `decimal`,
+//! every format. A crate above takes a text apart by `split_line`, `split_piece`, `after`, `cut_at` and `first_place`, reads by `digits` and `decimal`,
 //! prints by `put_digits`, `put_decimal`, `put_line` and `LineBuffer`, takes the memory of a buffer by `zeros`, and cites
 //! `specs/Digits.antt` (what digits mean), `specs/Moment.antt` (dates and moments), `specs/Lines.antt` (the lines of a
-//! text, and a text of lines) and `specs/Words.antt` (what follows a word, and a cut). That printing and reading undo each other is in `laws`.
+//! text, and a text of lines) and `specs/Words.antt` (what follows a word, a cut, and the pieces of a text). That printing and reading undo each other is in `laws`.
 #![tactic(auto)]
 
 mod be;

@@ -31,7 +31,7 @@ pub fn put_decimal(out: &mut Vec<u8>, value: u64) -> Result<(), Memory>
     Ok(())
 }
 
-/// Appends a line, with its line feed. `Err` is want of memory; `out` may then have the line without its feed.
+/// Appends a line, with its line feed. `Err` is want of memory, and says nothing of `out`.
 pub fn put_line(out: &mut Vec<u8>, line: &[u8]) -> Result<(), Memory>
     ensures { OnOk result (out.new.items ≡ out.old.items ++ lines_text (line.now ∷ [])) }
 {

@@ -30,8 +30,7 @@ pub fn split_piece(text: &[u8]) -> (&[u8], Option<&[u8]>)
     }
 }
 
-/// Where the first byte of this value stands in a text; `None` where there is none. It goes byte by byte, which for pieces of a few bytes
-/// is sooner than `memchr`.
+/// Where the first byte of this value stands in a text; `None` where there is none. It goes byte by byte (docs/DECISIONS.md, "Time").
 pub fn first_place(byte: u8, text: &[u8]) -> Option<usize>
     ensures { result ≡ position (λ b. b == byte) text.now }
 {

@@ -8,8 +8,8 @@ ghost use Rattle.state_store.specs.Load.{IsSectionOf};
 mod bank;
 mod steps;
 
-use crate::{LONGEST_FILE, OTHER_WORDS};
-use bank::Bank;
+use crate::{LONGEST_FILE, ended};
+use bank::DayBank;
 use bench_works::DayWork;
 use election_tables::{MOST_VOTERS, Roll, Section, Tables};
 use gate_slot::{FRONT_SIZE, HEADER_SIZE};
@@ -47,7 +47,7 @@ fn is_held(
     roll: &Roll,
     section: Section,
     script: &Script,
-    bank: &mut Bank,
+    bank: &mut DayBank,
 ) -> bool
     requires { IsSectionOf tables.now roll.now section }
 {
@@ -67,10 +67,10 @@ fn day(
     roll: &Roll,
     section: Section,
     script: &Script,
-) -> Option<Bank>
+) -> Option<DayBank>
     requires { IsSectionOf tables.now roll.now section }
 {
-    let mut bank = Bank::new(alloc).ok()?;
+    let mut bank = DayBank::new(alloc).ok()?;
     if is_held(alloc, tables, roll, section, script, &mut bank) {
         Some(bank)
     } else {
@@ -115,14 +115,14 @@ fn copy_all(body: &mut [u8; BODY_SIZE], times: u64) -> u64 {
 }
 
 /// The body in the first slot of the internal flash.
-fn first_body(bank: &mut Bank) -> Option<[u8; BODY_SIZE]> {
+fn first_body(bank: &mut DayBank) -> Option<[u8; BODY_SIZE]> {
     let mut body = [0; BODY_SIZE];
     bank.read(Dev::Internal, FIRST_BODY, &mut body).ok()?;
     Some(body)
 }
 
 /// The state that the flashes hold.
-fn held_state(alloc: Global, tables: &Tables, voters: u32, bank: &mut Bank) -> Option<State>
+fn held_state(alloc: Global, tables: &Tables, voters: u32, bank: &mut DayBank) -> Option<State>
     requires { voters ≤ most_voters }
     ensures { IfSome result (λ state. IsStateOf tables.now voters state) }
 {
@@ -136,7 +136,7 @@ fn use_body(
     work: DayWork,
     tables: &Tables,
     voters: u32,
-    bank: &mut Bank,
+    bank: &mut DayBank,
     times: u64,
 ) -> Option<u64>
     requires { voters ≤ most_voters }
@@ -238,7 +238,7 @@ fn task_of(rt: &HostRuntime) -> io::Result<Option<Task>> {
     )
 }
 
-/// What a task prints: what was put on the flashes and the syncs of the last day, and a byte of what was written or copied.
+/// What a task prints: what was put on the flashes and the syncs of the first day, and a byte of what was written or copied.
 #[derive(Clone, Copy)]
 struct Outcome {
     put: u64,
@@ -290,23 +290,27 @@ fn rehearsal_of(rt: &HostRuntime) -> io::Result<Option<u32>>
     }
 }
 
-/// The status of the work that the words name: 0 where each time went well.
-pub(crate) fn status(rt: &HostRuntime) -> io::Result<u8> {
-    if let Some(n) = rehearsal_of(rt)? {
-        let well = tell_rehearsal(rt, n)?;
-        return Ok(if well { 0 } else { 1 });
-    }
-    let Some(task) = task_of(rt)? else {
-        return Ok(OTHER_WORDS);
-    };
-    match outcome_of(rt.alloc(), &task) {
+/// Does a task, and prints what it prints. Answers whether it went well.
+fn tell_task(rt: &HostRuntime, task: &Task) -> io::Result<bool> {
+    match outcome_of(rt.alloc(), task) {
         Some(outcome) => {
             println!(rt;
                 "PUT {} SYNC {} BYTE {}",
                 outcome.put, outcome.syncs, outcome.byte
             )?;
-            Ok(0)
+            Ok(true)
         }
-        None => Ok(1),
+        None => Ok(false),
+    }
+}
+
+/// The status of the work that the words name; `None` where they name no work of these, or the documents are others.
+pub(crate) fn status(rt: &HostRuntime) -> io::Result<Option<u8>> {
+    if let Some(n) = rehearsal_of(rt)? {
+        return Ok(ended(tell_rehearsal(rt, n)?));
+    }
+    match task_of(rt)? {
+        Some(task) => Ok(ended(tell_task(rt, &task)?)),
+        None => Ok(None),
     }
 }

@@ -19,7 +19,7 @@
 //! of them, as often; it tells each of these works too. `verifica` gives these seats TIMES times, checks their certificate, reads its text and
 //! hashes it as often, and tells each of these works.
 //!
-//! Its status is 0 where each time or step went well, 1 where one did not, and 3 where the words are others.
+//! Its status is 0 where each time or step went well, 1 where one did not, and 3 where the words are others, or a document of a day is none.
 #![tactic(auto)]
 
 mod days;
@@ -33,7 +33,7 @@ use std::time::CpuClock;
 /// The status where the words name no work.
 const OTHER_WORDS: u8 = 3;
 
-/// The longest file that is read.
+/// The longest keys, and the longest text or file of a report, that are taken.
 const LONGEST_FILE: usize = 16_777_216;
 
 /// Prints a step that is done, and the time of the processor so far: its seconds, and the nanoseconds beyond them.
@@ -42,17 +42,20 @@ fn tell(rt: &HostRuntime, step: &str) -> io::Result<()> {
     println!(rt; "{} {} {}", step, time.as_secs(), time.subsec_nanos())
 }
 
+/// The status of a work that is done: 0 where each time or step of it went well, and else 1.
+fn ended(well: bool) -> Option<u8> {
+    Some(if well { 0 } else { 1 })
+}
+
 /// The status of the first of the three that has a work of these words.
 fn status(rt: &HostRuntime) -> io::Result<u8> {
-    let of_tables = tables::status(rt)?;
-    if of_tables != OTHER_WORDS {
-        return Ok(of_tables);
+    if let Some(code) = tables::status(rt)? {
+        return Ok(code);
     }
-    let of_day = days::status(rt)?;
-    if of_day != OTHER_WORDS {
-        return Ok(of_day);
+    if let Some(code) = days::status(rt)? {
+        return Ok(code);
     }
-    reports::status(rt)
+    Ok(reports::status(rt)?.unwrap_or(OTHER_WORDS))
 }
 
 fn main(rt: HostRuntime) -> ExitCode {

@@ -7,11 +7,11 @@ ghost use Rattle.poll_report.specs.Report.{IsReport};
 mod bank;
 mod certificates;
 mod ledgers;
-mod offers;
+pub(crate) mod offers;
 mod recounts;
 mod seats;
 
-use crate::{LONGEST_FILE, OTHER_WORDS};
+use crate::{LONGEST_FILE, ended};
 use bench_works::ReportWork;
 use certificates::tell_certificate;
 use election_tables::Tables;
@@ -125,34 +125,39 @@ fn sum_of(alloc: Global, work: ReportWork, bytes: &[u8], times: u64) -> Option<u
     }
 }
 
-/// Prints the sum of a work, and answers the status that tells whether each time went well.
-fn told(rt: &HostRuntime, sum: Option<u64>) -> io::Result<u8> {
+/// Prints the sum of a work, if each time went well, and answers the status that tells whether it did.
+fn told(rt: &HostRuntime, sum: Option<u64>) -> io::Result<Option<u8>> {
     match sum {
         Some(sum) => {
             println!(rt; "SUM {}", sum)?;
-            Ok(0)
+            Ok(ended(true))
         }
-        None => Ok(1),
+        None => Ok(ended(false)),
     }
 }
 
 /// The file of this name is checked by the tables of the other one.
-fn check_status(rt: &HostRuntime, name: &str, tables: &str, times: &str) -> io::Result<u8> {
+fn check_status(rt: &HostRuntime, name: &str, tables: &str, times: &str) -> io::Result<Option<u8>> {
     let Some(times) = decimal(times.as_bytes()) else {
-        return Ok(OTHER_WORDS);
+        return Ok(None);
     };
     let bytes = fs::read(rt, name)?;
     let tables = fs::read(rt, tables)?;
     match Tables::read(rt.alloc(), &tables) {
         Ok(tables) => told(rt, check_all(rt.alloc(), &tables, &bytes, times)),
-        Err(_) => Ok(1),
+        Err(_) => Ok(ended(false)),
     }
 }
 
 /// The record in the file of the second name is counted against the report in that of the first.
-fn recount_status(rt: &HostRuntime, report: &str, record: &str, times: &str) -> io::Result<u8> {
+fn recount_status(
+    rt: &HostRuntime,
+    report: &str,
+    record: &str,
+    times: &str,
+) -> io::Result<Option<u8>> {
     let Some(times) = decimal(times.as_bytes()) else {
-        return Ok(OTHER_WORDS);
+        return Ok(None);
     };
     let report = fs::read(rt, report)?;
     let record = fs::read(rt, record)?;
@@ -160,12 +165,11 @@ fn recount_status(rt: &HostRuntime, report: &str, record: &str, times: &str) -> 
 }
 
 /// The seats of the contest in the file of this name are given.
-fn seats_status(rt: &HostRuntime, name: &str, times: &str) -> io::Result<u8> {
+fn seats_status(rt: &HostRuntime, name: &str, times: &str) -> io::Result<Option<u8>> {
     let Some(times) = decimal(times.as_bytes()) else {
-        return Ok(OTHER_WORDS);
+        return Ok(None);
     };
-    let well = tell_contest(rt, name, times)?;
-    Ok(if well { 0 } else { 1 })
+    Ok(ended(tell_contest(rt, name, times)?))
 }
 
 /// The certificate in the file of the second name is checked for the contest in that of the first.
@@ -174,18 +178,17 @@ fn certificate_status(
     contest: &str,
     certificate: &str,
     times: &str,
-) -> io::Result<u8> {
+) -> io::Result<Option<u8>> {
     let Some(times) = decimal(times.as_bytes()) else {
-        return Ok(OTHER_WORDS);
+        return Ok(None);
     };
-    let well = tell_certificate(rt, contest, certificate, times)?;
-    Ok(if well { 0 } else { 1 })
+    Ok(ended(tell_certificate(rt, contest, certificate, times)?))
 }
 
 /// The work of this name is done with the file.
-fn work_status(rt: &HostRuntime, work: &str, name: &str, times: &str) -> io::Result<u8> {
+fn work_status(rt: &HostRuntime, work: &str, name: &str, times: &str) -> io::Result<Option<u8>> {
     let (Some(work), Some(times)) = (ReportWork::of(work), decimal(times.as_bytes())) else {
-        return Ok(OTHER_WORDS);
+        return Ok(None);
     };
     let bytes = fs::read(rt, name)?;
     told(rt, sum_of(rt.alloc(), work, &bytes, times))
@@ -198,24 +201,24 @@ fn named_status(
     name: &str,
     third: &str,
     times: Option<&str>,
-) -> io::Result<u8> {
+) -> io::Result<Option<u8>> {
     match (work, times) {
         ("confere", Some(times)) => check_status(rt, name, third, times),
         ("reconta", Some(times)) => recount_status(rt, name, third, times),
         ("verifica", Some(times)) => certificate_status(rt, name, third, times),
-        (_, Some(_)) => Ok(OTHER_WORDS),
-        ("totaliza", None) => Ok(if tell_reports(rt, name, third)? { 0 } else { 1 }),
-        ("recebe", None) => Ok(if tell_ledger(rt, name, third)? { 0 } else { 1 }),
+        (_, Some(_)) => Ok(None),
+        ("totaliza", None) => Ok(ended(tell_reports(rt, name, third)?)),
+        ("recebe", None) => Ok(ended(tell_ledger(rt, name, third)?)),
         ("cadeiras", None) => seats_status(rt, name, third),
         (_, None) => work_status(rt, work, name, third),
     }
 }
 
-/// The status of the work that the words name: 0 where each time or step went well.
-pub(crate) fn status(rt: &HostRuntime) -> io::Result<u8> {
+/// The status of the work that the words name; `None` where they name no work of these.
+pub(crate) fn status(rt: &HostRuntime) -> io::Result<Option<u8>> {
     let mut words = env::args(rt)?.skip(1);
     let (Some(work), Some(name), Some(third)) = (words.next(), words.next(), words.next()) else {
-        return Ok(OTHER_WORDS);
+        return Ok(None);
     };
     let times = words.next();
     let times = match &times {

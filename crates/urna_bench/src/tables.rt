@@ -1,5 +1,5 @@
 //! A document of tables, read some times.
-use crate::OTHER_WORDS;
+use crate::ended;
 use bench_works::TablesWork;
 use election_tables::Tables;
 use std::alloc::Global;
@@ -23,19 +23,15 @@ fn all_done(alloc: Global, work: TablesWork, bytes: &[u8]) -> bool {
     true
 }
 
-/// The status of the work that the words name: 0 where each time went well.
-pub(crate) fn status(rt: &HostRuntime) -> io::Result<u8> {
+/// The status of the work that the words name; `None` where they name no work of these.
+pub(crate) fn status(rt: &HostRuntime) -> io::Result<Option<u8>> {
     let mut words = env::args(rt)?.skip(1);
     let (Some(word), Some(name)) = (words.next(), words.next()) else {
-        return Ok(OTHER_WORDS);
+        return Ok(None);
     };
     let Some(work) = TablesWork::of(word.as_str()) else {
-        return Ok(OTHER_WORDS);
+        return Ok(None);
     };
     let bytes = fs::read(rt, name.as_str())?;
-    if all_done(rt.alloc(), work, &bytes) {
-        Ok(0)
-    } else {
-        Ok(1)
-    }
+    Ok(ended(all_done(rt.alloc(), work, &bytes)))
 }

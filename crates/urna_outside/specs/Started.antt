@@ -1,4 +1,4 @@
--- What a machine in memory starts from, and what one that tells all tells then.
+-- Flashes with nothing dirty, and what a machine that tells all tells before its first call.
 use Rattle.std.specs.Prelude.{ℕ, List, [], None, Some, replicate}
 use Rattle.urna_outside.specs.Flash.{Flashes, clean_flash}
 use Rattle.urna_outside.specs.Told.{Calls, Told, Sizes}

@@ -6,7 +6,7 @@
 //! `specs/Faults.antt`.
 //!
 //! `files` has those of a real run, `FileMachine` and `FolderCabinet`; those in memory are the crate `memory_outside`.
-//! The counts that both need stand here.
+//! The counts that both need stand here, and `overwrite`, the code of a definition of `specs/Flash.antt`, for the crates above.
 #![tactic(auto)]
 
 mod bytes;

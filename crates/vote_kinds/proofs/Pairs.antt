@@ -1,4 +1,4 @@
--- The first two digits of a number are a number of two digits.
+-- The first two digits of a number are below 100.
 use Rattle.std.proofs.Common.{◌≡◌, ℕ, ◌-◌, ◌*◌, ◌<◌, ◌≤◌, ◌^◌, suc, subst, arith}
 use Rattle.std.proofs.Math.Nat.{one-le-pow}
 use Rattle.std.proofs.lemmas.Nat.{div_below}

@@ -1,6 +1,6 @@
 -- Worked rows of what bags are, and of a record's text
 use Rattle.std.proofs.Common.{◌≡◌, ℕ, true, false, List, [], ◌∷◌, ◌++◌, codes, refl}
-use Rattle.std.specs.List.{flat_map}
+use Rattle.urna_base.specs.Lines.{lines_text as text}
 use Rattle.std.specs.Fmt.{digits}
 use Rattle.urna_base.specs.Digits.{padded}
 use Rattle.election_tables.specs.TablesData.{TablesData}
@@ -72,9 +72,6 @@ tables_of panels = record { process = 7; date = 20261004; turn = 1; panels = pan
 
 abbrev section_of : ℕ → Section
 section_of voters = record { zone = 1; number = 42; voters = voters }
-
-abbrev text : List (List ℕ) → List ℕ
-text lines = flat_map (λ line. line ++ 10 ∷ []) lines
 
 one_vote : record_text (tables_of (mayor ∷ [])) (section_of 1) ((choice.Nominal 13 ∷ []) ∷ [])
     ≡ text (codes "RDV U1" ∷ codes "PROC 7 DTPL 20261004 TURN 1 ZONA 1 SECA 42" ∷ codes "CARG 11 1" ∷ codes "N 13" ∷ codes "FIM" ∷ [])

@@ -11,7 +11,7 @@ const SIZE: usize = DEVICE_SIZE as usize;
 
 /// A machine that never fails and drops what it is given to show.
 #[derive(Drop)]
-pub(crate) struct Bank {
+pub(crate) struct DayBank {
     internal: Vec<u8>,
     external: Vec<u8>,
     put: u64,
@@ -21,10 +21,10 @@ pub(crate) struct Bank {
     ghost bounded: { device_size < 2 ^ 32 },
 }
 
-impl Bank {
+impl DayBank {
     /// Two flashes of zeros.
-    pub(crate) fn new(alloc: Global) -> Result<Bank, AllocError> {
-        Ok(Bank {
+    pub(crate) fn new(alloc: Global) -> Result<DayBank, AllocError> {
+        Ok(DayBank {
             internal: vec![in alloc; 0; SIZE]?,
             external: vec![in alloc; 0; SIZE]?,
             put: 0,
@@ -63,7 +63,7 @@ impl Bank {
     }
 }
 
-impl Machine for Bank {
+impl Machine for DayBank {
     ghost use Rattle.urna_bench.specs.DayBank.{bank_told, bank_bounded};
 
     ghost told = { bank_told };

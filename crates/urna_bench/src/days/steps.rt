@@ -4,20 +4,18 @@ ghost use Rattle.std.specs.List.{Contains};
 ghost use Rattle.election_tables.specs.Limits.{most_voters};
 ghost use Rattle.election_tables.specs.TablesData.{IsTables};
 ghost use Rattle.image_codec.specs.Encoding.{IsStateOf};
-ghost use Rattle.section_intake.specs.Intake.{IsIntakeFor};
 ghost use Rattle.state_store.specs.Load.{IsSectionOf};
 
 use crate::days::{day, held_state, section_of};
+use crate::reports::offers::tell_seats;
 use crate::{LONGEST_FILE, tell};
 use election_tables::{Roll, Section, Tables};
 use image_codec::State;
 use rehearsal::{read_roll, read_script, read_tables};
 use result_files::{Results, results_of};
-use seat_remainders::distribute;
 use section_intake::{Intake, Verdict};
 use std::alloc::Global;
 use std::io;
-use totals::contest_of;
 use turnout::Phase;
 
 /// The poll of `n` voters is rehearsed by its steps, and each is told. Answers whether each went well.
@@ -112,19 +110,4 @@ fn sealed_results(
         return None;
     };
     results_of(alloc, tables, section, state, opened, closed).ok()
-}
-
-/// The seats of the first office are given.
-fn tell_seats(rt: &HostRuntime, tables: &Tables, intake: &Intake) -> io::Result<bool>
-    requires { IsIntakeFor tables.now intake.now }
-{
-    if tables.panels() == 0 {
-        return Ok(false);
-    }
-    let Ok(contest) = contest_of(rt.alloc(), tables, intake, 0) else {
-        return Ok(false);
-    };
-    let outcome = distribute(rt.alloc(), &contest);
-    tell(rt, "SEATS")?;
-    Ok(outcome.is_ok())
 }

@@ -21,7 +21,7 @@ enum Step {
 
 /// A machine that never fails and drops what it is given to show.
 #[derive(Drop)]
-pub(crate) struct Bank {
+pub(crate) struct LedgerBank {
     internal: Vec<u8>,
     external: Vec<u8>,
     steps: Vec<Step>,
@@ -32,10 +32,10 @@ pub(crate) struct Bank {
     ghost bounded: { device_size < 2 ^ 32 },
 }
 
-impl Bank {
+impl LedgerBank {
     /// Two flashes of zeros.
-    pub(crate) fn new(alloc: Global) -> Result<Bank, AllocError> {
-        Ok(Bank {
+    pub(crate) fn new(alloc: Global) -> Result<LedgerBank, AllocError> {
+        Ok(LedgerBank {
             internal: vec![in alloc; 0; SIZE]?,
             external: vec![in alloc; 0; SIZE]?,
             steps: Vec::with_capacity(alloc, ROOM)?,
@@ -102,7 +102,7 @@ impl Bank {
     }
 }
 
-impl Machine for Bank {
+impl Machine for LedgerBank {
     ghost use Rattle.urna_bench.specs.LedgerBank.{bank_bounded, bank_told};
 
     ghost told = { bank_told };

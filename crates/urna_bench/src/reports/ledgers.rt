@@ -5,7 +5,7 @@ ghost use Rattle.intake_ledger.specs.Calls.{Keeps};
 ghost use Rattle.intake_ledger.specs.Ledger.{LedgerData};
 ghost use Rattle.urna_bench.specs.LedgerBank.{bank_told};
 
-use crate::reports::bank::Bank;
+use crate::reports::bank::LedgerBank;
 use crate::reports::offers::{FEW, files_of};
 use crate::{LONGEST_FILE, tell};
 use election_tables::Tables;
@@ -16,7 +16,7 @@ use std::{fs, io};
 
 /// The ledger that the flashes hold.
 #[tactic(auto, using(crate::specs::LedgerBank::are_devices))]
-fn opened(alloc: Global, tables: &Tables, bank: &mut Bank) -> Option<Ledger>
+fn opened(alloc: Global, tables: &Tables, bank: &mut LedgerBank) -> Option<Ledger>
     ensures { IfSome result (λ ledger. (l : LedgerData) × Keeps tables.now (bank_told bank.new) ledger l) }
 {
     Ledger::open(alloc, tables, bank).ok()
@@ -24,7 +24,7 @@ fn opened(alloc: Global, tables: &Tables, bank: &mut Bank) -> Option<Ledger>
 
 /// The ledger behind a file that is accepted.
 #[tactic(auto, using(crate::specs::LedgerBank::are_devices))]
-fn with_file(tables: &Tables, bank: &mut Bank, ledger: Ledger, file: &[u8]) -> Option<Ledger>
+fn with_file(tables: &Tables, bank: &mut LedgerBank, ledger: Ledger, file: &[u8]) -> Option<Ledger>
     requires { (l : LedgerData) × Keeps tables.now (bank_told bank.old) ledger l }
     ensures { IfSome result (λ ledger. (l : LedgerData) × Keeps tables.now (bank_told bank.new) ledger l) }
 {
@@ -38,7 +38,12 @@ fn with_file(tables: &Tables, bank: &mut Bank, ledger: Ledger, file: &[u8]) -> O
 }
 
 /// The ledger behind files that are offered in order, if each is accepted.
-fn with_files(tables: &Tables, bank: &mut Bank, ledger: Ledger, files: &[Vec<u8>]) -> Option<Ledger>
+fn with_files(
+    tables: &Tables,
+    bank: &mut LedgerBank,
+    ledger: Ledger,
+    files: &[Vec<u8>],
+) -> Option<Ledger>
     requires { (l : LedgerData) × Keeps tables.now (bank_told bank.old) ledger l }
     ensures { IfSome result (λ ledger. (l : LedgerData) × Keeps tables.now (bank_told bank.new) ledger l) }
 {
@@ -53,7 +58,7 @@ fn with_files(tables: &Tables, bank: &mut Bank, ledger: Ledger, files: &[Vec<u8>
 fn tell_offers(
     rt: &HostRuntime,
     tables: &Tables,
-    bank: &mut Bank,
+    bank: &mut LedgerBank,
     files: &[Vec<u8>],
 ) -> io::Result<Option<u32>> {
     let (first, others) = files.split_at(files.len().min(FEW));
@@ -80,13 +85,13 @@ fn tell_offers(
 
 /// Lays the ledger before the first report on both flashes. Answers whether it did.
 #[tactic(auto, using(crate::specs::LedgerBank::are_devices))]
-fn is_laid(alloc: Global, tables: &Tables, bank: &mut Bank) -> bool {
+fn is_laid(alloc: Global, tables: &Tables, bank: &mut LedgerBank) -> bool {
     Ledger::format(alloc, tables, bank).is_ok()
 }
 
 /// The files are offered to a new ledger. Answers whether each was accepted, and what that did to the flashes was done once more.
 fn tell_bank(rt: &HostRuntime, tables: &Tables, files: &[Vec<u8>]) -> io::Result<bool> {
-    let Ok(mut bank) = Bank::new(rt.alloc()) else {
+    let Ok(mut bank) = LedgerBank::new(rt.alloc()) else {
         return Ok(false);
     };
     if !is_laid(rt.alloc(), tables, &mut bank) {

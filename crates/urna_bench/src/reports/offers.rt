@@ -78,7 +78,7 @@ fn tell_memory(rt: &HostRuntime) -> io::Result<()> {
 }
 
 /// The seats of the first office are given. Answers whether they were.
-fn tell_seats(rt: &HostRuntime, tables: &Tables, intake: &Intake) -> io::Result<bool>
+pub(crate) fn tell_seats(rt: &HostRuntime, tables: &Tables, intake: &Intake) -> io::Result<bool>
     requires { IsIntakeFor tables.now intake.now }
 {
     if tables.panels() == 0 {

@@ -30,12 +30,13 @@ where
     R::File: FileLock,
 {
     ghost use Rattle.urna_outside.specs.Counters.{no_faults};
+    ghost use Rattle.urna_outside.specs.Started.{both_sizes};
     ghost use Rattle.urna_outside.specs.FileMachine.{file_told};
 
     /// A machine over devices of `size` bytes. It does nothing to any file.
     pub fn new(rt: &'a R, size: u32) -> FileMachine<'a, R>
         ensures { file_told result ≡
-            silent_told (record { internal = size; external = size }) no_faults }
+            silent_told (both_sizes size) no_faults }
     {
         FileMachine {
             rt,
