@@ -10,10 +10,11 @@ use Rattle.urna_base.specs.Digits.{decimal_value, is_digit}
 use Rattle.urna_base.specs.Words.{after_word, pieces}
 use Rattle.urna_base.proofs.DecimalLaws.{decimal_value-some}
 use Rattle.urna_base.proofs.DigitLaws.{both_from_and}
+use Rattle.urna_base.proofs.Lacking.{Lacks, is_other}
 use Rattle.urna_base.proofs.WordLaws.{after_word-append}
 use Rattle.urna_base.proofs.Cases.{and_then_some, guard_some, option_cases}
-use Rattle.urna_base.proofs.PieceLaws.{no_split, split_first}
-use Rattle.hash_chain.proofs.LineLaws.{all_weaker, fields_other, joined_more, other, read_fields, split_joined, split_last, word_other}
+use Rattle.urna_base.proofs.PieceLaws.{no_split, piece_last, split_first}
+use Rattle.hash_chain.proofs.LineLaws.{all_weaker, fields_other, joined_more, read_fields, split_joined, word_other}
 use Rattle.hash_chain.proofs.LinesBack.{fields_back, line_back}
 use Rattle.hash_chain.proofs.PieceLaws.{joined_pieces, some_piece}
 use Rattle.hash_chain.proofs.FileLaws.{is_word_of}
@@ -43,7 +44,7 @@ two_behind : (a b : List ℕ) → two_numbers (a ∷ slice_split (λ x. x == 58)
 two_behind a b = elim (option_cases (decimal_value b)) [
   | inr v ↦
       let digits = (decimal_value-some b v.0 v.1).0.all in
-      let one = split_last 58 b (all_weaker is_digit (λ (x : ℕ). not (x == 58)) digit_no_colon b digits) in
+      let one = piece_last 58 b (all_weaker is_digit (is_other 58) digit_no_colon b digits) in
       ap (λ (l : List (List ℕ)). two_numbers (a ∷ l)) one
   | inl none ↦ of_pieces (slice_split (λ x. x == 58) b) (join_with_byte-slice_split 58 b) none
 ]
@@ -89,7 +90,7 @@ tail_read f h fine hash = of_pieces (pieces f) refl
         let some : nat_lt 0 (length (p ∷ ps)) ≡ true = grind (arith, nat_tests) in
         rw (split, read_fields (p ∷ ps) h are hash, some) (ap (λ (l : List (List ℕ)). Some (l, h)) (sym e))
 
-words_of : (fs : List (List ℕ)) → AllByRecursion (λ f. is_field f ≡ true) fs → AllByRecursion (λ t. list_all (other 32) t ≡ true) fs
+words_of : (fs : List (List ℕ)) → AllByRecursion (λ f. is_field f ≡ true) fs → AllByRecursion (Lacks 32) fs
 words_of [] h = tt
 words_of (f ∷ fs) h = (word_other 32 f (lit< tt) (is_word_of f h.0), words_of fs h.1)
 

@@ -10,7 +10,8 @@ use Rattle.std.proofs.lemmas.List.Sums.{fails_before_first, passes_at_first}
 use Rattle.urna_base.specs.Words.{after_word, pieces}
 use Rattle.urna_base.proofs.DigitLaws.{both_from_and, some_from_test}
 use Rattle.urna_base.proofs.Cases.{guard_none}
-use Rattle.hash_chain.proofs.LineLaws.{other, split_at, split_last}
+use Rattle.urna_base.proofs.Lacking.{Lacks, is_other}
+use Rattle.urna_base.proofs.PieceLaws.{piece_first, piece_last}
 use Rattle.hash_chain.specs.Cut.{joined}
 use Rattle.hash_chain.specs.Lines.{is_field}
 use Rattle.hash_chain.specs.Reading.{is_printed}
@@ -72,10 +73,10 @@ at_place [] end h = absurd (omega arith)
 at_place (x ∷ t) zero h = refl
 at_place (x ∷ t) (suc n) h = let next : suc n + 1 ≡ suc (n + 1) = omega arith in rw next (at_place t n (omega arith))
 
-no_space : (x : ℕ) → is_printed x ≡ true → other 32 x ≡ true
+no_space : (x : ℕ) → is_printed x ≡ true → is_other 32 x ≡ true
 no_space x h = grind (arith, nat_tests)
 
-spaces_none : (t : List ℕ) → list_all is_printed t ≡ true → list_all (other 32) t ≡ true
+spaces_none : (t : List ℕ) → list_all is_printed t ≡ true → Lacks 32 t
 spaces_none [] h = refl
 spaces_none (x ∷ t) h = let both = both_from_and (is_printed x) (list_all is_printed t) h in rw (no_space x both.0, spaces_none t both.1) refl
 
@@ -83,25 +84,25 @@ spaces_none (x ∷ t) h = let both = both_from_and (is_printed x) (list_all is_p
 pub whole_word : (text : List ℕ) (end : ℕ) → end ≡ length text → list_all is_printed (take end text) ≡ true → (pieces text ≡ text ∷ []) × (list_all is_printed text ≡ true)
 whole_word text end e h =
     let all : list_all is_printed text ≡ true = ap (λ (t : List ℕ). list_all is_printed t) (sym (ap (λ (n : ℕ). take n text) e ∙ take_all text)) ∙ h in
-    (split_last 32 text (spaces_none text all), all)
+    (piece_last 32 text (spaces_none text all), all)
 
 -- printed bytes to a space are the first piece
 pub word_cut : (text : List ℕ) (end : ℕ) → end < length text → get_or text end 0 ≡ 32 → list_all is_printed (take end text) ≡ true → pieces text ≡ take end text ∷ pieces (drop (end + 1) text)
 word_cut text end within space h =
     let cut_here : text ≡ take end text ++ 32 ∷ drop (end + 1) text =
     sym (take-append-drop end text) ∙ ap (λ (l : List ℕ). take end text ++ l) (at_place text end within ∙ ap (λ (x : ℕ). x ∷ drop (end + 1) text) space) in
-    ap (λ (t : List ℕ). pieces t) cut_here ∙ split_at 32 (take end text) (drop (end + 1) text) (spaces_none (take end text) h)
+    ap (λ (t : List ℕ). pieces t) cut_here ∙ piece_first 32 (take end text) (drop (end + 1) text) (spaces_none (take end text) h)
 
 -- the first piece goes on behind bytes that are no spaces
-goes_on : (w t : List ℕ) → list_all (other 32) w ≡ true → (p : List ℕ) × (ps : List (List ℕ)) × (pieces (w ++ t) ≡ (w ++ p) ∷ ps) × (pieces t ≡ p ∷ ps)
+goes_on : (w t : List ℕ) → Lacks 32 w → (p : List ℕ) × (ps : List (List ℕ)) × (pieces (w ++ t) ≡ (w ++ p) ∷ ps) × (pieces t ≡ p ∷ ps)
 goes_on [] t h = some_first (pieces t) (some_piece (λ b. b == 32) t)
   where
     some_first : (x : List (List ℕ)) → 0 < length x → (p : List ℕ) × (ps : List (List ℕ)) × (x ≡ p ∷ ps) × (x ≡ p ∷ ps)
     some_first [] l = absurd (omega arith)
     some_first (p ∷ ps) l = (p, ps, refl, refl)
 goes_on (x ∷ w) t h =
-    let both = both_from_and (other 32 x) (list_all (other 32) w) h in
-    let test : other 32 x ≡ true = both.0 in
+    let both = both_from_and (is_other 32 x) (list_all (is_other 32) w) h in
+    let test : is_other 32 x ≡ true = both.0 in
     let no : (x == 32) ≡ false = grind (arith, nat_tests) in
     let rest = goes_on w t both.1 in
     (rest.0, rest.1, slice_split-cons_no (λ b. b == 32) x (w ++ t) no ∙ ap (λ (l : List (List ℕ)). onto_first x l) rest.2, rest.3)
@@ -127,8 +128,8 @@ word_broken text end within space bad h =
     let c : ℕ = get_or text end 0 in
     let cut_here : text ≡ take end text ++ c ∷ drop (end + 1) text = sym (take-append-drop end text) ∙ ap (λ (l : List ℕ). take end text ++ l) (at_place text end within) in
     let first = goes_on (take end text) (c ∷ drop (end + 1) text) (spaces_none (take end text) h) in
-    let no : other 32 c ≡ true = grind (arith, nat_tests) in
-    let one : list_all (other 32) (c ∷ []) ≡ true = rw no refl in
+    let no : is_other 32 c ≡ true = grind (arith, nat_tests) in
+    let one : Lacks 32 (c ∷ []) = rw no refl in
     let second = goes_on (c ∷ []) (drop (end + 1) text) one in
     let same : first.0 ∷ first.1 ≡ (c ∷ second.0) ∷ second.1 = sym first.3 ∙ second.2 in
     let front : first.0 ≡ c ∷ second.0 = cc in

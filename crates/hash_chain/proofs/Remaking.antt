@@ -1,12 +1,13 @@
 -- A file that is read was made so.
 use Rattle.std.proofs.Common.{◌≡◌, ℕ, ◌+◌, ◌<◌, ◌≤◌, Bool, true, false, List, [], ◌∷◌, ◌++◌, length, map, Option, Some, None, refl, sym, ap, ◌∙◌, subst, ◌⊎◌, inl, inr, arith, lit<, length-append}
 use Rattle.std.specs.Prelude.{nat_lt, nat_le, ◌==◌, ◌&&◌, if◌then◌else◌, Ok, Err}
-use Rattle.std.specs.List.{slice_split, list_all, AllByRecursion, flat_map, join_with_byte}
+use Rattle.std.specs.List.{slice_split, AllByRecursion, flat_map, join_with_byte}
 use Rattle.std.proofs.lemmas.List.Splits.{join_with_byte-slice_split, length-slice_split}
 use Rattle.std.proofs.lemmas.Bool.Decides.{nat_tests}
 use Rattle.std.proofs.lemmas.Bool.{ltb-true}
 use Rattle.urna_base.proofs.DigitLaws.{both_from_and}
 use Rattle.urna_base.proofs.Cases.{option_cases, result_cases}
+use Rattle.urna_base.proofs.Lacking.{Lacks}
 use Rattle.urna_base.specs.Words.{pieces}
 use Rattle.hash_chain.specs.Chain.{Link, link_text, link_of, links_from, links_text, parts_text}
 use Rattle.hash_chain.specs.Cut.{joined, part_size, IsFull, AreFull, IsCut, cut}
@@ -17,7 +18,7 @@ use Rattle.hash_chain.proofs.Reading.{read_from, lines_read, text_of_lines}
 use Rattle.hash_chain.specs.Laws.{LinksAreSpelled}
 use Rattle.hash_chain.specs.declared.fault.PartFault.{PartFault}
 use Rattle.hash_chain.proofs.CutLaws.{one_cut}
-use Rattle.hash_chain.proofs.LineLaws.{other, split_joined, word_other, lines_are_read}
+use Rattle.hash_chain.proofs.LineLaws.{split_joined, word_other, lines_are_read}
 use Rattle.hash_chain.proofs.FileLaws.{length_lines, Few, is_word_of, read_step}
 use Rattle.hash_chain.proofs.LinesBack.{line_back, Fine, fine}
 
@@ -162,7 +163,7 @@ chain_fields : (n i : ℕ) (before : Option Link) (ls : List Link) → Chain n i
 chain_fields n i before [] h = tt
 chain_fields n i before (l ∷ ls) h = fit_append l.fields (flat_map (λ m. m.fields) ls) (fit_in l.fields h.0.fields h.1.within) (chain_fields n (i + 1) (Some l) ls h.2)
 
-words : (fs : List (List ℕ)) → AllByRecursion (λ f. (is_field f ≡ true) × (length f ≤ part_size)) fs → AllByRecursion (λ t. list_all (other 32) t ≡ true) fs
+words : (fs : List (List ℕ)) → AllByRecursion (λ f. (is_field f ≡ true) × (length f ≤ part_size)) fs → AllByRecursion (Lacks 32) fs
 words [] h = tt
 words (f ∷ fs) h = (word_other 32 f (lit< tt) (is_word_of f h.0.0), words fs h.1)
 

@@ -1,12 +1,13 @@
 -- The lines of a text
 use Rattle.std.proofs.Common.{◌≡◌, ℕ, suc, ◌<◌, Bool, true, false, cond, List, [], ◌∷◌, ◌++◌, length, Option, Some, None, option_map, refl, sym, ap, ◌∙◌, subst, inl, inr, arith}
 use Rattle.std.specs.Prelude.{◌==◌}
-use Rattle.std.specs.List.{concat, list_all}
+use Rattle.std.specs.List.{concat}
 use Rattle.std.proofs.lemmas.Bool.Decides.{nat_tests}
 use Rattle.urna_base.specs.Lines.{before_first_line}
 use Rattle.urna_base.proofs.Cases.{guard_some, map_some, option_cases}
 use Rattle.urna_base.specs.Words.{cut_at}
-use Rattle.urna_base.proofs.CutLaws.{cut_behind, cut_front, cut_parts, is_byte, is_other}
+use Rattle.urna_base.proofs.CutLaws.{cut_behind, cut_front, cut_parts, is_byte}
+use Rattle.urna_base.proofs.Lacking.{Lacks}
 use Rattle.vote_record.specs.RecordText.{line_end}
 use Rattle.record_audit.specs.Fault.{rows_of}
 use Rattle.record_audit.specs.Reading.{line_in}
@@ -64,7 +65,7 @@ rows_uncut c (d ∷ text) h = go (c == 10) h (rows_uncut d text)
 
 -- ---- one line
 
-pub line_written : (line : List ℕ) → list_all (is_other 10) line ≡ true → line_in (line ++ line_end) ≡ Some line
+pub line_written : (line : List ℕ) → Lacks 10 line → line_in (line ++ line_end) ≡ Some line
 unfolding line_in
 line_written line h = rw (cut_behind 10 line [] h) refl
 

@@ -1,15 +1,14 @@
 -- The steps follow the text of every record.
-use Rattle.std.proofs.Common.{◌≡◌, ℕ, suc, ◌-◌, ◌<◌, ◌≤◌, ◌^◌, true, false, List, [], ◌∷◌, ◌++◌, length, map, Some, refl, sym, ap, ◌∙◌, subst, append_assoc, arith, lit<}
+use Rattle.std.proofs.Common.{◌≡◌, ℕ, suc, ◌-◌, ◌<◌, ◌≤◌, ◌^◌, true, false, List, [], ◌∷◌, ◌++◌, length, map, Some, refl, sym, ap, ◌∙◌, subst, append_assoc, inl, arith, lit<}
 use Rattle.std.specs.Prelude.{codes, nat_lt}
 use Rattle.std.specs.Fmt.{decimal}
-use Rattle.std.specs.List.{AllByRecursion, flat_map, list_all}
+use Rattle.std.specs.List.{AllByRecursion, flat_map}
 use Rattle.std.proofs.lemmas.Bool.Decides.{nat_tests}
 use Rattle.std.proofs.lemmas.List.{append-nil}
 use Rattle.urna_base.specs.Digits.{padded}
 use Rattle.urna_base.specs.Moment.{is_between}
-use Rattle.urna_base.proofs.CutLaws.{is_other}
-use Rattle.urna_base.proofs.DecimalLaws.{all_digits}
 use Rattle.urna_base.proofs.DigitLaws.{all_digits-padded, both_from_and}
+use Rattle.urna_base.proofs.Lacking.{Lacks, decimal_in_line, digits_lack, lacks-append}
 use Rattle.election_tables.specs.Limits.{greatest_process, greatest_section}
 use Rattle.election_tables.specs.Offices.{code_proportional, greatest_code}
 use Rattle.vote_kinds.specs.declared.choice.Choice.{Choice}
@@ -25,25 +24,15 @@ use Rattle.record_audit.specs.declared.text.RecordOffice.{RecordOffice}
 use Rattle.record_audit.specs.declared.text.RecordText.{RecordText}
 use Rattle.record_audit.proofs.Cutting.{line_written}
 use Rattle.record_audit.proofs.Exact.{Steps, step, wanting, with_offices, with_votes}
-use Rattle.record_audit.proofs.LineLaws.{candidate_small, choice_written, code_within, digits_other, heading_written, office_written, other_word, small, without_offices}
+use Rattle.record_audit.proofs.LineLaws.{candidate_small, choice_written, code_within, heading_written, office_written, other_word, small, without_offices}
 use Rattle.record_audit.proofs.Orders.{follows_in_order}
 
 -- ---- no line has a line feed of its own
 
-abbrev NoFeed : List ℕ → Type 0
-NoFeed t = list_all (is_other 10) t ≡ true
+between_free : (low high n : ℕ) → is_between low high n ≡ true → high < 10 ^ 18 → Lacks 10 (decimal n)
+between_free low high n h few = decimal_in_line n (small low high n few h)
 
-both_free : (a b : List ℕ) → NoFeed a → NoFeed b → NoFeed (a ++ b)
-both_free [] b h g = g
-both_free (c ∷ a) b h g = let both = both_from_and (is_other 10 c) (list_all (is_other 10) a) h in rw (both.0, both_free a b both.1 g) refl
-
-number_free : (n : ℕ) → n < 10 ^ 18 → NoFeed (decimal n)
-number_free n h = digits_other 10 (decimal n) (lit< tt) (all_digits n h)
-
-between_free : (low high n : ℕ) → is_between low high n ≡ true → high < 10 ^ 18 → NoFeed (decimal n)
-between_free low high n h few = number_free n (small low high n few h)
-
-heading_free : (r : RecordText) → IsHeading r → NoFeed (heading_of r)
+heading_free : (r : RecordText) → IsHeading r → Lacks 10 (heading_of r)
 unfolding heading_words
 heading_free r is =
     let section : List ℕ = decimal r.section in
@@ -54,29 +43,29 @@ heading_free r is =
     let turns : List ℕ = codes " TURN " ++ turn in
     let date : List ℕ = padded 8 r.date ++ turns in
     let dates : List ℕ = codes " DTPL " ++ date in
-    both_free (codes "PROC ") (decimal r.process ++ dates) refl (both_free (decimal r.process) dates (between_free 1 greatest_process r.process is.process (lit< tt))
-    (both_free (codes " DTPL ") date refl (both_free (padded 8 r.date) turns (digits_other 10 (padded 8 r.date) (lit< tt) (all_digits-padded 8 r.date))
-    (both_free (codes " TURN ") turn refl (both_free (decimal r.turn) zones (between_free 1 2 r.turn is.turn (lit< tt))
-    (both_free (codes " ZONA ") zone refl (both_free (decimal r.zone) sections (between_free 1 greatest_section r.zone is.zone (lit< tt))
-    (both_free (codes " SECA ") section refl (between_free 1 greatest_section r.section is.section (lit< tt))))))))))
+    lacks-append 10 (codes "PROC ") (decimal r.process ++ dates) refl (lacks-append 10 (decimal r.process) dates (between_free 1 greatest_process r.process is.process (lit< tt))
+    (lacks-append 10 (codes " DTPL ") date refl (lacks-append 10 (padded 8 r.date) turns (digits_lack 10 (padded 8 r.date) (inl (lit< tt)) (all_digits-padded 8 r.date))
+    (lacks-append 10 (codes " TURN ") turn refl (lacks-append 10 (decimal r.turn) zones (between_free 1 2 r.turn is.turn (lit< tt))
+    (lacks-append 10 (codes " ZONA ") zone refl (lacks-append 10 (decimal r.zone) sections (between_free 1 greatest_section r.zone is.zone (lit< tt))
+    (lacks-append 10 (codes " SECA ") section refl (between_free 1 greatest_section r.section is.section (lit< tt))))))))))
 
-office_free : (before : List ℕ) (code votes : ℕ) → may_have_code before code ≡ true → votes ≤ most_votes → NoFeed (office_words code votes)
+office_free : (before : List ℕ) (code votes : ℕ) → may_have_code before code ≡ true → votes ≤ most_votes → Lacks 10 (office_words code votes)
 unfolding office_words
 office_free before code votes may few =
     let number : List ℕ = decimal votes in
     let numbers : List ℕ = codes " " ++ number in
-    both_free (codes "CARG ") (decimal code ++ numbers) refl (both_free (decimal code) numbers (between_free 0 greatest_code code (code_within before code may) (lit< tt))
-    (both_free (codes " ") number refl (number_free votes (omega arith))))
+    lacks-append 10 (codes "CARG ") (decimal code ++ numbers) refl (lacks-append 10 (decimal code) numbers (between_free 0 greatest_code code (code_within before code may) (lit< tt))
+    (lacks-append 10 (codes " ") number refl (decimal_in_line votes (omega arith))))
 
-vote_free : (code : ℕ) (c : Choice) → may_vote code c ≡ true → NoFeed (vote_words c)
-vote_free code (choice.Nominal n) h = let few = candidate_small code n h in both_free (codes "N ") (decimal n) refl (number_free n (omega arith))
-vote_free code (choice.Party n) h = both_free (codes "L ") (decimal n) refl (between_free 10 99 n (both_from_and (code_proportional code) (is_between 10 99 n) h).1 (lit< tt))
+vote_free : (code : ℕ) (c : Choice) → may_vote code c ≡ true → Lacks 10 (vote_words c)
+vote_free code (choice.Nominal n) h = let few = candidate_small code n h in lacks-append 10 (codes "N ") (decimal n) refl (decimal_in_line n (omega arith))
+vote_free code (choice.Party n) h = lacks-append 10 (codes "L ") (decimal n) refl (between_free 10 99 n (both_from_and (code_proportional code) (is_between 10 99 n) h).1 (lit< tt))
 vote_free code choice.Blank h = refl
 vote_free code choice.Null h = refl
 
 -- ---- one step
 
-step_is : (st : Stage) (line : List ℕ) (n : Stage) → NoFeed line → with_line st line ≡ Some n → step st (line ++ line_end) ≡ Some n
+step_is : (st : Stage) (line : List ℕ) (n : Stage) → Lacks 10 line → with_line st line ≡ Some n → step st (line ++ line_end) ≡ Some n
 step_is st line n free h = rw (line_written line free, h) refl
 
 steps_join : (st : Stage) (rows : List (List ℕ)) (m : Stage) (more : List (List ℕ)) (e : Stage) → Steps st rows m → Steps m more e → Steps st (rows ++ more) e

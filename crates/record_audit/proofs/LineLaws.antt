@@ -12,7 +12,8 @@ use Rattle.urna_base.specs.Digits.{decimal_value, digits_value, is_digit, padded
 use Rattle.urna_base.specs.Moment.{is_between, is_date}
 use Rattle.urna_base.specs.Words.{after_word, cut_at}
 use Rattle.urna_base.proofs.Cases.{and_then_some, guard_some, map_some}
-use Rattle.urna_base.proofs.CutLaws.{cut_behind, cut_parts, is_other}
+use Rattle.urna_base.proofs.CutLaws.{cut_behind, cut_parts}
+use Rattle.urna_base.proofs.Lacking.{digits_lack}
 use Rattle.urna_base.proofs.DecimalLaws.{all_digits, decimal-decimal_value, decimal_value-decimal}
 use Rattle.urna_base.proofs.DigitLaws.{all_digits-padded, both_from_and, digits_value-padded, padded-digits_value}
 use Rattle.urna_base.proofs.MomentLaws.{is_date-below}
@@ -68,21 +69,11 @@ date_read n text h =
     let same : inner.0 ≡ n = cc in
     (sym (padded-digits_value 8 text inner.0 inner.1) ∙ ap (λ (m : ℕ). padded 8 m) same, rw (← same) both.0)
 
--- digits are neither spaces nor line feeds
-other_digit : (b c : ℕ) → b < 48 → is_digit c ≡ true → is_other b c ≡ true
-other_digit b c h d = grind (arith, nat_tests)
-
-pub digits_other : (b : ℕ) (t : List ℕ) → b < 48 → list_all is_digit t ≡ true → list_all (is_other b) t ≡ true
-digits_other b [] h d = refl
-digits_other b (c ∷ t) h d =
-    let both = both_from_and (is_digit c) (list_all is_digit t) d in
-    rw (other_digit b c h both.0, digits_other b t h both.1) refl
-
 -- ---- a word and a number
 
 cell_written : (word t rest : List ℕ) → list_all is_digit t ≡ true → cell word (word ++ (t ++ 32 ∷ rest)) ≡ Some (t, rest)
 unfolding cell
-cell_written word t rest h = bind_is _ _ _ _ (after_word-append word (t ++ 32 ∷ rest)) (cut_behind 32 t rest (digits_other 32 t (lit< tt) h))
+cell_written word t rest h = bind_is _ _ _ _ (after_word-append word (t ++ 32 ∷ rest)) (cut_behind 32 t rest (digits_lack 32 t (inl (lit< tt)) h))
 
 cell_read : (word text : List ℕ) (x : List ℕ × List ℕ) → cell word text ≡ Some x → text ≡ word ++ (x.0 ++ 32 ∷ x.1)
 unfolding cell

@@ -9,7 +9,8 @@ use Rattle.std.proofs.lemmas.List.{map-append}
 use Rattle.urna_base.specs.Digits.{padded, is_digit}
 use Rattle.urna_base.specs.Moment.{is_moment, is_date}
 use Rattle.urna_base.proofs.DigitLaws.{all_digits-padded, is_digit-true, both_from_and}
-use Rattle.urna_base.proofs.LineLaws.{is_no_feed, lines_text-append}
+use Rattle.urna_base.proofs.Lacking.{Lacks, is_other}
+use Rattle.urna_base.proofs.LineLaws.{lines_text-append}
 use Rattle.key_script.specs.declared.keys.Key.{Key}
 use Rattle.key_script.specs.declared.keys.Key.TheVariants as key
 use Rattle.key_script.specs.declared.keys.ClerkKey.TheVariants.{Abre, Titulo, Libera, Cancela, Suspende, Encerra}
@@ -37,14 +38,14 @@ line_reads (clerk key) valid = clerk_text-reads key valid
 line_reads (voter []) valid = absurd (omega (arith, valid.0))
 line_reads (voter (key ∷ keys)) valid = keys_text-reads key keys valid.1
 
-no_feed-keys : (keys : List Key) → list_all is_no_feed (map key_byte keys) ≡ true
+no_feed-keys : (keys : List Key) → Lacks 10 (map key_byte keys)
 no_feed-keys [] = refl
 no_feed-keys (key.Digit d ∷ keys) = let apart : (48 + d == 10) ≡ false = grind (arith, nat_tests) in rw (apart, no_feed-keys keys) refl
 no_feed-keys (key.Blank ∷ keys) = no_feed-keys keys
 no_feed-keys (key.Correct ∷ keys) = no_feed-keys keys
 no_feed-keys (key.Confirm ∷ keys) = no_feed-keys keys
 
-no_feed-line : (line : ScriptLine) → list_all is_no_feed (script_line_text line) ≡ true
+no_feed-line : (line : ScriptLine) → Lacks 10 (script_line_text line)
 no_feed-line (clerk (Abre m)) = no_feed-padded 14 m
 no_feed-line (clerk (Titulo t)) = no_feed-padded 12 t
 no_feed-line (clerk Libera) = refl
@@ -53,7 +54,7 @@ no_feed-line (clerk Suspende) = refl
 no_feed-line (clerk (Encerra m)) = no_feed-padded 14 m
 no_feed-line (voter keys) = no_feed-keys keys
 
-no_feeds : (lines : List ScriptLine) → list_all (list_all is_no_feed) (map script_line_text lines) ≡ true
+no_feeds : (lines : List ScriptLine) → list_all (list_all (is_other 10)) (map script_line_text lines) ≡ true
 no_feeds [] = refl
 no_feeds (line ∷ lines) = rw (no_feed-line line, no_feeds lines) refl
 

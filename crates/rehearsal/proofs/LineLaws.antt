@@ -6,28 +6,28 @@ use Rattle.std.proofs.lemmas.Bool.Decides.{nat_tests}
 use Rattle.urna_base.specs.Digits.{padded}
 use Rattle.urna_base.specs.Lines.{lines_of, lines_text}
 use Rattle.urna_base.proofs.DigitLaws.{list_all-push}
-use Rattle.urna_base.proofs.LineLaws.{is_no_feed, not_feed}
+use Rattle.urna_base.proofs.Lacking.{Lacks, is_other, other_byte}
 
 -- a line that ends with its line feed is the first line
-lines_of-feed : (line text : List ℕ) → list_all is_no_feed line ≡ true → lines_of (line ++ 10 ∷ text) ≡ line ∷ lines_of text
+lines_of-feed : (line text : List ℕ) → Lacks 10 line → lines_of (line ++ 10 ∷ text) ≡ line ∷ lines_of text
 unfolding lines_of
 lines_of-feed [] text e = refl
 lines_of-feed (c ∷ line) text e =
-    let (here, more) = and_parts (is_no_feed c) (list_all is_no_feed line) e in
-    rw (not_feed c here, lines_of-feed line text more) refl
+    let (here, more) = and_parts (is_other 10 c) (list_all (is_other 10) line) e in
+    rw (other_byte 10 c here, lines_of-feed line text more) refl
 
 no_lines : lines_of [] ≡ []
 unfolding lines_of
 no_lines = refl
 
 -- lines with no line feed inside are read back
-pub lines_of-text : (lines : List (List ℕ)) → list_all (list_all is_no_feed) lines ≡ true → lines_of (lines_text lines) ≡ lines
+pub lines_of-text : (lines : List (List ℕ)) → list_all (list_all (is_other 10)) lines ≡ true → lines_of (lines_text lines) ≡ lines
 lines_of-text [] e = no_lines
 lines_of-text (line ∷ lines) e =
-    let (here, more) = and_parts (list_all is_no_feed line) (list_all (list_all is_no_feed) lines) e in
+    let (here, more) = and_parts (list_all (is_other 10) line) (list_all (list_all (is_other 10)) lines) e in
     rw (append_assoc, lines_of-feed line (lines_text lines) here, lines_of-text lines more) refl
 
-pub no_feed-padded : (k n : ℕ) → list_all is_no_feed (padded k n) ≡ true
+pub no_feed-padded : (k n : ℕ) → Lacks 10 (padded k n)
 unfolding padded
 no_feed-padded zero n = refl
-no_feed-padded (suc k) n = list_all-push is_no_feed (padded k (n / 10)) (48 + n % 10) (no_feed-padded k (n / 10)) (grind (arith, nat_tests))
+no_feed-padded (suc k) n = list_all-push (is_other 10) (padded k (n / 10)) (48 + n % 10) (no_feed-padded k (n / 10)) (grind (arith, nat_tests))

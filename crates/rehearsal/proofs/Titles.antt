@@ -8,14 +8,15 @@ use Rattle.sha2.specs.Sha256.{sha256}
 use Rattle.urna_base.specs.Digits.{padded}
 use Rattle.urna_base.specs.Lines.{lines_of}
 use Rattle.urna_base.proofs.DigitLaws.{digits_value-padded}
-use Rattle.urna_base.proofs.LineLaws.{is_no_feed, lines_text-append}
+use Rattle.urna_base.proofs.Lacking.{is_other}
+use Rattle.urna_base.proofs.LineLaws.{lines_text-append}
 use Rattle.election_tables.specs.Limits.{most_voters}
 use Rattle.election_tables.specs.Roll.{titles_on, may_follow, bad_line, IsRollOf}
 use Rattle.rehearsal.specs.Roll.{title_at, titles, roll_text, generated_roll}
 use Rattle.rehearsal.proofs.LineLaws.{lines_of-text, no_feed-padded}
 use Rattle.rehearsal.proofs.Rising.{rises_from, rises_from-range}
 
-no_feeds : (ts : List ℕ) → list_all (list_all is_no_feed) (map (padded 12) ts) ≡ true
+no_feeds : (ts : List ℕ) → list_all (list_all (is_other 10)) (map (padded 12) ts) ≡ true
 no_feeds [] = refl
 no_feeds (t ∷ ts) = rw (no_feed-padded 12 t, no_feeds ts) refl
 

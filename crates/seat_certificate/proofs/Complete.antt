@@ -14,7 +14,7 @@ use Rattle.seat_certificate.specs.Text.{HasText, average_word, LineFits, RiseAbo
 use Rattle.seat_certificate.proofs.Codes.{small_code}
 use Rattle.seat_certificate.proofs.LineReading.{bloc_written, one_written}
 use Rattle.seat_certificate.proofs.Machine.{goes-cons, goes-nil}
-use Rattle.seat_certificate.proofs.Pieces.{word_first}
+use Rattle.urna_base.proofs.PieceLaws.{piece_first}
 use Rattle.seat_certificate.proofs.RoundReading.{round_written}
 use Rattle.seat_certificate.proofs.Steps.{last_bloc-push}
 
@@ -31,15 +31,15 @@ keyed_other word w low high (v ∷ ws) e = rw e refl
 
 no_bloc_of_round : (k : ℕ) (r : Round) → bloc_at (round_line k r) ≡ None
 unfolding bloc_at
-no_bloc_of_round k r = rw (word_first TABLE.round (decimal k ++ (codes " FASE " ++ (decimal r.phase ++ (codes " VENCE " ++ (decimal r.party ++ flat_map average_word r.averages))))) refl, keyed_other TABLE.party.word TABLE.round 10 99 _ refl) refl
+no_bloc_of_round k r = rw (piece_first 32 TABLE.round (decimal k ++ (codes " FASE " ++ (decimal r.phase ++ (codes " VENCE " ++ (decimal r.party ++ flat_map average_word r.averages))))) refl, keyed_other TABLE.party.word TABLE.round 10 99 _ refl) refl
 
 no_bloc_of_vacant : (m : ℕ) → bloc_at (vacant_line m) ≡ None
 unfolding bloc_at
-no_bloc_of_vacant m = rw (word_first TABLE.vacant.word (decimal m) refl, keyed_other TABLE.party.word TABLE.vacant.word TABLE.party.low TABLE.party.high _ refl) refl
+no_bloc_of_vacant m = rw (piece_first 32 TABLE.vacant.word (decimal m) refl, keyed_other TABLE.party.word TABLE.vacant.word TABLE.party.low TABLE.party.high _ refl) refl
 
 no_round_of_vacant : (k m : ℕ) → round_at k (vacant_line m) ≡ None
 unfolding round_at round_front
-no_round_of_vacant k m = rw (word_first TABLE.vacant.word (decimal m) refl, keyed_other TABLE.round TABLE.vacant.word k k _ refl) refl
+no_round_of_vacant k m = rw (piece_first 32 TABLE.vacant.word (decimal m) refl, keyed_other TABLE.round TABLE.vacant.word k k _ refl) refl
 
 -- ---- lines of the first phase in a row
 

@@ -7,7 +7,9 @@ use Rattle.seat_certificate.specs.declared.table.TheConstants.{TABLE}
 use Rattle.seat_certificate.specs.declared.certificate.FirstLine.{FirstLine}
 use Rattle.seat_certificate.specs.Reading.{at_end, bloc_at, keyed, one_number}
 use Rattle.seat_certificate.specs.Text.{LineFits, bloc_line}
-use Rattle.seat_certificate.proofs.Pieces.{Lacks, number_first, number_last, word_first, words_join}
+use Rattle.seat_certificate.proofs.Pieces.{number_first, number_last, words_join}
+use Rattle.urna_base.proofs.Lacking.{Lacks}
+use Rattle.urna_base.proofs.PieceLaws.{piece_first}
 use Rattle.seat_certificate.proofs.WordReading.{bind_some, end_some, keyed_read, keyed_written}
 
 -- ---- one keyword and one number
@@ -15,7 +17,7 @@ use Rattle.seat_certificate.proofs.WordReading.{bind_some, end_some, keyed_read,
 pub one_written : (word : List ℕ) (low high n : ℕ) → Lacks 32 word → low ≤ n → n ≤ high → n < 10 ^ 18 → one_number word low high (word ++ 32 ∷ decimal n) ≡ Some n
 unfolding one_number
 one_written word low high n lacks h g lt =
-    let words : pieces (word ++ 32 ∷ decimal n) ≡ word ∷ decimal n ∷ [] = word_first word (decimal n) lacks ∙ ap (λ (l : List (List ℕ)). word ∷ l) (number_last n lt) in
+    let words : pieces (word ++ 32 ∷ decimal n) ≡ word ∷ decimal n ∷ [] = piece_first 32 word (decimal n) lacks ∙ ap (λ (l : List (List ℕ)). word ∷ l) (number_last n lt) in
     rw (words, keyed_written word low high n [] h g lt) refl
 
 pub record IsOneNumber (word : List ℕ) (low high n : ℕ) (line : List ℕ) : Type 0 where
@@ -42,7 +44,7 @@ bloc_words l fits =
     let a = number_first l.able (codes "VAGAS " ++ decimal l.seats) (omega (arith, fits.able)) in
     let q = number_first l.quotient (codes "APTOS " ++ (decimal l.able ++ (codes " VAGAS " ++ (decimal l.seats)))) fits.quotient in
     let p = number_first l.party (codes "QP " ++ (decimal l.quotient ++ (codes " APTOS " ++ (decimal l.able ++ (codes " VAGAS " ++ (decimal l.seats)))))) (omega (arith, fits.party.1)) in
-    word_first TABLE.party.word (decimal l.party ++ (codes " QP " ++ (decimal l.quotient ++ (codes " APTOS " ++ (decimal l.able ++ (codes " VAGAS " ++ decimal l.seats)))))) refl
+    piece_first 32 TABLE.party.word (decimal l.party ++ (codes " QP " ++ (decimal l.quotient ++ (codes " APTOS " ++ (decimal l.able ++ (codes " VAGAS " ++ decimal l.seats)))))) refl
     ∙ ap (λ (ws : List (List ℕ)). TABLE.party.word ∷ ws) (p
     ∙ ap (λ (ws : List (List ℕ)). decimal l.party ∷ TABLE.party_quotient.word ∷ ws) (q
     ∙ ap (λ (ws : List (List ℕ)). decimal l.quotient ∷ TABLE.able.word ∷ ws) (a

@@ -1,60 +1,23 @@
 -- A text is its pieces, and numbers are pieces of their own.
-use Rattle.std.proofs.Common.{◌≡◌, ◌⊎◌, ℕ, ◌^◌, ◌<◌, true, false, not, ◌==◌, List, [], ◌∷◌, ◌++◌, length, Bool, cond, Option, None, Some, All, inl, refl, sym, ap, ◌∙◌, append_assoc, length-append, arith}
+use Rattle.std.proofs.Common.{◌≡◌, ℕ, ◌^◌, ◌<◌, true, false, ◌==◌, List, [], ◌∷◌, ◌++◌, length, Bool, cond, Option, None, Some, inl, refl, sym, ap, ◌∙◌, append_assoc, length-append, arith}
 use Rattle.std.specs.Prelude.{option_map}
 use Rattle.std.specs.Fmt.{decimal}
-use Rattle.std.specs.List.{AllByRecursion, list_all, slice_split, join_with_byte}
-use Rattle.std.proofs.lemmas.Bool.Decides.{nat_tests}
-use Rattle.std.proofs.lemmas.List.Elements.{All-nil, All-cons}
-use Rattle.std.proofs.lemmas.List.Folds.{list_all-append}
-use Rattle.std.proofs.lemmas.List.Splits.{join_with_byte-slice_split, length-slice_split, slice_split_at, slice_split_none}
-use Rattle.urna_base.specs.Digits.{is_digit}
+use Rattle.std.specs.List.{AllByRecursion, slice_split, join_with_byte}
+use Rattle.std.proofs.lemmas.List.Splits.{join_with_byte-slice_split, length-slice_split}
 use Rattle.urna_base.specs.Words.{cut_at, pieces}
-use Rattle.urna_base.proofs.DecimalLaws.{all_digits}
-use Rattle.urna_base.proofs.DigitLaws.{both_from_and}
 use Rattle.urna_base.proofs.CutLaws.{cut_front, cut_parts}
+use Rattle.urna_base.proofs.Lacking.{Lacks, decimal_lacks}
+use Rattle.urna_base.proofs.PieceLaws.{piece_first, piece_last}
 use Rattle.seat_certificate.specs.Reading.{lines_in, with_feeds}
 use Rattle.urna_base.specs.Lines.{lines_text}
 
--- a text without a byte
-abbrev pub Lacks : ℕ → List ℕ → Type 0
-Lacks c text = list_all (λ b. not (b == c)) text ≡ true
-
-pub each_other : (c : ℕ) (text : List ℕ) → Lacks c text → All (λ b. (b == c) ≡ false) text
-each_other c [] h = All-nil (λ b. (b == c) ≡ false)
-each_other c (b ∷ text) h =
-    let both = both_from_and (not (b == c)) (list_all (λ b. not (b == c)) text) h in
-    let test = both.0 in
-    let other : (b == c) ≡ false = grind (arith, nat_tests) in
-    All-cons (λ x. (x == c) ≡ false) b text other (each_other c text both.1)
-
-pub lacks-append : (c : ℕ) (x y : List ℕ) → Lacks c x → Lacks c y → Lacks c (x ++ y)
-lacks-append c x y h g = list_all-append (λ b. not (b == c)) x y ∙ rw (h, g) refl
-
-digits_lack : (c : ℕ) (text : List ℕ) → (c < 48) ⊎ (57 < c) → list_all is_digit text ≡ true → Lacks c text
-digits_lack c [] h all = refl
-digits_lack c (b ∷ text) h all =
-    let both = both_from_and (is_digit b) (list_all is_digit text) all in
-    let digit : is_digit b ≡ true = both.0 in
-    let here : not (b == c) ≡ true = grind (arith, nat_tests) in
-    rw here (digits_lack c text h both.1)
-
--- the digits of a number have no other byte
-pub decimal_lacks : (c n : ℕ) → (c < 48) ⊎ (57 < c) → n < 10 ^ 18 → Lacks c (decimal n)
-decimal_lacks c n h lt = digits_lack c (decimal n) h (all_digits n lt)
-
 -- ---- words
 
-pub word_first : (w rest : List ℕ) → Lacks 32 w → pieces (w ++ 32 ∷ rest) ≡ w ∷ pieces rest
-word_first w rest h = slice_split_at (λ b. b == 32) w 32 rest (each_other 32 w h) refl
-
-pub word_last : (w : List ℕ) → Lacks 32 w → pieces w ≡ w ∷ []
-word_last w h = slice_split_none (λ b. b == 32) w (each_other 32 w h)
-
 pub number_first : (n : ℕ) (rest : List ℕ) → n < 10 ^ 18 → pieces (decimal n ++ 32 ∷ rest) ≡ decimal n ∷ pieces rest
-number_first n rest lt = word_first (decimal n) rest (decimal_lacks 32 n (inl (omega arith)) lt)
+number_first n rest lt = piece_first 32 (decimal n) rest (decimal_lacks 32 n (inl (omega arith)) lt)
 
 pub number_last : (n : ℕ) → n < 10 ^ 18 → pieces (decimal n) ≡ decimal n ∷ []
-number_last n lt = word_last (decimal n) (decimal_lacks 32 n (inl (omega arith)) lt)
+number_last n lt = piece_last 32 (decimal n) (decimal_lacks 32 n (inl (omega arith)) lt)
 
 -- a text is its words with spaces between them
 pub words_join : (text : List ℕ) (ws : List (List ℕ)) → pieces text ≡ ws → text ≡ join_with_byte 32 ws
@@ -107,7 +70,7 @@ lines_back bytes = joined (slice_split (λ b. b == 10) bytes) (parts_there 10 by
 pub line_first : (line rest : List ℕ) → Lacks 10 line → lines_in (line ++ 10 ∷ rest) ≡ (line ∷ (lines_in rest).0, (lines_in rest).1)
 unfolding lines_in
 line_first line rest h =
-    ap with_feeds (slice_split_at (λ b. b == 10) line 10 rest (each_other 10 line h) refl) ∙ with_feeds-cons line (slice_split (λ b. b == 10) rest) (parts_there 10 rest)
+    ap with_feeds (piece_first 10 line rest h) ∙ with_feeds-cons line (slice_split (λ b. b == 10) rest) (parts_there 10 rest)
 
 pub lines_of_text : (lines : List (List ℕ)) (rest : List ℕ) → AllByRecursion (Lacks 10) lines → lines_in (lines_text lines ++ rest) ≡ (lines ++ (lines_in rest).0, (lines_in rest).1)
 lines_of_text [] rest h = refl
@@ -121,7 +84,7 @@ line_cut text line rest h = ap lines_in (cut_parts 10 text (line, rest) h) ∙ l
 
 pub line_uncut : (text : List ℕ) → cut_at 10 text ≡ None → (lines_in text).0 ≡ []
 unfolding lines_in
-line_uncut text h = ap (λ (ws : List (List ℕ)). (with_feeds ws).0) (slice_split_none (λ b. b == 10) text (each_other 10 text (uncut_lacks 10 text h)))
+line_uncut text h = ap (λ (ws : List (List ℕ)). (with_feeds ws).0) (piece_last 10 text (uncut_lacks 10 text h))
 
 pub line_shorter : (text line rest : List ℕ) → cut_at 10 text ≡ Some (line, rest) → length rest < length text
 line_shorter text line rest h =

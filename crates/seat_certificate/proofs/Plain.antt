@@ -9,18 +9,15 @@ use Rattle.seat_certificate.specs.declared.certificate.FirstLine.{FirstLine}
 use Rattle.seat_certificate.specs.declared.certificate.Round.{Round}
 use Rattle.seat_certificate.specs.Text.{AverageFits, HasText, LineFits, RoundFits, average_word, bloc_line, certificate_lines, round_line, round_lines}
 use Rattle.seat_certificate.proofs.Codes.{small_code}
-use Rattle.seat_certificate.proofs.Pieces.{Lacks, decimal_lacks, lacks-append}
-
-number : (n : ℕ) → n < 10 ^ 18 → Lacks 10 (decimal n)
-number n lt = decimal_lacks 10 n (inl (omega arith)) lt
+use Rattle.urna_base.proofs.Lacking.{Lacks, decimal_in_line, lacks-append}
 
 -- a word and a number
 keyed_lacks : (word : List ℕ) (n : ℕ) → Lacks 10 word → n < 10 ^ 18 → Lacks 10 (word ++ decimal n)
-keyed_lacks word n h lt = lacks-append 10 word (decimal n) h (number n lt)
+keyed_lacks word n h lt = lacks-append 10 word (decimal n) h (decimal_in_line n lt)
 
 -- and more behind it
 keyed_more : (word : List ℕ) (n : ℕ) (more : List ℕ) → Lacks 10 word → n < 10 ^ 18 → Lacks 10 more → Lacks 10 (word ++ (decimal n ++ (more)))
-keyed_more word n more h lt g = lacks-append 10 word (decimal n ++ more) h (lacks-append 10 (decimal n) more (number n lt) g)
+keyed_more word n more h lt g = lacks-append 10 word (decimal n ++ more) h (lacks-append 10 (decimal n) more (decimal_in_line n lt) g)
 
 bloc_lacks : (l : FirstLine) → LineFits l → Lacks 10 (bloc_line l)
 bloc_lacks l fits =

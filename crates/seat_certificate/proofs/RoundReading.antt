@@ -12,7 +12,9 @@ use Rattle.seat_certificate.specs.declared.certificate.Round.{Round}
 use Rattle.seat_certificate.specs.Reading.{average_at, averages_at, keyed, next_average, number_at, round_at, round_front}
 use Rattle.seat_certificate.specs.Text.{AverageFits, IsBloc, RiseAbove, RoundFits, average_word, round_line}
 use Rattle.seat_certificate.proofs.Members.{some_same}
-use Rattle.seat_certificate.proofs.Pieces.{Lacks, decimal_lacks, lacks-append, number_first, word_first, word_last, words_join}
+use Rattle.seat_certificate.proofs.Pieces.{number_first, words_join}
+use Rattle.urna_base.proofs.Lacking.{Lacks, decimal_lacks, lacks-append}
+use Rattle.urna_base.proofs.PieceLaws.{piece_first, piece_last}
 use Rattle.urna_base.proofs.Cases.{and_then_some, guard_some, map_some}
 use Rattle.seat_certificate.proofs.WordReading.{bind_some, keyed_read, keyed_written, number_read, number_written}
 
@@ -70,8 +72,8 @@ word_lacks a fits =
 
 -- words behind a word
 words_behind : (w : List ℕ) (xs : List AverageData) → Lacks 32 w → AllByRecursion AverageFits xs → pieces (w ++ flat_map average_word xs) ≡ w ∷ map word_of xs
-words_behind w [] lacks fit = ap pieces (append-nil w) ∙ word_last w lacks
-words_behind w (a ∷ xs) lacks fit = word_first w (word_of a ++ flat_map average_word xs) lacks ∙ ap (λ (ws : List (List ℕ)). w ∷ ws) (words_behind (word_of a) xs (word_lacks a fit.0) fit.1)
+words_behind w [] lacks fit = ap pieces (append-nil w) ∙ piece_last 32 w lacks
+words_behind w (a ∷ xs) lacks fit = piece_first 32 w (word_of a ++ flat_map average_word xs) lacks ∙ ap (λ (ws : List (List ℕ)). w ∷ ws) (words_behind (word_of a) xs (word_lacks a fit.0) fit.1)
 
 next_written : (last : ℕ) (a : AverageData) → AverageFits a → last < a.party → next_average last (word_of a) ≡ Some a
 unfolding next_average
@@ -142,7 +144,7 @@ round_words k r few fits =
     let p = words_behind (decimal r.party) r.averages (decimal_lacks 32 r.party (inl (omega arith)) (narrow r.party fits.party.1)) fits.averages in
     let f = number_first r.phase (codes "VENCE " ++ (decimal r.party ++ (tail))) phase in
     let n = number_first k (codes "FASE " ++ (decimal r.phase ++ (codes " VENCE " ++ (decimal r.party ++ (tail))))) few in
-    word_first TABLE.round (decimal k ++ (codes " FASE " ++ (decimal r.phase ++ (codes " VENCE " ++ (decimal r.party ++ tail))))) refl
+    piece_first 32 TABLE.round (decimal k ++ (codes " FASE " ++ (decimal r.phase ++ (codes " VENCE " ++ (decimal r.party ++ tail))))) refl
     ∙ ap (λ (ws : List (List ℕ)). TABLE.round ∷ ws) (n
     ∙ ap (λ (ws : List (List ℕ)). decimal k ∷ TABLE.phase.word ∷ ws) (f
     ∙ ap (λ (ws : List (List ℕ)). decimal r.phase ∷ TABLE.winner.word ∷ ws) p))

@@ -12,7 +12,8 @@ use Rattle.seat_certificate.specs.Text.{BeginsAs, HasText, IsFirstBadLine, Spell
 use Rattle.seat_certificate.proofs.Complete.{complete}
 use Rattle.seat_certificate.proofs.Fronts.{front_bad}
 use Rattle.seat_certificate.proofs.Machine.{same_read}
-use Rattle.seat_certificate.proofs.Pieces.{Lacks, lines_back, lines_of_text}
+use Rattle.seat_certificate.proofs.Pieces.{lines_back, lines_of_text}
+use Rattle.urna_base.proofs.Lacking.{Lacks}
 use Rattle.seat_certificate.proofs.Plain.{all_take, lines_lack}
 use Rattle.seat_certificate.proofs.Reached.{on_the_way, reached, whole}
 

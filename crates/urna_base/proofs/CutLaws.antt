@@ -1,5 +1,5 @@
 -- A text cut at a byte
-use Rattle.std.proofs.Common.{◌≡◌, ℕ, suc, ◌+◌, ◌<◌, ◌≤◌, Bool, true, false, not, cond, List, [], ◌∷◌, ◌++◌, length, take, drop, Option, Some, None, option_map, refl, ap, ◌∙◌, append_assoc, arith}
+use Rattle.std.proofs.Common.{◌≡◌, ℕ, suc, ◌+◌, ◌<◌, ◌≤◌, Bool, true, false, cond, List, [], ◌∷◌, ◌++◌, length, take, drop, Option, Some, None, option_map, refl, ap, ◌∙◌, append_assoc, arith}
 use Rattle.std.specs.Prelude.{◌==◌, position, nat_lt}
 use Rattle.std.specs.List.{list_all, position_or_len}
 use Rattle.std.proofs.lemmas.Bool.{ltb-true, ltb-false}
@@ -7,20 +7,14 @@ use Rattle.std.proofs.lemmas.Bool.Decides.{nat_tests}
 use Rattle.urna_base.specs.Words.{cut_at}
 use Rattle.urna_base.proofs.Cases.{guard_none, map_some}
 use Rattle.urna_base.proofs.DigitLaws.{both_from_and, some_from_test}
+use Rattle.urna_base.proofs.Lacking.{Lacks, is_other, other_byte}
 use Rattle.urna_base.proofs.WordLaws.{same_byte}
-
--- a byte is another one
-abbrev pub is_other : ℕ → ℕ → Bool
-is_other b c = not (c == b)
-
-pub other_byte : (b c : ℕ) → is_other b c ≡ true → (c == b) ≡ false
-other_byte b c h = grind (arith, nat_tests)
 
 pub is_byte : (b c : ℕ) → (c == b) ≡ true → c ≡ b
 is_byte b c h = grind (arith, nat_tests)
 
 -- a text with the byte behind a front that has none is cut there
-pub cut_behind : (b : ℕ) (t rest : List ℕ) → list_all (is_other b) t ≡ true → cut_at b (t ++ b ∷ rest) ≡ Some (t, rest)
+pub cut_behind : (b : ℕ) (t rest : List ℕ) → Lacks b t → cut_at b (t ++ b ∷ rest) ≡ Some (t, rest)
 unfolding cut_at
 cut_behind b [] rest h = rw (same_byte b) refl
 cut_behind b (c ∷ t) rest h =
@@ -84,13 +78,13 @@ cut_nowhere b text h =
     cut_past b text (ltb-false _ _ past)
 
 -- what stands in front of the first such byte has none
-pub cut_front : (b : ℕ) (text : List ℕ) (x : List ℕ × List ℕ) → cut_at b text ≡ Some x → list_all (is_other b) x.0 ≡ true
+pub cut_front : (b : ℕ) (text : List ℕ) (x : List ℕ × List ℕ) → cut_at b text ≡ Some x → Lacks b x.0
 unfolding cut_at
 cut_front b [] x h = absurd (cc)
 cut_front b (c ∷ text) x h = go (c == b) refl h (cut_front b text)
   where
     go : (p : Bool) → (c == b) ≡ p → cond {A = Option (List ℕ × List ℕ)} p (Some ([], text)) (option_map (λ (y : List ℕ × List ℕ). (c ∷ y.0, y.1)) (cut_at b text)) ≡ Some x
-        → ((y : List ℕ × List ℕ) → cut_at b text ≡ Some y → list_all (is_other b) y.0 ≡ true) → list_all (is_other b) x.0 ≡ true
+        → ((y : List ℕ × List ℕ) → cut_at b text ≡ Some y → Lacks b y.0) → Lacks b x.0
     go true e g behind = let pair : ([], text) ≡ x = cc in rw (← pair) refl
     go false e g behind =
         let inner = map_some (λ (y : List ℕ × List ℕ). (c ∷ y.0, y.1)) (cut_at b text) x g in

@@ -1,30 +1,24 @@
 -- Laws of the lines of a text.
-use Rattle.std.proofs.Common.{◌≡◌, Bool, true, false, not, cond, ltb, List, [], ◌∷◌, ◌++◌, ℕ, suc, ◌+◌, ◌<◌, ◌≤◌, length, take, drop, refl, sym, ap, ◌∙◌, append_assoc, append-nil, Some, None, arith}
+use Rattle.std.proofs.Common.{◌≡◌, Bool, true, false, ltb, List, [], ◌∷◌, ◌++◌, ℕ, suc, ◌+◌, ◌<◌, ◌≤◌, length, take, drop, refl, sym, ap, ◌∙◌, append_assoc, append-nil, Some, None, arith}
 use Rattle.std.specs.Prelude.{◌==◌, ◌≢◌, position}
 use Rattle.std.proofs.lemmas.List.Concat.{flat_map-append}
 use Rattle.std.proofs.lemmas.Option.{cond_some}
 use Rattle.std.proofs.lemmas.Bool.{ltb-true, ltb-false}
 use Rattle.std.specs.List.{list_all, position_or_len}
-use Rattle.std.proofs.lemmas.Bool.Decides.{nat_tests}
 use Rattle.urna_base.specs.Lines.{lines_of, lines_text, before_first_line}
+use Rattle.urna_base.proofs.Cases.{guard_none}
 use Rattle.urna_base.proofs.DigitLaws.{both_from_and}
-
--- a byte is no line feed
-abbrev pub is_no_feed : ℕ → Bool
-is_no_feed c = not (c == 10)
-
-pub not_feed : (c : ℕ) → is_no_feed c ≡ true → (c == 10) ≡ false
-not_feed c e = grind (arith, nat_tests)
+use Rattle.urna_base.proofs.Lacking.{Lacks, is_other, other_byte}
 
 -- a text of one line with no line feed
-pub lines_of-last : (c : ℕ) (line : List ℕ) → list_all is_no_feed (c ∷ line) ≡ true → lines_of (c ∷ line) ≡ (c ∷ line) ∷ []
+pub lines_of-last : (c : ℕ) (line : List ℕ) → Lacks 10 (c ∷ line) → lines_of (c ∷ line) ≡ (c ∷ line) ∷ []
 unfolding lines_of
 lines_of-last c [] e =
-    let both = both_from_and (is_no_feed c) true e in
-    rw (not_feed c both.0) refl
+    let both = both_from_and (is_other 10 c) true e in
+    rw (other_byte 10 c both.0) refl
 lines_of-last c (d ∷ line) e =
-    let both = both_from_and (is_no_feed c) (list_all is_no_feed (d ∷ line)) e in
-    rw (not_feed c both.0, lines_of-last d line both.1) refl
+    let both = both_from_and (is_other 10 c) (list_all (is_other 10) (d ∷ line)) e in
+    rw (other_byte 10 c both.0, lines_of-last d line both.1) refl
 
 -- where the first line feed stands, or the length
 abbrev feed_place : List ℕ → ℕ
@@ -50,11 +44,11 @@ cut_at_feed [] within = absurd (omega arith)
 cut_at_feed (c ∷ text) within = cut_first (c == 10) c text refl within (cut_at_feed text)
 
 -- no line feed stands in a text that has its place past the end
-no_feeds : (text : List ℕ) → length text ≤ feed_place text → list_all is_no_feed text ≡ true
+no_feeds : (text : List ℕ) → length text ≤ feed_place text → Lacks 10 text
 no_feeds [] past = refl
 no_feeds (c ∷ text) past = no_first (c == 10) c text refl past (no_feeds text)
   where
-    no_first : (b : Bool) (c : ℕ) (text : List ℕ) → (c == 10) ≡ b → length (c ∷ text) ≤ feed_place (c ∷ text) → (length text ≤ feed_place text → list_all is_no_feed text ≡ true) → list_all is_no_feed (c ∷ text) ≡ true
+    no_first : (b : Bool) (c : ℕ) (text : List ℕ) → (c == 10) ≡ b → length (c ∷ text) ≤ feed_place (c ∷ text) → (length text ≤ feed_place text → Lacks 10 text) → Lacks 10 (c ∷ text)
     no_first true c text e past others = let past' : suc (length text) ≤ 0 = rw e at past in absurd (omega arith)
     no_first false c text e past others =
         let past' : suc (length text) ≤ 1 + feed_place text = rw e at past in
@@ -66,15 +60,11 @@ lines_of-position text place e =
     let found = cond_some _ (feed_place text) place e in
     rw (← found.1) (cut_at_feed text (ltb-true _ _ found.0))
 
-no_value : (b : Bool) (x : ℕ) → cond b (Some x) None ≡ None → b ≡ false
-no_value true x e = absurd (cc)
-no_value false x e = refl
-
 -- and is one line where it has none
 pub lines_of-unplaced : (text : List ℕ) → text ≢ [] → position (λ c. c == 10) text ≡ None → lines_of text ≡ text ∷ []
 lines_of-unplaced [] some e = absurd (some refl)
 lines_of-unplaced (c ∷ text) some e =
-    let never : ltb (feed_place (c ∷ text)) (length (c ∷ text)) ≡ false = no_value _ (feed_place (c ∷ text)) e in
+    let never : ltb (feed_place (c ∷ text)) (length (c ∷ text)) ≡ false = guard_none _ (feed_place (c ∷ text)) e in
     lines_of-last c text (no_feeds (c ∷ text) (ltb-false _ _ never))
 
 -- a line put behind a text

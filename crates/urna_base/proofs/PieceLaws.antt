@@ -1,13 +1,15 @@
 -- The pieces of a text at a separator.
-use Rattle.std.proofs.Common.{◌≡◌, ℕ, List, [], ◌∷◌, ◌+◌, ◌<◌, ◌≤◌, length, take, drop, Bool, Some, None, arith}
-use Rattle.std.specs.Prelude.{position, nat_lt}
+use Rattle.std.proofs.Common.{◌≡◌, ℕ, List, [], ◌∷◌, ◌++◌, ◌+◌, ◌<◌, ◌≤◌, length, take, drop, Bool, Some, None, arith}
+use Rattle.std.specs.Prelude.{◌==◌, position, nat_lt}
 use Rattle.std.specs.List.{slice_split, position_or_len}
 use Rattle.std.proofs.lemmas.Bool.{ltb-true, ltb-false}
 use Rattle.std.proofs.lemmas.Grind.{common_steps}
-use Rattle.std.proofs.lemmas.List.Splits.{slice_split_first, slice_split_none}
+use Rattle.std.proofs.lemmas.List.Splits.{slice_split_at, slice_split_first, slice_split_none}
 use Rattle.std.proofs.lemmas.List.Sums.{fails_before_first}
 use Rattle.urna_base.proofs.Cases.{guard_none}
 use Rattle.urna_base.proofs.DigitLaws.{some_from_test}
+use Rattle.urna_base.proofs.Lacking.{Lacks, each_other}
+use Rattle.urna_base.proofs.WordLaws.{same_byte}
 
 -- the pieces of a text at the first separator, and behind it
 pub split_first : (is : ℕ → Bool) (text : List ℕ) (end : ℕ) → position is text ≡ Some end
@@ -23,3 +25,10 @@ no_split is text h =
     let past = guard_none (nat_lt (position_or_len is text) (length text)) (position_or_len is text) h in
     let far : length text ≤ position_or_len is text = ltb-false _ _ past in
     slice_split_none is text (λ k e m. let near = fails_before_first is text k e (grind (arith, common_steps)) in grind (arith, common_steps))
+
+-- a text without a byte is a piece, with that byte behind it and alone
+pub piece_first : (b : ℕ) (text rest : List ℕ) → Lacks b text → slice_split (λ c. c == b) (text ++ b ∷ rest) ≡ text ∷ slice_split (λ c. c == b) rest
+piece_first b text rest h = slice_split_at (λ c. c == b) text b rest (each_other b text h) (same_byte b)
+
+pub piece_last : (b : ℕ) (text : List ℕ) → Lacks b text → slice_split (λ c. c == b) text ≡ text ∷ []
+piece_last b text h = slice_split_none (λ c. c == b) text (each_other b text h)
