@@ -3,7 +3,7 @@ use Rattle.std.specs.Prelude.{ℕ, List, Some, take, Contains}
 use Rattle.urna_outside.specs.Flash.{Op, Flash, Flashes, flash_of, after}
 use Rattle.urna_outside.specs.Told.{Told}
 use Rattle.memory_outside.specs.Chips.{flashes_in, sizes_in}
-use Rattle.urna_outside.specs.Counters.{faults_in}
+use Rattle.urna_outside.specs.FaultCounts.{faults_in}
 use Rattle.memory_outside.specs.CallCounts.{calls_in}
 use Rattle.memory_outside.specs.Room.{Room, HasRoom, put_of, show_of, torn_part}
 use Rattle.memory_outside.specs.Tape.{taped_ops, room_on, start_on}

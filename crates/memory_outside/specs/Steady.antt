@@ -3,7 +3,7 @@ use Rattle.std.specs.Prelude.{Some}
 use Rattle.urna_outside.specs.Flash.{Flashes}
 use Rattle.urna_outside.specs.Told.{Told, Sizes, silent_told}
 use Rattle.memory_outside.specs.Chips.{flashes_in, sizes_in}
-use Rattle.urna_outside.specs.Counters.{no_faults}
+use Rattle.urna_outside.specs.FaultCounts.{no_faults}
 use Rattle.memory_outside.specs.declared.steady.Steady.{Steady}
 
 -- its sizes, counts that are 0, and its flashes

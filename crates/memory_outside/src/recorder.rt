@@ -15,7 +15,7 @@ use crate::replay::replay;
 use crate::tape::Tape;
 use std::alloc::Global;
 use urna_base::Memory;
-use urna_outside::{Counters, Dev, Failed, Machine, Port};
+use urna_outside::{Dev, Failed, FaultCounts, Machine, Port};
 
 /// A machine in memory that tells everything and fails at the calls that it is told to fail at.
 #[derive(Drop)]
@@ -23,7 +23,7 @@ pub struct Recorder {
     chips: Chips,
     tape: Tape,
     failing: Vec<u32>,
-    faults: Counters,
+    faults: FaultCounts,
     calls: CallCounts,
     ghost internal_size: { length chips.internal.bytes.items ≡ length tape.internal.items },
     ghost external_size: { length chips.external.bytes.items ≡ length tape.internal.items },
@@ -99,7 +99,7 @@ impl Recorder {
             chips: Chips::new(alloc, internal, external)?,
             tape: Tape::new(alloc, internal_start, external_start, ops, bytes)?,
             failing: failing.to_vec(alloc)?,
-            faults: Counters::new(),
+            faults: FaultCounts::new(),
             calls: CallCounts::new(),
         })
     }

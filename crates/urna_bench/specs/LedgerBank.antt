@@ -1,6 +1,6 @@
 -- What the machine of a ledger tells.
 use Rattle.std.specs.Prelude.{◌<◌, ◌^◌, refl}
-use Rattle.urna_outside.specs.Counters.{no_faults}
+use Rattle.urna_outside.specs.FaultCounts.{no_faults}
 use Rattle.urna_outside.specs.Started.{both_sizes}
 use Rattle.urna_outside.specs.Told.{Told, silent_told, size_of}
 use Rattle.urna_outside.specs.declared.device.Dev.{Dev}

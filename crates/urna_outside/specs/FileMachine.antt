@@ -3,7 +3,7 @@ use Rattle.std.specs.declared.io.traits.Read.{Ghosts as Reads}
 use Rattle.std.specs.declared.io.traits.Write.{Ghosts as Writes}
 use Rattle.std.specs.declared.io.traits.Seek.{Ghosts as Seeks}
 use Rattle.urna_outside.specs.Told.{Told, silent_told}
-use Rattle.urna_outside.specs.Counters.{faults_in}
+use Rattle.urna_outside.specs.FaultCounts.{faults_in}
 use Rattle.urna_outside.specs.declared.files.file_machine.FileMachine.{FileMachine}
 
 -- both devices have the one size

@@ -1,6 +1,6 @@
 pub mod Cabinet
 pub mod Confined
-pub mod Counters
+pub mod FaultCounts
 pub mod Faults
 pub mod FileMachine
 pub mod Flash

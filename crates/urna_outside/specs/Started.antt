@@ -2,7 +2,7 @@
 use Rattle.std.specs.Prelude.{ℕ, List, [], None, Some, replicate}
 use Rattle.urna_outside.specs.Flash.{Flashes, clean_flash}
 use Rattle.urna_outside.specs.Told.{Calls, Told, Sizes}
-use Rattle.urna_outside.specs.Counters.{no_faults}
+use Rattle.urna_outside.specs.FaultCounts.{no_faults}
 
 -- two flashes of these contents, nothing dirty
 abbrev pub clean_flashes : List ℕ → List ℕ → Flashes

@@ -11,8 +11,8 @@
 
 mod bytes;
 mod cabinet;
-mod counters;
 mod device;
+mod fault_counts;
 mod files;
 mod machine;
 mod show;
@@ -20,8 +20,8 @@ mod take_counts;
 
 pub use bytes::overwrite;
 pub use cabinet::{Cabinet, CabinetError};
-pub use counters::Counters;
 pub use device::{Dev, Failed, Port};
+pub use fault_counts::FaultCounts;
 pub use files::{FileLock, FileMachine, FolderCabinet};
 pub use machine::Machine;
 pub use show::{lines_show_their_text, show_line};

@@ -1,7 +1,7 @@
 ghost use Rattle.std.specs.Prelude.{◌≡◌, ◌<◌, ◌^◌};
 ghost use Rattle.urna_outside.specs.Told.{silent_told};
 
-use crate::counters::Counters;
+use crate::fault_counts::FaultCounts;
 use crate::files::file_lock::FileLock;
 use crate::files::flash_files::FlashFiles;
 use crate::{Dev, Failed, Machine, Port};
@@ -21,7 +21,7 @@ pub struct FileMachine<'a, R: Files> {
     rt: &'a R,
     size: u32,
     files: FlashFiles<R::File>,
-    faults: Counters,
+    faults: FaultCounts,
     ghost bounded: { size < 2 ^ 32 },
 }
 
@@ -29,7 +29,7 @@ impl<'a, R: Files + Print> FileMachine<'a, R>
 where
     R::File: FileLock,
 {
-    ghost use Rattle.urna_outside.specs.Counters.{no_faults};
+    ghost use Rattle.urna_outside.specs.FaultCounts.{no_faults};
     ghost use Rattle.urna_outside.specs.Started.{both_sizes};
     ghost use Rattle.urna_outside.specs.FileMachine.{file_told};
 
@@ -42,7 +42,7 @@ where
             rt,
             size,
             files: FlashFiles::new(),
-            faults: Counters::new(),
+            faults: FaultCounts::new(),
         }
     }
 }

@@ -6,20 +6,20 @@ use crate::{Failed, Port};
 
 /// How often each port has failed.
 #[derive(Clone, Copy, Debug, PartialEq, Eq)]
-pub struct Counters {
+pub struct FaultCounts {
     internal: u64,
     external: u64,
     display: u64,
 }
 
-impl Counters {
-    ghost use Rattle.urna_outside.specs.Counters.{faults_in, no_faults};
+impl FaultCounts {
+    ghost use Rattle.urna_outside.specs.FaultCounts.{faults_in, no_faults};
 
     /// No port has failed.
-    pub fn new() -> Counters
+    pub fn new() -> FaultCounts
         ensures { faults_in result ≡ no_faults }
     {
-        Counters {
+        FaultCounts {
             internal: 0,
             external: 0,
             display: 0,
