@@ -1,9 +1,5 @@
 //! A command over a machine and a cabinet in memory, and what it shows.
-use crate::flashes::{Flashes, Program, machine};
-use crate::halt::Halt;
-use crate::papers::{Paper, cabinet_of};
-use crate::stage::Faults;
-use crate::words::head;
+use case_parts::{Faults, Flashes, Halt, Paper, cabinet_of, head, machine};
 use ledger_commands::urna_ledger;
 use memory_outside::{Recorder, WatchedShelf};
 use state_store::DEVICE_SIZE;
@@ -13,6 +9,23 @@ use urna_commands::urna;
 
 /// The file that the keys of a session are.
 const KEYS: &str = "k";
+
+/// The program that a command is of. Each has flashes of another size.
+#[derive(Clone, Copy)]
+pub(crate) enum Program {
+    Urna,
+    Ledger,
+}
+
+impl Program {
+    /// The bytes of a device.
+    pub(crate) fn device_size(self) -> u32 {
+        match self {
+            Program::Urna => DEVICE_SIZE,
+            Program::Ledger => intake_ledger::DEVICE_SIZE,
+        }
+    }
+}
 
 /// A command: the program and its words, and the keys of a session, which are the file `KEYS`.
 #[derive(Drop)]

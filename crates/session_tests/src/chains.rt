@@ -1,11 +1,10 @@
 //! Commands one after another, each of which is stopped behind an operation that a seed draws.
-use crate::calls::{Call, call_of, run, say, shown};
-use crate::cuts::{Fill, WAYS, cut};
-use crate::flashes::{Flashes, Program, copied, is_left};
-use crate::halt::Halt;
-use crate::stage::{Stage, kept_as, last_of, no_faults};
+use crate::calls::{Call, Program, call_of, run, say, shown};
+use crate::stage::{Stage, last_of};
 use crate::stops::{told, told_by};
-use crate::words::{head, number};
+use case_parts::{
+    Fill, Flashes, Halt, WAYS, copied, cut, head, is_left, kept_as, no_faults, number,
+};
 use ledger_commands::LedgerStatus;
 use memory_outside::Recorder;
 use std::alloc::Global;

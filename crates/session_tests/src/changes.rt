@@ -1,11 +1,9 @@
 //! A document that is cut at each length, and changed in each bit.
 use crate::calls::{Ran, push_files, run, say, shown};
-use crate::flashes::is_left;
-use crate::halt::Halt;
-use crate::papers::{bytes_of, place};
 use crate::runs::{Runs, Ways};
-use crate::stage::{Last, Stage, last_of, no_faults};
+use crate::stage::{Last, Stage, last_of};
 use crate::stops::{last_line, told_by};
+use case_parts::{Halt, bytes_of, is_left, no_faults, place};
 use std::alloc::Global;
 
 /// Puts the line that tells a fault behind a text, but for a number at its end.

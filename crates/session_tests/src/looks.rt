@@ -2,13 +2,10 @@
 use crate::calls::{say, say_whole};
 use crate::chains::each_chain;
 use crate::changes::{each_answer, each_change};
-use crate::flashes::are_same;
-use crate::halt::Halt;
-use crate::papers::bytes_of;
 use crate::ranks::told_ranks;
-use crate::stage::{Stage, kept_as, last_of};
+use crate::stage::{Stage, last_of};
 use crate::stops::{each_call, each_piece, each_rank, each_stop, told_by_all};
-use crate::words::{device, head, number};
+use case_parts::{Halt, are_same, bytes_of, device, head, kept_as, number};
 use hex::encode_upper;
 use std::alloc::Global;
 use std::str;

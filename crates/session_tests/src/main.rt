@@ -11,20 +11,14 @@
 mod calls;
 mod chains;
 mod changes;
-mod cuts;
-mod edits;
-mod flashes;
-mod halt;
 mod looks;
-mod papers;
 mod ranks;
 mod runs;
 mod stage;
 mod steps;
 mod stops;
-mod words;
 
-use halt::Halt;
+use case_parts::Halt;
 use stage::Stage;
 use std::alloc::Global;
 use std::process::ExitCode;

@@ -1,11 +1,15 @@
 //! The ranks of the states in the open slots, which no recovery has looked at.
-use crate::flashes::{Flashes, GATES};
-use crate::halt::Halt;
-use crate::papers::{Paper, bytes_of};
+use case_parts::{Flashes, Halt, Paper, bytes_of};
 use election_tables::{MOST_VOTERS, Roll, Tables};
-use gate_slot::{FRONT_SIZE, OPEN};
+use gate_slot::{FRONT_SIZE, HEADER_SIZE, OPEN};
 use image_codec::{BODY_SIZE, rank_of};
 use std::alloc::Global;
+
+/// How many bytes a slot of a poll's device has: its gate with what fills up the page, and its body.
+const SLOT: usize = FRONT_SIZE + BODY_SIZE;
+
+/// Where the gates of both slots of a poll's device stand.
+const GATES: [usize; 2] = [HEADER_SIZE, HEADER_SIZE + SLOT];
 
 /// The rank of the state in the slot of an image whose gate stands there, if the gate is open and the body a state's.
 fn rank_at(tables: &Tables, voters: u32, image: &[u8], gate: usize) -> Option<u32> {

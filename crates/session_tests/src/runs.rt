@@ -1,6 +1,6 @@
 //! Texts that come one after another, of which equal ones are printed as one.
 use crate::calls::say;
-use crate::halt::Halt;
+use case_parts::Halt;
 use std::alloc::Global;
 
 /// Lines of which those that say the same are printed as one, with the numbers of the first and the last of them.

@@ -1,13 +1,11 @@
 //! The lines of a script that set up, and those that are commands.
-use crate::calls::{Call, Ran, call_of, run, say_end, say_ran, session_of, shown};
-use crate::cuts::{cut, fill_of};
-use crate::edits::{edited, hashed};
-use crate::flashes::{Flashes, Program, blank, copied, left, set, shut_device};
-use crate::halt::Halt;
+use crate::calls::{Call, Program, Ran, call_of, run, say_end, say_ran, session_of, shown};
 use crate::looks::{look, look_at_each};
-use crate::papers::{bytes_of, lines_of, place, remove};
-use crate::stage::{Faults, Kept, Last, Stage, kept_as, last_of};
-use crate::words::{device, head, hex_bytes, number, numbers};
+use crate::stage::{Last, Stage, last_of};
+use case_parts::{
+    Faults, Flashes, Halt, Kept, blank, bytes_of, copied, cut, device, edited, fill_of, hashed,
+    head, hex_bytes, kept_as, left, lines_of, number, numbers, place, remove, set, shut_device,
+};
 use std::alloc::Global;
 use urna_outside::{Cabinet, Dev};
 
@@ -136,8 +134,8 @@ fn stop(alloc: Global, stage: &mut Stage, rest: &str) -> Result<(), Halt> {
 /// The lines that change what both flashes hold.
 fn change(alloc: Global, stage: &mut Stage, word: &str, rest: &str) -> Result<bool, Halt> {
     match word {
-        "blank" if rest.is_empty() => stage.flashes = blank(alloc, Program::Urna)?,
-        "blank" if rest == "livro" => stage.flashes = blank(alloc, Program::Ledger)?,
+        "blank" if rest.is_empty() => stage.flashes = blank(alloc, Program::Urna.device_size())?,
+        "blank" if rest == "livro" => stage.flashes = blank(alloc, Program::Ledger.device_size())?,
         "keep" => keep(alloc, stage, rest)?,
         "back" => bring_back(alloc, stage, rest)?,
         "shut" => shut_device(&mut stage.flashes, device(rest)?),

@@ -1,13 +1,12 @@
 //! What is left where a command is stopped: behind each of its operations, inside of one, or at each of its calls.
-use crate::calls::{Call, Ran, call_of, push_files, run, session_of, shown};
-use crate::cuts::{Fill, WAYS, cut, cut_at};
-use crate::flashes::{Flashes, Program, are_same, copied, is_left, left, no_flashes, shut_device};
-use crate::halt::Halt;
-use crate::papers::Paper;
+use crate::calls::{Call, Program, Ran, call_of, push_files, run, session_of, shown};
 use crate::ranks::told_ranks;
 use crate::runs::{Runs, Ways};
-use crate::stage::{Faults, Last, Stage, kept_as, last_of, no_faults};
-use crate::words::{head, numbers};
+use crate::stage::{Last, Stage, last_of};
+use case_parts::{
+    Faults, Fill, Flashes, Halt, Paper, WAYS, are_same, copied, cut, cut_at, head, is_left,
+    kept_as, left, no_faults, no_flashes, numbers, shut_device,
+};
 use memory_outside::{Recorder, Tear};
 use std::alloc::Global;
 use urna_outside::Dev;

@@ -1,7 +1,7 @@
 //! What a power cut leaves of a machine in memory.
 use crate::flashes::{Flashes, set};
 use crate::halt::Halt;
-use crate::stage::{Kept, kept_as};
+use crate::kept::{Kept, kept_as};
 use crate::words::hex_bytes;
 use memory_outside::{Recorder, Tear};
 use std::alloc::Global;
@@ -10,7 +10,7 @@ use urna_outside::Dev;
 
 /// The ways in which torn bytes may stand, by their names. Bytes of one value can't show a missing sync between a body and its gate;
 /// those of flashes that hold a later state can.
-pub(crate) const WAYS: [(&str, Tear); 4] = [
+pub const WAYS: [(&str, Tear); 4] = [
     ("whole", Tear::AsPut),
     ("00", Tear::Byte(0)),
     ("5A", Tear::Byte(0x5A)),
@@ -19,13 +19,13 @@ pub(crate) const WAYS: [(&str, Tear); 4] = [
 
 /// What stands in dirty bytes: what a tear says, or what other flashes have in the same places.
 #[derive(Clone, Copy)]
-pub(crate) enum Fill<'a> {
+pub enum Fill<'a> {
     Torn(Tear),
     Like(&'a Flashes),
 }
 
 /// How torn bytes stand, by a word: as put, as the byte of two hexadecimal digits, or as on the kept flashes of that name.
-pub(crate) fn fill_of<'a>(alloc: Global, kept: &'a [Kept], word: &str) -> Result<Fill<'a>, Halt> {
+pub fn fill_of<'a>(alloc: Global, kept: &'a [Kept], word: &str) -> Result<Fill<'a>, Halt> {
     if word == "whole" {
         return Ok(Fill::Torn(Tear::AsPut));
     }
@@ -49,7 +49,7 @@ fn torn(alloc: Global, m: &Recorder, ops: u32, tear: Tear) -> Result<Flashes, Ha
 }
 
 /// What a power cut leaves after the first operations of a machine's trail.
-pub(crate) fn cut(alloc: Global, m: &Recorder, ops: u32, fill: Fill<'_>) -> Result<Flashes, Halt> {
+pub fn cut(alloc: Global, m: &Recorder, ops: u32, fill: Fill<'_>) -> Result<Flashes, Halt> {
     match fill {
         Fill::Torn(tear) => torn(alloc, m, ops, tear),
         Fill::Like(other) => {
@@ -82,7 +82,7 @@ fn filled(alloc: Global, zeros: &[u8], ones: &[u8], other: &[u8]) -> Result<Vec<
 }
 
 /// What is left where the operation behind these has put its bytes up to a place.
-pub(crate) fn cut_at(alloc: Global, m: &Recorder, ops: u32, at: usize) -> Result<Flashes, Halt> {
+pub fn cut_at(alloc: Global, m: &Recorder, ops: u32, at: usize) -> Result<Flashes, Halt> {
     let old = torn(alloc, m, ops, Tear::AsPut)?;
     let new = torn(alloc, m, ops.saturating_add(1), Tear::AsPut)?;
     Ok(Flashes {

@@ -5,14 +5,15 @@ use urna_base::decimal;
 use urna_outside::Dev;
 
 /// The word before the first blank, and the rest.
-pub(crate) fn head(text: &str) -> (&str, &str) {
+pub fn head(text: &str) -> (&str, &str) {
     match text.split_once(" ") {
         Some(parts) => parts,
         None => (text, ""),
     }
 }
 
-pub(crate) fn number(word: &str) -> Result<u32, Halt> {
+/// The number that a word is.
+pub fn number(word: &str) -> Result<u32, Halt> {
     match decimal(word.as_bytes()) {
         Some(number) => u32::try_from(number).map_err(|_| Halt::Script),
         None => Err(Halt::Script),
@@ -20,7 +21,7 @@ pub(crate) fn number(word: &str) -> Result<u32, Halt> {
 }
 
 /// Numbers with a blank between them.
-pub(crate) fn numbers(alloc: Global, text: &str) -> Result<Vec<u32>, Halt> {
+pub fn numbers(alloc: Global, text: &str) -> Result<Vec<u32>, Halt> {
     let mut numbers = Vec::new(alloc);
     if !text.is_empty() {
         for word in text.split(' ') {
@@ -30,7 +31,8 @@ pub(crate) fn numbers(alloc: Global, text: &str) -> Result<Vec<u32>, Halt> {
     Ok(numbers)
 }
 
-pub(crate) fn device(word: &str) -> Result<Dev, Halt> {
+/// The device that a word names.
+pub fn device(word: &str) -> Result<Dev, Halt> {
     match word {
         "internal" => Ok(Dev::Internal),
         "external" => Ok(Dev::External),
@@ -39,7 +41,7 @@ pub(crate) fn device(word: &str) -> Result<Dev, Halt> {
 }
 
 /// The bytes of hexadecimal digits.
-pub(crate) fn hex_bytes(alloc: Global, digits: &str) -> Result<Vec<u8>, Halt> {
+pub fn hex_bytes(alloc: Global, digits: &str) -> Result<Vec<u8>, Halt> {
     match hex::decode(alloc, digits.as_bytes()) {
         Ok(bytes) => Ok(bytes),
         Err(_) => Err(Halt::Script),

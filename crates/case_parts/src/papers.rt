@@ -6,7 +6,7 @@ use urna_base::Memory;
 
 /// A file of the cabinet.
 #[derive(Drop)]
-pub(crate) struct Paper {
+pub struct Paper {
     pub name: String,
     pub bytes: Vec<u8>,
 }
@@ -15,7 +15,7 @@ pub(crate) struct Paper {
 const SHELF_ROOM: u32 = 300_000;
 
 /// A cabinet with these files, of which the calls of these numbers fail.
-pub(crate) fn cabinet_of(
+pub fn cabinet_of(
     alloc: Global,
     papers: &[Paper],
     failing: &[u32],
@@ -33,7 +33,7 @@ fn find(papers: &[Paper], name: &str) -> Option<usize> {
 }
 
 /// Takes a file away, if it is there.
-pub(crate) fn remove(papers: &mut Vec<Paper>, name: &str) {
+pub fn remove(papers: &mut Vec<Paper>, name: &str) {
     if let Some(place) = find(papers, name) {
         if place < papers.len() {
             let _paper = papers.remove(place);
@@ -42,7 +42,7 @@ pub(crate) fn remove(papers: &mut Vec<Paper>, name: &str) {
 }
 
 /// Places a file, in the stead of one of the same name.
-pub(crate) fn place(
+pub fn place(
     alloc: Global,
     papers: &mut Vec<Paper>,
     name: &str,
@@ -57,7 +57,7 @@ pub(crate) fn place(
 }
 
 /// The bytes of the file of that name.
-pub(crate) fn bytes_of<'a>(papers: &'a [Paper], name: &str) -> Result<&'a [u8], Halt> {
+pub fn bytes_of<'a>(papers: &'a [Paper], name: &str) -> Result<&'a [u8], Halt> {
     for paper in papers {
         if paper.name.as_str() == name {
             return Ok(&paper.bytes);
@@ -67,7 +67,7 @@ pub(crate) fn bytes_of<'a>(papers: &'a [Paper], name: &str) -> Result<&'a [u8], 
 }
 
 /// Lines that stand in one, with ` / ` between them.
-pub(crate) fn lines_of(alloc: Global, text: &str) -> Result<Vec<u8>, Halt> {
+pub fn lines_of(alloc: Global, text: &str) -> Result<Vec<u8>, Halt> {
     let mut bytes = Vec::new(alloc);
     if !text.is_empty() {
         for line in text.split(" / ") {

@@ -6,12 +6,15 @@ use sha2::{Digest, Sha512};
 use std::alloc::Global;
 use std::str;
 
-/// What a piece of a change stands for. A byte is written by its two hexadecimal digits in `‹›`, a line feed `¶`, a blank at an end `␣`,
-/// and no byte at all `∅`.
-fn piece_of(alloc: Global, text: &str) -> Result<Vec<u8>, Halt> {
+/// A text with what its signs stand for: a line feed is written `¶`, a blank at an end `␣`, and no byte at all `∅`.
+fn with_signs_read(alloc: Global, text: &str) -> Result<String, Halt> {
     let text = text.replace(alloc, "¶", "\n")?;
     let text = text.replace(alloc, "␣", " ")?;
-    let text = text.replace(alloc, "∅", "")?;
+    Ok(text.replace(alloc, "∅", "")?)
+}
+
+/// The bytes of a text. One may be written by its two hexadecimal digits in `‹›`.
+fn bytes_in(alloc: Global, text: &str) -> Result<Vec<u8>, Halt> {
     let mut bytes = Vec::new(alloc);
     for (i, part) in text.split("‹").enumerate() {
         let (digits, rest) = match part.split_once("›") {
@@ -23,6 +26,11 @@ fn piece_of(alloc: Global, text: &str) -> Result<Vec<u8>, Halt> {
         bytes.extend_from_slice(rest.as_bytes())?;
     }
     Ok(bytes)
+}
+
+/// What a piece of a change stands for.
+fn piece_of(alloc: Global, text: &str) -> Result<Vec<u8>, Halt> {
+    bytes_in(alloc, &with_signs_read(alloc, text)?)
 }
 
 /// The place of some bytes in others, from a place on.
@@ -100,7 +108,7 @@ fn changed(alloc: Global, bytes: &[u8], change: &str) -> Result<Vec<u8>, Halt> {
 }
 
 /// A document with changes, `OLD => NEW` with ` | ` between them.
-pub(crate) fn edited(alloc: Global, bytes: &[u8], changes: &str) -> Result<Vec<u8>, Halt> {
+pub fn edited(alloc: Global, bytes: &[u8], changes: &str) -> Result<Vec<u8>, Halt> {
     let mut bytes = bytes.to_vec(alloc)?;
     for change in changes.split(" | ") {
         bytes = changed(alloc, &bytes, change)?;
@@ -109,7 +117,7 @@ pub(crate) fn edited(alloc: Global, bytes: &[u8], changes: &str) -> Result<Vec<u
 }
 
 /// The file of a report with the hash of each part made of that of the part before it and of the part's own text.
-pub(crate) fn hashed(alloc: Global, bytes: &[u8]) -> Result<Vec<u8>, Halt> {
+pub fn hashed(alloc: Global, bytes: &[u8]) -> Result<Vec<u8>, Halt> {
     let Ok(text) = str::from_utf8(bytes) else {
         return Err(Halt::Script);
     };
