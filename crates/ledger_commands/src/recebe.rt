@@ -1,11 +1,13 @@
 //! The command `recebe TABLES LIST`: takes the listed reports in.
-ghost use Rattle.std.specs.Prelude.{◌≡◌, ◌+◌, ◌<◌, length};
+ghost use Rattle.std.specs.Prelude.{◌≡◌};
+ghost use Rattle.urna_outside.specs.Cabinet.{CabinetTold};
 ghost use Rattle.election_tables.specs.TablesData.{IsTables};
 ghost use Rattle.intake_ledger.specs.Calls.{Keeps};
 ghost use Rattle.intake_ledger.specs.Kept.{AreDevices};
 ghost use Rattle.intake_ledger.specs.Ledger.{LedgerData};
 ghost use Rattle.section_intake.specs.Accepted.{is_accepted};
-ghost use Rattle.ledger_commands.specs.Documents.{status_in};
+ghost use Rattle.command_parts.specs.Documents.{IsListed};
+ghost use Rattle.ledger_commands.specs.Documents.{HasTaken, status_in};
 ghost use Rattle.ledger_commands.specs.Receiving.{OfferEnds, OffersEnd};
 ghost use Rattle.ledger_commands.specs.Recebe.{RecebeEnds, refused_status};
 
@@ -33,9 +35,27 @@ pub(crate) fn recebe<M: Machine, C: Cabinet>(
         (C.told cabinet.old) (C.told cabinet.new) (M.told machine.old) (M.told machine.new) (status_in result) }
 {
     let (tables, list) = take_tables_and_list(alloc, cabinet, names.tables, names.list)?;
-    let ledger = Ledger::open(alloc, &tables, machine)?;
+    recebe_over(alloc, names, &tables, &list, machine, cabinet)
+}
+
+/// The reports, once the tables and the list are taken. These are lent, so that no way out lets go of them.
+fn recebe_over<M: Machine, C: Cabinet>(
+    alloc: Global,
+    names: RecebeNames<'_>,
+    tables: &Tables,
+    list: &Names,
+    machine: &mut M,
+    cabinet: &mut C,
+) -> Result<(), LedgerStatus>
+    requires devices { AreDevices (M.told machine.old).sizes }
+    requires valid { IsTables tables.now }
+    ensures { (c : CabinetTold) → IsListed c.files names.entry.tables.now names.entry.list.now tables.now list.now → HasTaken 2 LedgerStatus.Done c (C.told cabinet.old)
+        → RecebeEnds (record { tables = names.entry.tables.now; list = names.entry.list.now })
+        c (C.told cabinet.new) (M.told machine.old) (M.told machine.new) (status_in result) }
+{
+    let ledger = Ledger::open(alloc, tables, machine)?;
     tell_line(machine, &ledger_line(ledger.totals().accepted()))?;
-    let refused = offer_all(alloc, &tables, &list, ledger, machine, cabinet)?;
+    let refused = offer_all(alloc, tables, list, ledger, machine, cabinet)?;
     ended_with(refused)
 }
 

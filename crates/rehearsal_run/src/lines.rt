@@ -1,13 +1,16 @@
 //! The ten lines that tell a rehearsal (docs/FORMATS.md, "The rehearsal").
-ghost use Rattle.std.specs.Prelude.{◌≡◌, ◌+◌, ◌*◌, ◌<◌, ◌≤◌, ◌^◌, ℕ, List, [], ◌∷◌, ◌++◌, length, sum_by, IfOk};
+ghost use Rattle.std.specs.Prelude.{◌≡◌, ◌+◌, ◌*◌, ◌<◌, ◌≤◌, ◌^◌, ℕ, true, List, [], ◌∷◌, ◌++◌, length, sum_by, IfOk};
 ghost use Rattle.std.specs.Fmt.{decimal};
 ghost use Rattle.poll_report.specs.declared.report.Report.{Report};
 ghost use Rattle.qr_text.specs.Spelling.{report_text};
 ghost use Rattle.urna_base.specs.Words.{pieces};
 ghost use Rattle.hash_chain.specs.Cut.{cut};
+ghost use Rattle.vote_kinds.specs.Ballot.{panel_at};
+ghost use Rattle.seat_remainders.specs.Majority.{majority_outcome};
+ghost use Rattle.seat_remainders.specs.Outcome.{IsOutcome};
 ghost use Rattle.section_intake.specs.Intake.{IsIntakeFor, accepted_files};
 ghost use Rattle.section_intake.specs.Sums.{AreReportsOf};
-ghost use Rattle.totals.specs.Contest.{votes_in};
+ghost use Rattle.totals.specs.Contest.{contest_in, entries_in, votes_in};
 ghost use Rattle.totals.specs.Lines.{total_of};
 ghost use Rattle.rehearsal.specs.Tables.{generated_tables};
 ghost use Rattle.rehearsal_run.specs.Lines.{TellRehearsal, elected_line, mayor_line, parties_in, quotient_line, seats_line, seats_words, suspended_among, votes_line};
@@ -46,10 +49,8 @@ pub(crate) fn rehearsal_lines(
 {
     let councillor = votes_of(alloc, tables, intake, COUNCILLOR)?;
     let mayor = votes_of(alloc, tables, intake, MAYOR)?;
-    let contest = contest_of(alloc, tables, intake, COUNCILLOR)?;
-    let outcome = distribute(alloc, &contest)?;
-    seat_remainders::laws::seats();
-    let mayors = entries_of(alloc, tables, intake, MAYOR)?;
+    let elected = elected_of(alloc, tables, intake)?;
+    let outcome = outcome_of(alloc, tables, intake)?;
     // no line can fail here, so that no further way out lets go of what was made
     let mut lines = Vec::with_capacity(alloc, LINES)?;
     lines.push_reserved(number_line(b"ENSAIO ", u64::from(n)));
@@ -60,7 +61,7 @@ pub(crate) fn rehearsal_lines(
     lines.push_reserved(quotient_line(&outcome));
     lines.push_reserved(elected_line(&outcome));
     lines.push_reserved(votes_line(11, mayor));
-    lines.push_reserved(mayor_line(majority(mayors.as_slice(), true)));
+    lines.push_reserved(mayor_line(elected));
     lines.push_reserved(number_line(b"PARTES ", parts));
     Ok(lines)
 }
@@ -79,6 +80,31 @@ fn votes_of(
 {
     let entries = entries_of(alloc, tables, intake, panel)?;
     Ok(PanelVotes::of(tables, intake, panel, entries.as_slice()))
+}
+
+/// What comes of the office of mayor.
+fn elected_of(alloc: Global, tables: &Tables, intake: &Intake) -> Result<MajorityOutcome, Memory>
+    requires panel { 1 < length tables.now.panels }
+    requires made { IsIntakeFor tables.now intake.now }
+    ensures { IfOk result (λ elected. (reports : List Report) → AreReportsOf (accepted_files intake.now) reports
+        → elected ≡ majority_outcome (entries_in reports 1 (panel_at tables.now 1)) true) }
+{
+    let entries = entries_of(alloc, tables, intake, MAYOR)?;
+    Ok(majority(entries.as_slice(), true))
+}
+
+/// What comes of the office of councillor, which has 9 seats at most.
+fn outcome_of(alloc: Global, tables: &Tables, intake: &Intake) -> Result<Outcome, Memory>
+    requires panel { 0 < length tables.now.panels }
+    requires seats { (panel_at tables.now 0).office.seats ≤ 9 }
+    requires made { IsIntakeFor tables.now intake.now }
+    ensures lawful { IfOk result (λ outcome. (reports : List Report) → AreReportsOf (accepted_files intake.now) reports
+        → IsOutcome (contest_in tables.now reports 0) outcome) }
+    ensures few { IfOk result (λ outcome. sum_by (λ p. p.seats) (parties_in outcome) ≤ 9) }
+{
+    let contest = contest_of(alloc, tables, intake, COUNCILLOR)?;
+    seat_remainders::laws::seats();
+    Ok(distribute(alloc, &contest)?)
 }
 
 /// How many of `n` voters the clerk suspends.

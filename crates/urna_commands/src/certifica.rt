@@ -2,7 +2,12 @@
 ghost use Rattle.std.specs.Prelude.{◌≡◌, ◌++◌, ◌∷◌, [], true, map, IfErr, IfOk};
 ghost use Rattle.election_tables.specs.Offices.{code_proportional};
 ghost use Rattle.seat_remainders.specs.Contest.{IsContest};
-ghost use Rattle.seat_certificate.specs.Text.{HasFewBlocs};
+ghost use Rattle.seat_remainders.specs.Outcome.{AreSeats};
+ghost use Rattle.seat_remainders.specs.declared.outcome.Seats.{Seats as SeatsData};
+ghost use Rattle.seat_certificate.specs.Substitutes.{substitutes_in};
+ghost use Rattle.seat_certificate.specs.Text.{HasFewBlocs, Spells};
+ghost use Rattle.seat_certificate.specs.Valid.{IsValid};
+ghost use Rattle.seat_certificate.specs.declared.certificate.Certificate.{Certificate};
 ghost use Rattle.urna_commands.specs.Certifica.{CertificaEnds, IsCertified, IsNotCertified, certified_line, substitute_line};
 ghost use Rattle.urna_commands.specs.Taking.{status_in};
 
@@ -58,15 +63,37 @@ fn certify_contest(alloc: Global, code: u8, contest: &Contest) -> Result<Certifi
     ensures ok { IfOk result (λ made. IsCertified code contest.now made.text.items made.lines.items) }
     ensures err { IfErr result (IsNotCertified contest.now) }
 {
+    let text = text_of(alloc, code, contest)?;
+    let lines = lines_of(alloc, code, contest)?;
+    Ok(Certified { text, lines })
+}
+
+/// The text of its certificate.
+fn text_of(alloc: Global, code: u8, contest: &Contest) -> Result<Vec<u8>, Status>
+    requires contest { IsContest contest.now }
+    requires few { HasFewBlocs contest.now }
+    requires office { code_proportional code ≡ true }
+    ensures ok { IfOk result (λ text. (made : Certificate) × IsValid contest.now made × Spells text.items code made) }
+    ensures err { IfErr result (IsNotCertified contest.now) }
+{
     let Some(certificate) = certify(alloc, contest)? else {
         return Err(Status::NoSeats);
     };
+    Ok(certificate_text(alloc, code, &certificate)?)
+}
+
+/// The lines that tell its substitutes, and that it is put.
+fn lines_of(alloc: Global, code: u8, contest: &Contest) -> Result<Vec<LineBuffer>, Status>
+    requires contest { IsContest contest.now }
+    ensures ok { IfOk result (λ lines. (seats : SeatsData) × AreSeats contest.now seats
+        × (lines.items ≡ map substitute_line (substitutes_in contest.now seats) ++ certified_line code ∷ [])) }
+    ensures err { IfErr result (IsNotCertified contest.now) }
+{
     let Outcome::Seats(seats) = distribute(alloc, contest)? else {
         return Err(Status::NoSeats);
     };
-    let text = certificate_text(alloc, code, &certificate)?;
-    let lines = certified_lines(alloc, code, &substitutes(alloc, contest, &seats)?)?;
-    Ok(Certified { text, lines })
+    let substitutes = substitutes(alloc, contest, &seats)?;
+    Ok(certified_lines(alloc, code, &substitutes)?)
 }
 
 /// One line for each substitute, and the last one for the certificate.

@@ -1,16 +1,19 @@
 //! The command `emite TABLES ROLL OUT`: writes the files of results of the sealed poll that the flashes hold.
 ghost use Rattle.std.specs.Prelude.{◌≡◌};
+ghost use Rattle.urna_outside.specs.Cabinet.{CabinetTold};
+ghost use Rattle.election_tables.specs.TablesData.{IsTables};
 ghost use Rattle.election_tables.specs.declared.tables.sections.Section.{Section};
 ghost use Rattle.state_store.specs.Store.{AreDevices};
+ghost use Rattle.command_parts.specs.Documents.{HasDocuments};
 ghost use Rattle.urna_commands.specs.Emite.{EmiteEnds, emitted_line};
-ghost use Rattle.urna_commands.specs.Taking.{status_in};
+ghost use Rattle.urna_commands.specs.Taking.{HasTaken, status_in};
 
 use crate::command::EmiteNames;
 use crate::results::deliver_sealed;
 use crate::status::Status;
 use crate::telling::tell_line;
 use command_parts::take_tables_and;
-use election_tables::{Roll, Section};
+use election_tables::{Roll, Section, Tables};
 use state_store::Store;
 use std::alloc::Global;
 use turnout::Phase;
@@ -44,12 +47,30 @@ pub(crate) fn emite<M: Machine, C: Cabinet>(
         (C.told cabinet.old) (C.told cabinet.new) (M.told machine.old) (M.told machine.new) (status_in result) }
 {
     let (tables, roll) = take_tables_and::<C, Roll>(alloc, cabinet, names.tables, names.roll)?;
-    let (section, state) = Store::peek(alloc, &tables, &roll, machine)?;
+    emite_over(alloc, names, &tables, &roll, machine, cabinet)
+}
+
+/// The files of results, once the tables and the roll are taken. These are lent, so that no way out lets go of them.
+fn emite_over<M: Machine, C: Cabinet>(
+    alloc: Global,
+    names: EmiteNames<'_>,
+    tables: &Tables,
+    roll: &Roll,
+    machine: &mut M,
+    cabinet: &mut C,
+) -> Result<(), Status>
+    requires devices { AreDevices (M.told machine.old).sizes }
+    requires valid { IsTables tables.now }
+    ensures { (c : CabinetTold) → HasDocuments c.files names.entry.tables.now names.entry.roll.now tables.now roll.now → HasTaken 2 Status.Done c (C.told cabinet.old)
+        → EmiteEnds (record { tables = names.entry.tables.now; roll = names.entry.roll.now; out = names.entry.out.now })
+        c (C.told cabinet.new) (M.told machine.old) (M.told machine.new) (status_in result) }
+{
+    let (section, state) = Store::peek(alloc, tables, roll, machine)?;
     let Phase::Sealed { opened, closed } = state.phase() else {
         return Err(Status::NotSealed);
     };
     deliver_sealed(
-        alloc, cabinet, names.out, &tables, section, &state, opened, closed,
+        alloc, cabinet, names.out, tables, section, &state, opened, closed,
     )?;
     tell_line(machine, &emitted_line(section))
 }

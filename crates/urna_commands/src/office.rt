@@ -1,7 +1,8 @@
 //! The contest of an office over the accepted reports of a list.
-ghost use Rattle.std.specs.Prelude.{◌≢◌, ◌<◌, IfErr, IfOk, MatchOption, MatchResult};
+ghost use Rattle.std.specs.Prelude.{◌≢◌, ◌<◌, ℕ, List, length, IfErr, IfOk, MatchOption, MatchResult};
+ghost use Rattle.urna_outside.specs.Cabinet.{CabinetTold};
 ghost use Rattle.seat_remainders.specs.Contest.{IsContest};
-ghost use Rattle.command_parts.specs.Documents.{HasNames, HasTables};
+ghost use Rattle.command_parts.specs.Documents.{HasNames, HasTables, IsListed};
 ghost use Rattle.urna_commands.specs.Office.{ContestStops, HasNoOffice, IsContestFault, IsContestKnown, IsOfficeAt};
 ghost use Rattle.urna_commands.specs.Taking.{HasTaken, status_in};
 
@@ -31,17 +32,36 @@ pub(crate) fn contest_of_office<M: Machine, C: Cabinet>(
     ensures lawful { IfOk result IsContest }
 {
     let (tables, panel, list) = take_office(alloc, cabinet, tables, list, code)?;
-    let mut intake = Intake::new(alloc, &tables)?;
+    contest_among(alloc, &tables, panel, &list, machine, cabinet)
+}
+
+/// The contest of a panel over the accepted reports that a list names. What was taken is lent, so that no way out lets go of it.
+fn contest_among<M: Machine, C: Cabinet>(
+    alloc: Global,
+    tables: &Tables,
+    panel: u32,
+    list: &Names,
+    machine: &mut M,
+    cabinet: &mut C,
+) -> Result<Contest, Status>
+    requires panel { panel < length tables.now.panels }
+    ensures known { (names list_name : List ℕ) (code : ℕ) (c : CabinetTold) → IsListed c.files names list_name tables.now list.now → IsOfficeAt tables.now code panel
+        → HasTaken 2 Status.Done c (C.told cabinet.old)
+        → MatchResult result (λ contest. IsContestKnown names list_name code contest c (C.told cabinet.new) (M.told machine.old) (M.told machine.new))
+        (λ s. ContestStops names list_name code c (C.told cabinet.new) (M.told machine.old) (M.told machine.new) s) }
+    ensures lawful { IfOk result IsContest }
+{
+    let mut intake = Intake::new(alloc, tables)?;
     offer_all(
         alloc,
-        &tables,
-        &list,
+        tables,
+        list,
         Telling::Nothing,
         &mut intake,
         machine,
         cabinet,
     )?;
-    let contest = contest_of(alloc, &tables, &intake, panel)?;
+    let contest = contest_of(alloc, tables, &intake, panel)?;
     Ok(contest)
 }
 

@@ -1,6 +1,8 @@
 //! The command `totaliza TABLES LIST`: tells a verdict on each listed report, and the totals over those that were accepted.
 ghost use Rattle.std.specs.Prelude.{◌≡◌};
-ghost use Rattle.urna_commands.specs.Taking.{status_in};
+ghost use Rattle.urna_outside.specs.Cabinet.{CabinetTold};
+ghost use Rattle.command_parts.specs.Documents.{IsListed};
+ghost use Rattle.urna_commands.specs.Taking.{HasTaken, status_in};
 ghost use Rattle.urna_commands.specs.Totaliza.{TotalizaEnds, refused_status};
 
 use crate::command::TotalizaNames;
@@ -8,6 +10,7 @@ use crate::offering::{Telling, offer_all};
 use crate::status::Status;
 use crate::telling::tell_lines;
 use command_parts::take_tables_and;
+use election_tables::Tables;
 use key_script::Names;
 use section_intake::Intake;
 use std::alloc::Global;
@@ -26,17 +29,33 @@ pub(crate) fn totaliza<M: Machine, C: Cabinet>(
         (C.told cabinet.old) (C.told cabinet.new) (M.told machine.old) (M.told machine.new) (status_in result) }
 {
     let (tables, list) = take_tables_and::<C, Names>(alloc, cabinet, names.tables, names.list)?;
-    let mut intake = Intake::new(alloc, &tables)?;
+    totaliza_over(alloc, names, &tables, &list, machine, cabinet)
+}
+
+/// The totals, once the tables and the list are taken. These are lent, so that no way out lets go of them.
+fn totaliza_over<M: Machine, C: Cabinet>(
+    alloc: Global,
+    names: TotalizaNames<'_>,
+    tables: &Tables,
+    list: &Names,
+    machine: &mut M,
+    cabinet: &mut C,
+) -> Result<(), Status>
+    ensures { (c : CabinetTold) → IsListed c.files names.entry.tables.now names.entry.list.now tables.now list.now → HasTaken 2 Status.Done c (C.told cabinet.old)
+        → TotalizaEnds (record { tables = names.entry.tables.now; list = names.entry.list.now })
+        c (C.told cabinet.new) (M.told machine.old) (M.told machine.new) (status_in result) }
+{
+    let mut intake = Intake::new(alloc, tables)?;
     let refused = offer_all(
         alloc,
-        &tables,
-        &list,
+        tables,
+        list,
         Telling::Verdicts,
         &mut intake,
         machine,
         cabinet,
     )?;
-    let lines = total_lines(alloc, &tables, &intake)?;
+    let lines = total_lines(alloc, tables, &intake)?;
     tell_lines(machine, &lines)?;
     ended_with(refused)
 }

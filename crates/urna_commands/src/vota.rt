@@ -1,10 +1,12 @@
 //! The command `vota TABLES ROLL KEYS OUT`: the session of a section's poll, and its files of results.
 ghost use Rattle.std.specs.Prelude.{◌≡◌, IfErr, IfOk};
+ghost use Rattle.urna_outside.specs.Cabinet.{CabinetTold};
+ghost use Rattle.election_tables.specs.TablesData.{IsTables};
 ghost use Rattle.state_store.specs.Store.{AreDevices};
 ghost use Rattle.station.specs.Station.{IsStationed};
 ghost use Rattle.urna_commands.specs.Holding.{FailsToHold};
-ghost use Rattle.urna_commands.specs.Taking.{status_in};
-ghost use Rattle.urna_commands.specs.Vota.{HasVoted, VotaEnds};
+ghost use Rattle.urna_commands.specs.Taking.{HasTaken, status_in};
+ghost use Rattle.urna_commands.specs.Vota.{HasVoted, IsGiven, VotaEnds};
 
 use crate::command::VotaNames;
 use crate::results::deliver;
@@ -63,12 +65,34 @@ pub(crate) fn vota<M: Machine, C: Cabinet>(
 {
     let (tables, roll) = take_tables_and::<C, Roll>(alloc, cabinet, names.tables, names.roll)?;
     let script = Script::take_document(alloc, cabinet, names.keys)?;
-    let station = hold(alloc, &tables, &roll, &script, machine)?;
+    vota_over(alloc, names, &tables, &roll, &script, machine, cabinet)
+}
+
+/// The session, once its documents are taken. These are lent, so that no way out lets go of them.
+fn vota_over<M: Machine, C: Cabinet>(
+    alloc: Global,
+    names: VotaNames<'_>,
+    tables: &Tables,
+    roll: &Roll,
+    script: &Script,
+    machine: &mut M,
+    cabinet: &mut C,
+) -> Result<(), Status>
+    requires devices { AreDevices (M.told machine.old).sizes }
+    requires valid { IsTables tables.now }
+    ensures { (c : CabinetTold)
+        → IsGiven c.files (record { tables = names.entry.tables.now; roll = names.entry.roll.now; keys = names.entry.keys.now; out = names.entry.out.now })
+        tables.now roll.now script.now
+        → HasTaken 3 Status.Done c (C.told cabinet.old)
+        → VotaEnds (record { tables = names.entry.tables.now; roll = names.entry.roll.now; keys = names.entry.keys.now; out = names.entry.out.now })
+        c (C.told cabinet.new) (M.told machine.old) (M.told machine.new) (status_in result) }
+{
+    let station = hold(alloc, tables, roll, script, machine)?;
     deliver(
         alloc,
         cabinet,
         names.out,
-        &tables,
+        tables,
         station.section(),
         station.state(),
     )

@@ -1,21 +1,14 @@
-use Rattle.std.proofs.Common.{◌≡◌, Option, ap, sym, subst, ◌∙◌, arith}
+use Rattle.std.proofs.Common.{Option, subst, arith}
 use Rattle.urna_outside.specs.Cabinet.{Files}
-use Rattle.election_tables.specs.declared.tables.sections.Section.{Section}
-use Rattle.image_codec.specs.Encoding.{IsStateOf}
-use Rattle.image_codec.specs.State.{State}
-use Rattle.state_store.specs.Load.{IsSectionOf}
-use Rattle.state_store.specs.declared.load.Load.{Load}
 use Rattle.command_parts.specs.Documents.{IsFault as IsFaultOf, IsFirstFault as IsFirstFaultOf}
 use Rattle.urna_commands.specs.Command.{Vota}
 use Rattle.urna_commands.specs.Documents.{IsFault}
-use Rattle.urna_commands.specs.Holding.{hold_status}
-use Rattle.urna_commands.specs.Putting.{PutsResults}
-use Rattle.urna_commands.specs.Taking.{HasTaken, status_in}
-use Rattle.urna_commands.specs.Vota.{VotaEnds, documents, keys, no_cabinet, no_memory, refused, session_held}
+use Rattle.urna_commands.specs.Taking.{HasTaken}
+use Rattle.urna_commands.specs.Vota.{VotaEnds, documents, keys, no_cabinet, no_memory, refused}
 use Rattle.command_parts.specs.declared.error.Doc.TheVariants as doc
 use Rattle.urna_commands.specs.declared.status.Status.TheVariants as status
 use Rattle.command_parts.proofs.Calls.{taken_more, taken_within}
-use Rattle.urna_commands.proofs.Endings.{fault_ends, given_keys, not_held, passed_on, untouched}
+use Rattle.urna_commands.proofs.Endings.{fault_ends, given_keys, untouched}
 use Rattle.urna_commands.proofs.vota.vota.Goals as goal
 
 pub returns-in_err-tables : goal.returns-in_err-tables
@@ -41,47 +34,13 @@ returns-in_err-script g c =
     (keys c.in_ok-tables.ensures.tables c.in_ok-tables.ensures.other (subst (λ (fs : Option Files). IsFault fs names.keys doc.Keys s) taken.files why)) all (untouched m))
     c.in_err-script.ensures.fault (taken_more 2 1 x y z taken c.in_err-script.ensures.taken)
 
-pub returns-in_err-station : goal.returns-in_err-station
-returns-in_err-station g c =
-    let names : Vota = record { tables = c.args.names.tables.now; roll = c.args.names.roll.now; keys = c.args.names.keys.now; out = c.args.names.out.now } in
-    let x = g.C.Cabinet.told c.args.cabinet.now in
-    let y = g.C.Cabinet.told c.take_tables_and.new.cabinet in
-    let z = g.C.Cabinet.told c.take_document.new.cabinet in
-    let m = g.M.Machine.told c.args.machine.now in
-    let n = g.M.Machine.told c.hold.new.machine in
-    let t = c.in_ok-tables.tables in
-    let r = c.in_ok-tables.roll in
-    let es = c.in_ok-script.script in
-    let taken : HasTaken 2 status.Done x y = c.in_ok-tables.ensures.taken in
-    let all = taken_more 2 1 x y z taken c.in_ok-script.ensures.taken in
-    let given = given_keys names x y t r es c.in_ok-tables.ensures.tables c.in_ok-tables.ensures.other taken c.in_ok-script.ensures.read in
-    let e = c.in_err-station.field-0.0 in
-    subst (VotaEnds names x z m n) (sym (passed_on c.from_residual-in_err-station.result (hold_status e) c.from_residual-in_err-station.ensures.1 (λ s h. h)))
-    (not_held names x z m n t r es e given all c.in_err-station.ensures.err)
-
 pub returns : goal.returns
 returns g c =
     let names : Vota = record { tables = c.args.names.tables.now; roll = c.args.names.roll.now; keys = c.args.names.keys.now; out = c.args.names.out.now } in
     let x = g.C.Cabinet.told c.args.cabinet.now in
     let y = g.C.Cabinet.told c.take_tables_and.new.cabinet in
     let z = g.C.Cabinet.told c.take_document.new.cabinet in
-    let w = g.C.Cabinet.told c.deliver.new.cabinet in
-    let t = c.in_ok-tables.tables in
-    let r = c.in_ok-tables.roll in
-    let es = c.in_ok-script.script in
-    let s = status_in c.deliver.result in
     let taken : HasTaken 2 status.Done x y = c.in_ok-tables.ensures.taken in
-    let all = taken_more 2 1 x y z taken c.in_ok-script.ensures.taken in
-    let given = given_keys names x y t r es c.in_ok-tables.ensures.tables c.in_ok-tables.ensures.other taken c.in_ok-script.ensures.read in
-    let end = c.in_ok-station.ensures.ok in
-    let section_is : c.section.result ≡ end.0.load.section = c.section.ensures ∙ ap (λ (l : Load). l.section) (sym end.1) in
-    let state_is : c.state.result.now ≡ end.0.last = c.state.ensures ∙ sym end.2 in
-    let put =
-    subst (λ (of : Section). PutsResults names.out t of end.0.last z w s) section_is
-    (subst (λ (last : State). PutsResults names.out t c.section.result last z w s) state_is c.deliver.ensures) in
-    let stationed = c.in_ok-station.ensures.stationed in
-    let one_of = subst (λ (l : Load). IsSectionOf t r l.section) (sym end.1) stationed.load.section in
-    let state =
-    subst (λ (l : Load). IsStateOf t l.section.voters end.0.last) (sym end.1)
-    (subst (λ (last : State). IsStateOf t c.in_ok-station.station.store.load.section.voters last) (sym end.2) stationed.kept.state) in
-    session_held z given all end.0 one_of state put
+    c.vota_over.ensures x
+    (given_keys names x y c.in_ok-tables.tables c.in_ok-tables.roll c.in_ok-script.script c.in_ok-tables.ensures.tables c.in_ok-tables.ensures.other taken c.in_ok-script.ensures.read)
+    (taken_more 2 1 x y z taken c.in_ok-script.ensures.taken)
