@@ -1,7 +1,7 @@
 //! The document's typed lists: what its tables say, in the order of the document.
-ghost use Rattle.std.specs.Prelude.{◌≡◌, ◌++◌, map, IfOk, unwrap_or, option_and_then, pos, [], codes};
+ghost use Rattle.std.specs.Prelude.{◌≡◌, map, IfOk, unwrap_or, []};
 ghost use Rattle.std.specs.List.{filter_map};
-ghost use Rattle.toml.specs.Data.{as_integer, as_str, as_table, get_member, Members};
+ghost use Rattle.toml.specs.Data.{as_integer, as_str, as_table, Members};
 ghost use Rattle.toml.specs.View.{view, table_view, array_view};
 ghost use Rattle.election_tables.specs.Shape.{data_of, tables_in, tables_at};
 ghost use Rattle.election_tables.specs.Entries.{number_at, text_at, numbers_at, kind_named, office_of, party_of, candidate_of, section_of, federation_of, document_of};

@@ -1,5 +1,5 @@
 //! The roll of a section: the titles of its voters, one on each line, rising.
-ghost use Rattle.std.specs.Prelude.{◌≡◌, ◌≢◌, ◌∷◌, ◌^◌, ◌==◌, ◌<◌, ◌≤◌, ℕ, true, false, Some, Err, IsOk, IfOk, MatchResult, length, position, slice_get};
+ghost use Rattle.std.specs.Prelude.{◌≡◌, ◌≢◌, ◌^◌, ◌==◌, ◌<◌, ◌≤◌, ℕ, false, Some, Err, IsOk, IfOk, MatchResult, length, position, slice_get};
 ghost use Rattle.urna_base.specs.Lines.{lines_of};
 ghost use Rattle.election_tables.specs.Limits.{most_voters};
 ghost use Rattle.election_tables.specs.Roll.{HasBadLine, IsRoll, IsRollOf, IsRollText, has_count};

@@ -1,5 +1,5 @@
 //! Rules 1 to 3: which keys stand in the document and in the tables of its arrays, and of which types they are.
-ghost use Rattle.std.specs.Prelude.{◌≡◌, ◌||◌, true, is_some, option_map, option_and_then, codes};
+ghost use Rattle.std.specs.Prelude.{◌≡◌, ◌||◌, true, is_some, option_map, option_and_then};
 ghost use Rattle.std.specs.List.{list_all, list_any};
 ghost use Rattle.std.specs.Option.{option_map_or};
 ghost use Rattle.toml.specs.Data.{as_integer, as_str, as_array, get_member, as_table};

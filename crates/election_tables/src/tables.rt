@@ -1,7 +1,6 @@
 //! The tables as the layers above use them.
-ghost use Rattle.std.specs.Prelude.{◌≡◌, ◌≢◌, ◌<◌, ◌≤◌, ◌<ℤ◌, ◌≤ℤ◌, ℕ, None, Some, Err, pos, IsOk, IfOk, IfSome, IsTrue, length, map, option_map, option_copied, slice_get};
+ghost use Rattle.std.specs.Prelude.{◌≡◌, ◌≢◌, ◌<◌, ◌≤◌, ◌<ℤ◌, ◌≤ℤ◌, ℕ, None, Some, Err, pos, IsOk, IfOk, IfSome, IsTrue, length, option_map, option_copied, slice_get};
 ghost use Rattle.toml.specs.View.{table_view};
-ghost use Rattle.election_tables.specs.Entries.{document_of};
 ghost use Rattle.election_tables.specs.Fields.{is_name};
 ghost use Rattle.election_tables.specs.Limits.{longest_name, most_candidates, most_lines, most_voters};
 ghost use Rattle.election_tables.specs.Rules.{broken_rule, first_broken, typed_rules};

@@ -1,5 +1,5 @@
 //! The first part of some fields.
-ghost use Rattle.std.specs.Prelude.{◌≡◌, ℕ, ◌+◌, ◌<◌, ◌≤◌, ◌≢◌, ◌∷◌, length, slice_index, IfSome};
+ghost use Rattle.std.specs.Prelude.{◌≡◌, ℕ, ◌<◌, ◌≤◌, ◌≢◌, ◌∷◌, length, slice_index, IfSome};
 ghost use Rattle.urna_base.specs.Words.{pieces, pieces_left};
 ghost use Rattle.hash_chain.specs.Cut.{cut, part_size};
 ghost use Rattle.hash_chain.specs.Fault.{AreFields};

@@ -1,5 +1,5 @@
 //! The parts of a field text.
-ghost use Rattle.std.specs.Prelude.{◌≡◌, ◌++◌, ◌∷◌, codes, [], IfOk, MatchResult, OnOk, length, string_bytes};
+ghost use Rattle.std.specs.Prelude.{◌≡◌, ◌++◌, ◌∷◌, codes, [], IfOk, OnOk, length, string_bytes};
 ghost use Rattle.urna_base.specs.Words.{pieces};
 ghost use Rattle.hash_chain.specs.Chain.{link_text, links_from, links_text, link_of, parts_text};
 ghost use Rattle.hash_chain.specs.Cut.{cut};

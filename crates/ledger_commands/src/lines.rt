@@ -1,5 +1,5 @@
 //! The lines that tell a ledger.
-ghost use Rattle.std.specs.Prelude.{◌≡◌, ◌++◌, ◌<◌, ◌≤◌, ◌^◌, List, length, map, IfOk, OnOk};
+ghost use Rattle.std.specs.Prelude.{◌≡◌, ◌++◌, ◌<◌, ◌≤◌, ◌^◌, length, map, IfOk, OnOk};
 ghost use Rattle.election_tables.specs.Limits.{most_candidates};
 ghost use Rattle.election_tables.specs.TablesData.{IsTables};
 ghost use Rattle.intake_ledger.specs.Ledger.{LedgerData};

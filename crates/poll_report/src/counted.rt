@@ -1,5 +1,5 @@
 //! The report of a section: each number in it is a number of members of a bag.
-ghost use Rattle.std.specs.Prelude.{◌≡◌, ◌+◌, ◌*◌, ◌^◌, ◌<◌, ◌≤◌, [], ◌∷◌, ◌++◌, true, length, map, nat_lt, IfOk, OnOk, Some};
+ghost use Rattle.std.specs.Prelude.{◌≡◌, ◌+◌, ◌^◌, ◌<◌, [], ◌∷◌, ◌++◌, length, map, nat_lt, IfOk, OnOk};
 ghost use Rattle.std.specs.List.{filter};
 ghost use Rattle.election_tables.specs.TablesData.{IsTables, candidates_at};
 ghost use Rattle.vote_kinds.specs.Ballot.{panel_at};

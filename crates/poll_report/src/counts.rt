@@ -1,10 +1,10 @@
 //! The count lines of a record.
-ghost use Rattle.std.specs.Prelude.{◌≡◌, ◌+◌, ◌<◌, ◌≤◌, ◌^◌, [], ◌∷◌, ◌++◌, ℕ, length, codes};
+ghost use Rattle.std.specs.Prelude.{◌≡◌, ◌<◌, ◌≤◌, [], ◌∷◌, length};
 ghost use Rattle.election_tables.specs.TablesData.{candidates_at};
 ghost use Rattle.urna_outside.specs.ShownLines.{Shows};
 ghost use Rattle.vote_kinds.specs.declared.choice.Choice.TheVariants.{Blank, Null};
 ghost use Rattle.vote_kinds.specs.Ballot.{panel_at};
-ghost use Rattle.vote_record.specs.Bag.{bag_at, count_of};
+ghost use Rattle.vote_record.specs.Bag.{bag_at};
 ghost use Rattle.poll_report.specs.Counts.{candidate_lines, count_lines, kind_lines, panel_lines, party_lines, total_lines, votes_line, word_line};
 
 use election_tables::{Kind, Tables};

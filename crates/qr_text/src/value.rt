@@ -1,5 +1,5 @@
 //! What one field of a text writes: the number of a row of the table, or a candidate and its votes.
-ghost use Rattle.std.specs.Prelude.{◌≡◌, ◌-◌, ◌<◌, ◌≤◌};
+ghost use Rattle.std.specs.Prelude.{◌≡◌, ◌≤◌};
 ghost use Rattle.election_tables.specs.Fields.{has_digits};
 ghost use Rattle.poll_report.specs.Report.{is_vote};
 ghost use Rattle.qr_text.specs.Reading.{number_at, value_at, written_value};

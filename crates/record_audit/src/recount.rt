@@ -1,5 +1,5 @@
 //! A record is compared with a report.
-ghost use Rattle.std.specs.Prelude.{◌≡◌, ◌<◌, ◌≤◌, ◌==◌, map, length, MatchResult, Err, Ok};
+ghost use Rattle.std.specs.Prelude.{◌≡◌, ◌<◌, ◌≤◌, map, length, MatchResult, Err, Ok};
 ghost use Rattle.std.specs.List.{AllByRecursion};
 ghost use Rattle.election_tables.specs.Limits.{most_offices};
 ghost use Rattle.vote_record.specs.Bag.{count_of};

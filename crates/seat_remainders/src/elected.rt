@@ -1,5 +1,5 @@
 //! Who is elected (arts. 109, paragraph 1, and 110).
-ghost use Rattle.std.specs.Prelude.{◌≡◌, ◌+◌, ◌≤◌, ◌<◌, ◌^◌, ◌++◌, nat_le, count_by, filter, length, map, take, IfOk, OnOk};
+ghost use Rattle.std.specs.Prelude.{◌≡◌, ◌+◌, ◌≤◌, ◌<◌, ◌^◌, ◌++◌, nat_le, count_by, filter, length, map, take, OnOk};
 ghost use Rattle.seat_remainders.specs.Candidates.{in_order};
 
 use crate::contest::Entry;

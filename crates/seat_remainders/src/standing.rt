@@ -1,5 +1,5 @@
 //! What the law counts of each party, counted once.
-ghost use Rattle.std.specs.Prelude.{◌≡◌, ℕ, ◌+◌, ◌≤◌, ◌<◌, ◌^◌, ◌==◌, nat_le, count_by, length, sum_by, IfOk};
+ghost use Rattle.std.specs.Prelude.{◌≡◌, ◌+◌, ◌≤◌, ◌<◌, ◌^◌, ◌==◌, nat_le, count_by, length, sum_by, IfOk};
 ghost use Rattle.quotients.specs.Quotients.{has_fifth, has_tenth};
 ghost use Rattle.seat_remainders.specs.declared.contest.Contestant.{Contestant};
 ghost use Rattle.seat_remainders.specs.Contest.{PartiesRise};

@@ -1,5 +1,5 @@
 //! Files are offered one behind the other, and the reports of the accepted ones are summed.
-ghost use Rattle.std.specs.Prelude.{◌≡◌, ◌+◌, ◌<◌, ◌≤◌, ◌^◌, ℕ, Bool, false, List, [], ◌∷◌, ◌++◌, length, map, slice_get, slice_set, Option, None, Some, IfErr, IfOk, OnErr, OnOk};
+ghost use Rattle.std.specs.Prelude.{◌≡◌, ◌+◌, ◌<◌, ◌≤◌, ◌^◌, ℕ, false, List, [], ◌∷◌, ◌++◌, length, map, slice_get, slice_set, Option, None, Some, IfOk, OnErr, OnOk};
 ghost use Rattle.election_tables.specs.TablesData.{TablesData};
 ghost use Rattle.election_tables.specs.declared.tables.sections.Section.{Section};
 ghost use Rattle.poll_report.specs.Report.{total_of};

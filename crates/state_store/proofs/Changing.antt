@@ -1,5 +1,5 @@
 -- What a commit does to the states, and flashes at rest after it.
-use Rattle.std.proofs.Common.{◌≡◌, ℕ, ◌≤◌, Option, Some, List, length, option_map, sym, ap, subst, ◌∙◌, arith}
+use Rattle.std.proofs.Common.{◌≡◌, ℕ, ◌≤◌, Option, Some, List, length, sym, ap, subst, ◌∙◌, arith}
 use Rattle.std.specs.Option.{ForSome}
 use Rattle.urna_outside.specs.Told.{Told, Runs, AreSized}
 use Rattle.twin_image.specs.Held.{IsNotOutranked}

@@ -1,5 +1,5 @@
 //! Finding the poll that both flashes hold.
-ghost use Rattle.std.specs.Prelude.{◌≡◌, [], length, IfOk, IfErr, IsSome, OnOk};
+ghost use Rattle.std.specs.Prelude.{[], length, IfOk, IfErr, IsSome, OnOk};
 ghost use Rattle.std.specs.Option.{ForSome};
 ghost use Rattle.urna_outside.specs.Faults.{IsFaultless};
 ghost use Rattle.urna_outside.specs.Told.{Does};

@@ -1,6 +1,6 @@
 //! What flashes are loaded with, and the header that tells it.
-ghost use Rattle.std.specs.Prelude.{◌≡◌, ◌<◌, ◌≤◌, ◌^◌, ◌++◌, length, replicate};
-ghost use Rattle.state_store.specs.Load.{device_byte, header, load_of, magic};
+ghost use Rattle.std.specs.Prelude.{◌≡◌};
+ghost use Rattle.state_store.specs.Load.{device_byte, header, load_of};
 
 use arrayvec::ArrayVec;
 use election_tables::{Roll, Section, Tables};

@@ -1,5 +1,5 @@
 //! The memory of a store.
-ghost use Rattle.std.specs.Prelude.{◌≡◌, ◌≤◌, length, IfOk, vec_capacity};
+ghost use Rattle.std.specs.Prelude.{◌≡◌, ◌≤◌, IfOk, vec_capacity};
 ghost use Rattle.election_tables.specs.Limits.{most_voters};
 ghost use Rattle.image_codec.specs.Valid.{ready_state};
 ghost use Rattle.state_store.specs.Store.{IsBuffer};

@@ -2,7 +2,7 @@
 ghost use Rattle.std.specs.Prelude.{◌≡◌, ◌<◌, ◌≤◌, length};
 ghost use Rattle.key_script.specs.Event.{IsKey};
 ghost use Rattle.vote_kinds.specs.declared.choice.Field.{Field};
-ghost use Rattle.vote_kinds.specs.Ballot.{IsField, line_of};
+ghost use Rattle.vote_kinds.specs.Ballot.{line_of};
 ghost use Rattle.voter_term.specs.Panel.{next_field, next_shown};
 ghost use Rattle.station.specs.Terminal.{digits_in, field_in};
 

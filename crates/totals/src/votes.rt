@@ -1,5 +1,5 @@
 //! All votes of a panel.
-ghost use Rattle.std.specs.Prelude.{◌≡◌, ◌+◌, ◌<◌, ◌≤◌, ◌^◌, List, length};
+ghost use Rattle.std.specs.Prelude.{◌≡◌, ◌<◌, ◌^◌, List, length};
 ghost use Rattle.poll_report.specs.declared.report.Report.{Report};
 ghost use Rattle.section_intake.specs.Intake.{IsIntakeFor, accepted_files};
 ghost use Rattle.section_intake.specs.Sums.{AreReportsOf, all_party};

@@ -1,5 +1,5 @@
 //! A device is loaded: its slots are shut and filled, its frame is written, its slots are published.
-ghost use Rattle.std.specs.Prelude.{◌≡◌, ◌<◌, ◌≤◌, ◌∷◌, ◌++◌, List, length, IfOk, IfErr, OnOk, OnErr};
+ghost use Rattle.std.specs.Prelude.{◌≡◌, ◌≤◌, ◌∷◌, ◌++◌, List, length, IfOk, IfErr, OnOk, OnErr};
 ghost use Rattle.urna_outside.specs.Flash.{IsClean, Op, flash_of};
 ghost use Rattle.urna_outside.specs.Faults.{FailsAt};
 ghost use Rattle.urna_outside.specs.Stage.{Stage};

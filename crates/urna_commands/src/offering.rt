@@ -1,5 +1,5 @@
 //! The listed reports are taken and offered, one behind the other.
-ghost use Rattle.std.specs.Prelude.{◌≡◌, ◌∷◌, [], IfErr};
+ghost use Rattle.std.specs.Prelude.{◌≡◌, [], IfErr};
 ghost use Rattle.section_intake.specs.Accepted.{is_accepted};
 ghost use Rattle.section_intake.specs.Intake.{IsIntakeFor, accepted_files};
 ghost use Rattle.urna_commands.specs.Offering.{OfferEnds, OffersEnd, TellsOf};

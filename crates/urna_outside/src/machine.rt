@@ -1,4 +1,4 @@
-ghost use Rattle.std.specs.Prelude.{◌≡◌, ℕ, ◌+◌, ◌^◌, ◌<◌, ◌≤◌, [], ◌∷◌, length, OnOk, OnErr};
+ghost use Rattle.std.specs.Prelude.{◌≡◌, ◌+◌, ◌^◌, ◌<◌, ◌≤◌, [], ◌∷◌, length, OnOk, OnErr};
 ghost use Rattle.std.specs.Option.{ForSome};
 ghost use Rattle.urna_outside.specs.Flash.{Put, Show, Sync, flash_of, part};
 ghost use Rattle.urna_outside.specs.Told.{Told, Does, Runs, Counts, IsCalled, IsTornPut, IsTornShow, AreSized, port_of, size_of};

@@ -1,4 +1,4 @@
-ghost use Rattle.std.specs.Prelude.{◌≡◌, ◌≤◌, ◌<◌, IfNone, IfSome};
+ghost use Rattle.std.specs.Prelude.{◌≡◌, ◌≤◌, IfNone, IfSome};
 ghost use Rattle.vote_kinds.specs.Choice.{kind_of, number_of, choice_with, choice_le, is_same};
 
 /// What a voter chose on one line of the ballot.

@@ -1,5 +1,5 @@
 -- Worked rows of what bags are, and of a record's text
-use Rattle.std.proofs.Common.{◌≡◌, ℕ, true, false, List, [], ◌∷◌, ◌++◌, codes, refl}
+use Rattle.std.proofs.Common.{◌≡◌, ℕ, true, false, List, [], ◌∷◌, codes, refl}
 use Rattle.urna_base.specs.Lines.{lines_text as text}
 use Rattle.std.specs.Fmt.{digits}
 use Rattle.urna_base.specs.Digits.{padded}

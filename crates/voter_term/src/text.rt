@@ -1,4 +1,4 @@
-ghost use Rattle.std.specs.Prelude.{◌≡◌, ◌+◌, ◌<◌, ◌≤◌, ◌++◌, List, Option, length, take, drop};
+ghost use Rattle.std.specs.Prelude.{◌≡◌, ◌+◌, ◌<◌, ◌≤◌, ◌++◌, Option, length, take, drop};
 ghost use Rattle.election_tables.specs.Limits.{longest_name};
 ghost use Rattle.vote_kinds.specs.Ballot.{IsField, line_of};
 ghost use Rattle.voter_term.specs.Screen.{choice_text, field_text, screen_text, shown_choice};

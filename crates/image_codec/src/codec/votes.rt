@@ -8,7 +8,7 @@ ghost use Rattle.vote_kinds.specs.Ballot.{lines_by_panel, line_of};
 ghost use Rattle.vote_record.specs.Bag.{bag_at};
 ghost use Rattle.vote_record.specs.RdvData.{room_at};
 ghost use Rattle.image_codec.specs.Numbers.{number4_at};
-ghost use Rattle.image_codec.specs.DecodedVotes.{vote_in, votes_in, bag_in, bags_in};
+ghost use Rattle.image_codec.specs.DecodedVotes.{vote_in, bag_in, bags_in};
 ghost use Rattle.image_codec.specs.Layout.{bag_head_size, vote_size};
 
 use super::layout::{BAG_HEAD_SIZE, VOTE_SIZE};

@@ -4,7 +4,6 @@ ghost use Rattle.std.specs.Int.{w32, to_be_bytes};
 ghost use Rattle.std.specs.List.{flat_map, zip};
 ghost use Rattle.election_tables.specs.Limits.{most_parties};
 ghost use Rattle.election_tables.specs.TablesData.{candidates_at};
-ghost use Rattle.turnout.specs.Turnout.{number_came};
 ghost use Rattle.vote_kinds.specs.Ballot.{lines_by_panel, line_of};
 ghost use Rattle.vote_record.specs.Bag.{bag_at, count_of};
 ghost use Rattle.image_codec.specs.Layout.{body_size, counter_size, head_size, turnout_size, version};

@@ -1,5 +1,5 @@
-use Rattle.std.proofs.Common.{◌≡◌, ◌<◌, List, length, slice_get, get_or, IsSomeAnd, Some, true, option_map, subst, sym, ap, ◌∙◌, Option, arith}
-use Rattle.vote_kinds.specs.Ballot.{BallotLine, ballot_lines, is_choice, line_of, lines_by_panel}
+use Rattle.std.proofs.Common.{◌≡◌, ◌<◌, length, slice_get, get_or, IsSomeAnd, Some, true, option_map, subst, sym, ap, ◌∙◌, Option, arith}
+use Rattle.vote_kinds.specs.Ballot.{BallotLine, ballot_lines, is_choice, line_of}
 use Rattle.vote_kinds.specs.declared.choice.Choice.{Choice}
 use Rattle.vote_kinds.specs.declared.choice.Choice.TheVariants as choice
 use Rattle.vote_kinds.proofs.Lookups.{line_found, line_get, lines_length}

@@ -1,4 +1,4 @@
-use Rattle.std.proofs.Common.{◌≡◌, ℕ, List, Bool, length, sym, subst, ◌∙◌}
+use Rattle.std.proofs.Common.{ℕ, List, Bool, length, sym, subst, ◌∙◌}
 use Rattle.vote_kinds.specs.declared.choice.Choice.{Choice}
 use Rattle.vote_record.specs.RdvData.{RdvData}
 use Rattle.poll_report.specs.Counted.{HasReport}
