@@ -1,0 +1,68 @@
+"""What each check of `check-house` must find: a change of one file, as the check, the file, what stands there and what is put in its place.
+No file is changed: `missed` lets the check read the changed text, in a process of its own.
+"""
+
+import os
+
+import house
+
+CASES = [
+    ("check_names", "docs/ARCHITECTURE.md", "`session_tests`", "`session_test`"),
+    ("check_names", "docs/PROVED.md", "`laws::marks`", "`laws::mark`"),
+    ("check_names", "CONTRIBUTING.md", "`crates/turnout/src/turnout.rt`", "`crates/turnout/src/turned.rt`"),
+    ("check_names", "docs/FORMATS.md", "`TABLES_LIMIT`", "`TABLE_LIMIT`"),
+    ("check_headings", "CONTRIBUTING.md", '`docs/FORMATS.md`, "Report text"', '`docs/FORMATS.md`, "Report texts"'),
+    ("check_limits", "docs/FORMATS.md", "| 4,194,304 |", "| 4,194,305 |"),
+    ("check_limits", "docs/FORMATS.md", "\n## Limits\n", "\n## Bounds\n"),
+    ("check_used", "crates/urna_base/proofs/PieceLaws.antt", "piece_last", "last_piece"),
+    ("check_twice", "crates/urna_base/proofs/Lacking.antt", "\npub decimal_in_line", "\npub in_line : (m : ℕ) → m < 10 ^ 18 → Lacks 10 (decimal m)\n\npub decimal_in_line"),
+    ("check_sessions", "README.md", "\nCOMP 320\n", "\nCOMP 321\n"),
+    ("check_scripts", "crates/session_tests/stdout", "\nurna abre a\n", "\nurna abre b\n"),
+    ("check_day", "examples/dia.txt", "ZERESIMA", "ZERESIMO"),
+    ("check_seats", "crates/seat_tests/src/rows.rt", "QE 112,", "QE 113,"),
+    ("check_seats", "crates/seat_tests/src/certificate_rows.rt", "QUOCIENTE 200", "QUOCIENTE 201"),
+    ("check_federations", "crates/session_tests/stdout", "    CARGO 13 VALIDOS 180 NOMINAIS 180", "    CARGO 13 VALIDOS 181 NOMINAIS 180"),
+    ("check_recounts", "crates/session_tests/stdout", "    DIFERE CARGO 13 LEGENDA 45 REGISTRO 0 BOLETIM 1\n", "    DIFERE CARGO 13 LEGENDA 45 REGISTRO 1 BOLETIM 0\n"),
+    ("check_contests", "crates/session_tests/stdout", "    SUPLENTE 10 1 10002\n", "    SUPLENTE 10 2 10002\n"),
+    ("check_offers", "crates/session_tests/stdout", "    LIVRO 0\n", "    LIVRO 9\n"),
+    ("check_rehearsals", "crates/session_tests/stdout", "    ENSAIO 19\n", "    ENSAIO 18\n"),
+    ("check_lines", "README.md", "\n\n", "\n\n" + "x" * 1201 + "\n\n"),
+    ("check_comments", "crates/turnout/src/turnout.rt", "/// ", "// "),
+    ("check_list", "docs/THEOREM.md", "| promise |", "| promises |"),
+    ("check_items", "docs/THEOREM.md", ": So it does over all flashes that hold the poll s of a section", ""),
+    ("check_marks", "README.md", "\n\n", "\n\nTODO\n\n"),
+    ("check_marks", "README.md", "\n\n", "\n\n/tmp/urna\n\n"),
+    ("check_marks", "README.md", "docs/PROVED.md", "docs/PROVEN.md"),
+]
+
+
+def read_as(path, text):
+    """Lets a file be read as this text, also where what was made of it before is kept."""
+    before = house.read
+    house.read = lambda it: text if it == path else before(it)
+    for kept in ("stripped", "imports", "definitions"):
+        make = getattr(house, kept)
+        setattr(house, kept, lambda it, make=make: make.__wrapped__(it) if it == path else make(it))
+
+
+def finds(check, path, text):
+    """Whether a check finds something where a file is this text."""
+    child = os.fork()
+    if child == 0:
+        read_as(path, text)
+        os._exit(0 if next(iter(check()), None) else 1)
+    return os.waitpid(child, 0)[1] == 0
+
+
+def missed(checks):
+    """The changes that these checks don't find, and those of the checks that have none."""
+    for check in checks:
+        cases = [it for it in CASES if it[0] == check.__name__]
+        if not cases:
+            yield f"tools/cases.py: {check.__name__} has no case"
+        for name, path, old, new in cases:
+            text = house.read(path)
+            if old not in text:
+                yield f"tools/cases.py: {name}: {path} has no {old.strip()}"
+            elif not finds(check, path, text.replace(old, new)):
+                yield f"tools/cases.py: {name} doesn't find {new.strip()[:60]} in {path}"
