@@ -19,7 +19,7 @@ list:
 	@echo "make dist         one archive, out/urna.tar.gz: the built programs, the manual, the formats, the licence and the SHA-256 of each: at once after a demo"
 	@echo "make install      the same under the folder that PREFIX says, /usr/local where it says none, with manual pages: at once after a demo"
 	@echo "make test         the gate, each proof from nothing, each edit that must be refused, each test and program, and check-house: an hour to an hour and a half from nothing"
-	@echo "make check-house  names, sessions and lines of the documents and the sources: less than a minute"
+	@echo "make check-house  names, sessions and lines of the documents and the sources: half a minute"
 	@echo "make bench        how long sessions, commits, the reading of tables, the text of a report, its file, a check of it, a recount, the totals of many reports, the ledger of them, the seats and a rehearsal take, as ratios to plainer programs, how they grow, and what changed since the last time: a few minutes after a demo"
 	@echo "make country      as many municipal elections as MUNICIPALITIES says, drawn by SEED, each totalled by a call of urna that GNU parallel starts, which is killed in the middle and goes on; what 500,000 reports take; status 2 where parallel is not there: a few minutes after a demo"
 	@echo "make crash-trial  both programs on real files, with a lost flash too, and as many killed sessions and ledgers as TRIALS says, drawn by SEED: a few minutes after a demo"
