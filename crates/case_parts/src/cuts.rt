@@ -17,10 +17,12 @@ pub const WAYS: [(&str, Tear); 4] = [
     ("A5", Tear::Byte(0xA5)),
 ];
 
-/// What stands in dirty bytes: what a tear says, or what other flashes have in the same places.
+/// What stands in dirty bytes.
 #[derive(Clone, Copy)]
 pub enum Fill<'a> {
+    /// What a tear says.
     Torn(Tear),
+    /// What these flashes have there.
     Like(&'a Flashes),
 }
 
@@ -49,7 +51,7 @@ fn torn(alloc: Global, m: &Recorder, ops: u32, tear: Tear) -> Result<Flashes, Ha
 }
 
 /// What a power cut leaves after the first operations of a machine's trail.
-pub fn cut(alloc: Global, m: &Recorder, ops: u32, fill: Fill<'_>) -> Result<Flashes, Halt> {
+pub fn power_cut(alloc: Global, m: &Recorder, ops: u32, fill: Fill<'_>) -> Result<Flashes, Halt> {
     match fill {
         Fill::Torn(tear) => torn(alloc, m, ops, tear),
         Fill::Like(other) => {
@@ -81,8 +83,8 @@ fn filled(alloc: Global, zeros: &[u8], ones: &[u8], other: &[u8]) -> Result<Vec<
     Ok(image)
 }
 
-/// What is left where the operation behind these has put its bytes up to a place.
-pub fn cut_at(alloc: Global, m: &Recorder, ops: u32, at: usize) -> Result<Flashes, Halt> {
+/// What a power cut leaves inside an operation: those before it are done, and it has put its bytes up to a place of the flash.
+pub fn power_cut_inside(alloc: Global, m: &Recorder, ops: u32, at: usize) -> Result<Flashes, Halt> {
     let old = torn(alloc, m, ops, Tear::AsPut)?;
     let new = torn(alloc, m, ops.saturating_add(1), Tear::AsPut)?;
     Ok(Flashes {

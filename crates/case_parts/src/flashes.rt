@@ -4,7 +4,7 @@ ghost use Rattle.memory_outside.specs.Recorder.{recorder_told};
 ghost use Rattle.urna_outside.specs.Told.{size_of};
 ghost use Rattle.urna_outside.specs.declared.device.Dev.{Dev};
 
-use crate::faults::Faults;
+use crate::failing::Failing;
 use crate::halt::Halt;
 use gate_slot::HEADER_SIZE;
 use memory_outside::Recorder;
@@ -18,7 +18,7 @@ pub struct Flashes {
     pub external: Vec<u8>,
 }
 
-/// Flashes without a byte, as none are.
+/// Flashes without a byte, which no machine has.
 pub fn no_flashes(alloc: Global) -> Flashes {
     Flashes {
         internal: Vec::new(alloc),
@@ -61,11 +61,15 @@ pub fn is_left(m: &Recorder, flashes: &Flashes) -> bool {
         && m.content(Dev::External) == flashes.external.as_slice()
 }
 
-/// A machine over a copy of these flashes with these faults. `Script` comes where they don't have so many bytes each.
+/// The most operations that a machine remembers.
+const OPERATIONS: u32 = 4_096;
+
+/// A machine over a copy of these flashes, whose calls of these numbers fail. The caller owes that the size is below 2^31. `Script` comes
+/// where the flashes don't have so many bytes each.
 pub fn machine(
     alloc: Global,
     flashes: &Flashes,
-    faults: &Faults,
+    failing: &Failing,
     size: u32,
 ) -> Result<Recorder, Halt>
     requires { size < 2 ^ 31 }
@@ -79,9 +83,9 @@ pub fn machine(
         alloc,
         internal,
         external,
-        4_096,
-        faults.room,
-        &faults.machine,
+        OPERATIONS,
+        failing.room,
+        &failing.machine,
     )?)
 }
 

@@ -15,12 +15,8 @@ pub struct Paper {
 const SHELF_ROOM: u32 = 300_000;
 
 /// A cabinet with these files, of which the calls of these numbers fail.
-pub fn cabinet_of(
-    alloc: Global,
-    papers: &[Paper],
-    failing: &[u32],
-) -> Result<WatchedShelf, Memory> {
-    let mut shelf = Shelf::new(alloc, SHELF_ROOM, failing)?;
+pub fn cabinet_of(alloc: Global, papers: &[Paper], calls: &[u32]) -> Result<WatchedShelf, Memory> {
+    let mut shelf = Shelf::new(alloc, SHELF_ROOM, calls)?;
     for paper in papers {
         shelf.place(&paper.name, &paper.bytes)?;
     }
@@ -66,7 +62,7 @@ pub fn bytes_of<'a>(papers: &'a [Paper], name: &str) -> Result<&'a [u8], Halt> {
     Err(Halt::Script)
 }
 
-/// Lines that stand in one, with ` / ` between them.
+/// The text of lines that a script writes in one, with ` / ` between them.
 pub fn lines_of(alloc: Global, text: &str) -> Result<Vec<u8>, Halt> {
     let mut bytes = Vec::new(alloc);
     if !text.is_empty() {

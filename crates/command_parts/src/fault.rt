@@ -68,7 +68,7 @@ pub fn device_word(dev: Dev) -> &'static [u8]
     }
 }
 
-/// A fault without more.
+/// The line of a fault without more. The caller owes that the text has at most 20 bytes.
 pub fn bare_line(text: &[u8]) -> LineBuffer
     requires { length text.now ≤ 20 }
     ensures { result ≡ fault_line text.now }
@@ -81,20 +81,18 @@ pub fn bare_line(text: &[u8]) -> LineBuffer
 }
 
 /// A fault and a number.
-#[tactic(auto, using(urna_base::proofs::DecimalLaws::line_lengths))]
 fn numbered_line(text: &[u8], n: u64) -> LineBuffer
     requires { length text.now ≤ 20 }
     ensures { result ≡ fault_line (text.now ++ decimal n) }
 {
     let mut line = LineBuffer::new();
     line.push_text(b"ERRO ");
-    line.push_text(text);
-    line.push_decimal(n);
+    line.push_numbered(text, n);
     line.push_text(b"\n");
     line
 }
 
-/// A fault and a word.
+/// The line of a fault and a word. The caller owes that the text has at most 20 bytes and the word at most 11.
 pub fn worded_line(text: &[u8], word: &[u8]) -> LineBuffer
     requires text { length text.now ≤ 20 }
     requires word { length word.now ≤ 11 }

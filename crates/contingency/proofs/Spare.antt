@@ -3,6 +3,7 @@ use Rattle.std.proofs.Common.{◌≡◌, ◌⊎◌, inl, inr, ℕ, ◌≤◌, Bo
 use Rattle.std.proofs.lemmas.Bool.{cases_lt, eqb-true}
 use Rattle.std.proofs.lemmas.List.{take-take}
 use Rattle.std.specs.List.{AllByRecursion}
+use Rattle.urna_base.proofs.Every.{every_append}
 use Rattle.urna_outside.specs.declared.device.Dev.{Dev}
 use Rattle.urna_outside.specs.declared.device.Dev.TheVariants.{Internal, External}
 use Rattle.election_tables.specs.Limits.{most_voters}
@@ -72,10 +73,6 @@ one_ready t voters s of ready =
     ∙ ap (λ (l : List ℕ). parts phase.Ready none l s.bags) of.places
     ∙ ap (parts phase.Ready none (places_of t)) (ready_bags t s.phase s.came r kept ready of.places)
 
-both_bodies : (P : List ℕ → Type 0) (xs ys : List (List ℕ)) → AllByRecursion P xs → AllByRecursion P ys → AllByRecursion P (xs ++ ys)
-both_bodies P [] ys first second = second
-both_bodies P (x ∷ xs) ys first second = (first.0, both_bodies P xs ys first.1 second)
-
 -- ---- what a device holds that isn't in use
 
 module _ (t : TablesData) (voters : ℕ) where
@@ -100,7 +97,7 @@ module _ (t : TablesData) (voters : ℕ) where
   unused_ready : (image : List ℕ) → take 8 image ≡ magic → ¬ IsInUse image → AreReady (open_bodies body_size image)
   unfolding open_bodies
   unused_ready image begins unused =
-      both_bodies IsReady (open_body body_size 0 image) (open_body body_size 1 image)
+      every_append IsReady (open_body body_size 0 image) (open_body body_size 1 image)
       (unused_slot 0 image (λ used. unused (record { begins = begins; used = inl used })))
       (unused_slot 1 image (λ used. unused (record { begins = begins; used = inr used })))
 
@@ -120,7 +117,7 @@ module _ (t : TablesData) (voters : ℕ) where
     -- so it is held with bodies of the ready state behind them
     held_before : (bodies more : List (List ℕ)) → Hold (poll t voters) bodies s → AreReady more → Hold (poll t voters) (bodies ++ more) s
     held_before [] more holds ready = absurd holds
-    held_before (body ∷ bodies) more (inl first) ready = inl (first.0, both_bodies UpTo bodies more first.1 (ready_up_to more (rank_of s) ready))
+    held_before (body ∷ bodies) more (inl first) ready = inl (first.0, every_append UpTo bodies more first.1 (ready_up_to more (rank_of s) ready))
     held_before (body ∷ bodies) more (inr behind) ready = inr (behind.0, held_before bodies more behind.1 ready)
 
     -- and before them
@@ -134,7 +131,7 @@ module _ (t : TablesData) (voters : ℕ) where
           | inr zero ↦
               let s_ready = one_ready t voters s (hold_encoding (poll t voters) more s holds).1.state (ready_rank s.phase _ zero) in
               let same : u ≡ s = ready.0 u encoding ∙ sym s_ready in
-              inl (subst (λ (x : State). IsEncoding t voters x body) same encoding, both_bodies UpTo bodies more (ready_up_to bodies (rank_of s) ready.1) (up_to_held (poll t voters) (decoded t voters) (reads t voters tables few) more (rank_of s) s (omega arith) holds))
+              inl (subst (λ (x : State). IsEncoding t voters x body) same encoding, every_append UpTo bodies more (ready_up_to bodies (rank_of s) ready.1) (up_to_held (poll t voters) (decoded t voters) (reads t voters tables few) more (rank_of s) s (omega arith) holds))
         ]
 
         go : Hold (poll t voters) (bodies ++ more) s → (o : Option State) → decoded t voters body ≡ o → Hold (poll t voters) (body ∷ (bodies ++ more)) s

@@ -5,6 +5,7 @@ use Rattle.std.proofs.lemmas.List.{length-map}
 use Rattle.std.proofs.lemmas.Option.{same_Some}
 use Rattle.std.specs.List.{concat}
 use Rattle.std.specs.Option.{ForSome}
+use Rattle.urna_base.proofs.Every.{every_append}
 use Rattle.urna_outside.specs.Faults.{EndsAt, IsFaultless}
 use Rattle.urna_outside.specs.Flash.{Op, Show, Flashes, IsImage, flash_of, after, shown_by}
 use Rattle.urna_outside.specs.ShownLines.{shows, HasShown, IsCutOff, IsCutShort}
@@ -28,11 +29,11 @@ use Rattle.twin_image.specs.Twin.{IsOfTwin}
 use Rattle.flash_store.specs.Calls.{Commits, KeepsHeld}
 use Rattle.flash_store.specs.Held.{HeldAlone, HeldByBoth, HoldEither, IsEither, KeepFrames}
 use Rattle.flash_store.specs.Pieces.{AreFull, Piece, lines_in, lines_reached, quiet, state_after, telling, text_in}
-use Rattle.flash_store.specs.Played.{AreInOrder, AreInOrderTo, IsBeforeLine, IsCutCommit, IsCutPiece, Follows, HasPut, HasStopped, HoldAfter, IsCutAt, IsInCommit, IsSafe, Keeping, Plays, Survives, shows_in}
+use Rattle.flash_store.specs.Played.{AreInOrder, AreInOrderTo, IsBeforeLine, IsCutCommit, IsCutPiece, Follows, HasPut, HasStopped, HoldAfter, IsCutAt, IsInCommit, IsOfSession, IsSafe, Keeping, Plays, Survives, shows_in}
 use Rattle.flash_store.specs.Syncs.{both_synced}
 use Rattle.flash_store.proofs.Counting.{contained_after, contained_before, either_after, either_before, few_reached, lines_before, lines_behind, lines_in-append, lines_in-quiet, reached_more, reached_quiet, state_after-append, state_after-quiet, state_of-quiet, text_in-append, text_in-quiet}
 use Rattle.flash_store.proofs.Resting.{frames_at_end, frames_same, frames_text, frames_trans}
-use Rattle.flash_store.proofs.ShowStops.{front_of_text, session-append, session_shows, session_slots, shows_in-append, shows_in_shows, shows_in_silent, stops_of_shows, text_of_lines}
+use Rattle.flash_store.proofs.ShowStops.{front_of_text, session_shows, session_slots, shows_in-append, shows_in_shows, shows_in_silent, stops_of_shows, text_of_lines}
 use Rattle.flash_store.proofs.Tracing.{TellsToo, still_tells, traced_bytes, traced_over}
 
 -- Flashes at rest with a state hold it, both and each alone, and nothing is dirty.
@@ -240,7 +241,7 @@ module _ {S : Type 0} (keeping : Keeping S) where
     plays_told : (a b : Told) (xs ys : List Op) → RestHolds keeping u → Commits keeping.codec s u a xs → Does xs a b → ForSome b.flashes (keeping.AreAtRest u) → ShowsFront (line ++ []) ys → Plays keeping.codec s (telling u line) a.flashes (xs ++ ys)
     plays_told a b xs ys stored commits does rest part =
         record {
-          slots = session-append keeping.codec.size xs ys (session_slots keeping.codec.size xs commits.slots.within) (session_shows keeping.codec.size ys part.shows);
+          slots = every_append (IsOfSession keeping.codec.size) xs ys (session_slots keeping.codec.size xs commits.slots.within) (session_shows keeping.codec.size ys part.shows);
           stops = λ start told.
               let mid = after xs start in
               let resting = rest mid (told_after xs a b start does told) in
@@ -424,7 +425,7 @@ module _ {S : Type 0} (keeping : Keeping S) where
       → Plays keeping.codec (state_after s xs) ys b.flashes second → Plays keeping.codec s (xs ++ ys) a.flashes (first ++ second)
   plays-append s xs ys a b first second full plays shown does later =
       record {
-        slots = session-append keeping.codec.size first second plays.slots later.slots;
+        slots = every_append (IsOfSession keeping.codec.size) first second plays.slots later.slots;
         stops = λ start told.
             let mid = after first start in
             let text : shown_by first ≡ text_in xs = text_of_lines first (lines_in xs) shown in

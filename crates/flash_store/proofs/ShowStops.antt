@@ -53,10 +53,6 @@ front_of_text text ops showed =
 -- Operations of a session
 
 module _ (size : ℕ) where
-  pub session-append : (xs ys : List Op) → AllByRecursion (IsOfSession size) xs → AllByRecursion (IsOfSession size) ys → AllByRecursion (IsOfSession size) (xs ++ ys)
-  session-append [] ys first second = second
-  session-append (x ∷ xs) ys first second = (first.0, session-append xs ys first.1 second)
-
   pub session_shows : (ops : List Op) → AreShows ops → AllByRecursion (IsOfSession size) ops
   session_shows [] all = tt
   session_shows (Put d at bytes ∷ ops) all = absurd all.0

@@ -1,3 +1,4 @@
+pub mod Device
 pub mod Syncs
 pub mod Held
 pub mod Rest

@@ -5,9 +5,10 @@ use Rattle.std.specs.List.{flat_map, AllByRecursion, sum_by}
 use Rattle.std.proofs.lemmas.List.{append-nil}
 use Rattle.std.proofs.lemmas.List.Sums.{sum_by-cons}
 use Rattle.std.proofs.lemmas.Bool.Decides.{nat_tests}
+use Rattle.urna_base.specs.Words.{joined}
 use Rattle.hash_chain.specs.Lines.{is_field}
 use Rattle.hash_chain.specs.Laws.{OneCut}
-use Rattle.hash_chain.specs.Cut.{joined, part_size, IsFull, AreFull, IsCut, cut_after, cut}
+use Rattle.hash_chain.specs.Cut.{part_size, IsFull, AreFull, IsCut, cut_after, cut}
 
 -- a part with one field more
 abbrev pub Small : List (List ℕ) → Type 0

@@ -5,10 +5,10 @@ use Rattle.std.specs.List.{flat_map, slice_split, onto_first}
 use Rattle.std.proofs.lemmas.Bool.Decides.{nat_tests}
 use Rattle.std.proofs.lemmas.List.{append-nil, take-append-drop}
 use Rattle.std.proofs.Math.Seq.{get_or-append_seam}
-use Rattle.urna_base.specs.Words.{pieces}
+use Rattle.urna_base.specs.Words.{pieces, joined}
 use Rattle.hash_chain.proofs.CutLaws.{Small, full_behind, one_cut, takes}
 use Rattle.hash_chain.proofs.PieceLaws.{at_place, joined_pieces, some_piece}
-use Rattle.hash_chain.specs.Cut.{IsFull, cut, cut_after, joined, part_size}
+use Rattle.hash_chain.specs.Cut.{IsFull, cut, cut_after, part_size}
 use Rattle.hash_chain.specs.Fault.{AreFields}
 
 onto_append : (x : ℕ) (ps qs : List (List ℕ)) → 0 < length ps → onto_first x (ps ++ qs) ≡ onto_first x ps ++ qs

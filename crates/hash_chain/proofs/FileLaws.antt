@@ -12,15 +12,15 @@ use Rattle.urna_base.proofs.Lacking.{Lacks, decimal_lacks, lacks-append}
 use Rattle.urna_base.proofs.PieceLaws.{piece_first}
 use Rattle.urna_base.proofs.WordLaws.{same_byte}
 use Rattle.hash_chain.specs.Chain.{Link, hashed_text, link_text, link_of, links_from, links_text, parts_text}
-use Rattle.hash_chain.specs.Cut.{joined, part_size, IsFull, AreFull, cut}
+use Rattle.hash_chain.specs.Cut.{part_size, IsFull, AreFull, cut}
 use Rattle.hash_chain.specs.Lines.{IsLink, is_word, is_field, link_in, feeds_in}
 use Rattle.hash_chain.specs.Hash.{hash_text}
 use Rattle.hash_chain.specs.Fault.{failing_link, hash_before, fits_before, AreFields}
 use Rattle.hash_chain.proofs.Reading.{read_from, lines_read, text_of_lines}
-use Rattle.urna_base.specs.Words.{after_word, pieces}
+use Rattle.urna_base.specs.Words.{after_word, pieces, joined}
 use Rattle.hash_chain.proofs.HashLaws.{hashes}
 use Rattle.hash_chain.proofs.CutLaws.{one_cut, rest_full}
-use Rattle.hash_chain.proofs.LineLaws.{word_other, hash_other, lines_are_read}
+use Rattle.hash_chain.proofs.LineLaws.{word_lacks, hash_lacks, lines_are_read}
 
 abbrev pub Few : List (List ℕ) → Type 0
 Few fs = AllByRecursion (λ f. is_field f ≡ true) fs
@@ -34,18 +34,18 @@ Parts parts = AllByRecursion (λ part. (nat_lt 0 (length part) ≡ true) × Few 
 pub is_word_of : (f : List ℕ) → is_field f ≡ true → is_word f ≡ true
 is_word_of f h = (both_from_and (is_word f) (is_none (after_word (codes "HASH:") f)) h).0
 
-joined_other : (fs : List (List ℕ)) → Few fs → Lacks 10 (joined fs)
-joined_other [] h = refl
-joined_other (f ∷ []) h = word_other 10 f (lit< tt) (is_word_of f h.0)
-joined_other (f ∷ g ∷ fs) h = lacks-append 10 f (32 ∷ joined (g ∷ fs)) (word_other 10 f (lit< tt) (is_word_of f h.0)) (joined_other (g ∷ fs) h.1)
+joined_lacks : (fs : List (List ℕ)) → Few fs → Lacks 10 (joined fs)
+joined_lacks [] h = refl
+joined_lacks (f ∷ []) h = word_lacks 10 f (lit< tt) (is_word_of f h.0)
+joined_lacks (f ∷ g ∷ fs) h = lacks-append 10 f (32 ∷ joined (g ∷ fs)) (word_lacks 10 f (lit< tt) (is_word_of f h.0)) (joined_lacks (g ∷ fs) h.1)
 
-line_other : (l : Link) → IsLink l → l.number < 10 ^ 18 → l.parts < 10 ^ 18 → Lacks 10 (link_text l)
-line_other l h sa sb =
+line_lacks : (l : Link) → IsLink l → l.number < 10 ^ 18 → l.parts < 10 ^ 18 → Lacks 10 (link_text l)
+line_lacks l h sa sb =
     lacks-append 10 (hashed_text l) (codes " HASH:" ++ l.hash)
     (lacks-append 10 (decimal l.number) (58 ∷ (decimal l.parts ++ (codes " VRQR:" ++ (l.version ++ 32 ∷ joined l.fields)))) (decimal_lacks 10 l.number (inl (lit< tt)) sa)
     (lacks-append 10 (decimal l.parts) (codes " VRQR:" ++ (l.version ++ 32 ∷ joined l.fields)) (decimal_lacks 10 l.parts (inl (lit< tt)) sb)
-    (lacks-append 10 l.version (32 ∷ joined l.fields) (word_other 10 l.version (lit< tt) h.version) (joined_other l.fields h.fields))))
-    (hash_other 10 l.hash (lit< tt) h.hash)
+    (lacks-append 10 l.version (32 ∷ joined l.fields) (word_lacks 10 l.version (lit< tt) h.version) (joined_lacks l.fields h.fields))))
+    (hash_lacks 10 l.hash (lit< tt) h.hash)
 
 -- ---- a file is split into its lines
 
@@ -54,7 +54,7 @@ Lines ls = AllByRecursion (λ l. IsLink l × (l.number < 10 ^ 18) × (l.parts < 
 
 split_file : (ls : List Link) → Lines ls → slice_split (λ b. b == 10) (links_text ls) ≡ map link_text ls ++ [] ∷ []
 split_file [] h = refl
-split_file (l ∷ ls) h = piece_first 10 (link_text l) (links_text ls) (line_other l h.0.0 h.0.1 h.0.2) ∙ ap (λ (x : List (List ℕ)). link_text l ∷ x) (split_file ls h.1)
+split_file (l ∷ ls) h = piece_first 10 (link_text l) (links_text ls) (line_lacks l h.0.0 h.0.1 h.0.2) ∙ ap (λ (x : List (List ℕ)). link_text l ∷ x) (split_file ls h.1)
 
 pub length_lines : (ls : List Link) → length (map link_text ls ++ [] ∷ []) ≡ length ls + 1
 length_lines [] = refl

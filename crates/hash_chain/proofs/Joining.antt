@@ -6,6 +6,7 @@ use Rattle.std.proofs.lemmas.Bool.Decides.{nat_tests}
 use Rattle.std.proofs.lemmas.List.{append-nil}
 use Rattle.std.proofs.lemmas.Bool.{ltb-true}
 use Rattle.urna_base.proofs.Cases.{option_cases, result_cases}
+use Rattle.urna_base.specs.Words.{joined}
 use Rattle.hash_chain.proofs.Faults.{parts_read}
 use Rattle.hash_chain.proofs.FileLaws.{read_step}
 use Rattle.hash_chain.proofs.PieceLaws.{some_piece}
@@ -13,7 +14,6 @@ use Rattle.hash_chain.proofs.Places.{is_fault}
 use Rattle.hash_chain.proofs.Reading.{lines_read, read_from, text_of_lines}
 use Rattle.hash_chain.proofs.Remaking.{Chain, read_back, read_bad, read_later, read_none}
 use Rattle.hash_chain.specs.Chain.{Link}
-use Rattle.hash_chain.specs.Cut.{joined}
 use Rattle.hash_chain.specs.Fault.{ArePartsOf, IsPartFault, failing_link, fault_of_link}
 use Rattle.hash_chain.specs.Lines.{feeds_in, is_field, link_in, rows}
 use Rattle.hash_chain.specs.Reading.{MatchRead, with_part}

@@ -1,53 +1,45 @@
 -- A line of the form is read as what it says.
 use Rattle.std.proofs.Common.{◌≡◌, ℕ, ◌<◌, ◌^◌, Bool, true, List, [], ◌∷◌, ◌++◌, length, Some, refl, sym, ap, ◌∙◌, subst, inl, inr, arith, lit<, append_assoc}
 use Rattle.std.specs.Prelude.{codes, nat_lt, ◌==◌, ◌||◌, is_none}
-use Rattle.std.specs.List.{slice_split, list_all, AllByRecursion, join_with_byte}
+use Rattle.std.specs.List.{slice_split, list_all, AllByRecursion}
 use Rattle.std.specs.Fmt.{decimal}
 use Rattle.std.proofs.lemmas.Bool.Decides.{nat_tests}
 use Rattle.urna_base.specs.Digits.{is_digit}
 use Rattle.urna_base.specs.Moment.{is_between}
 use Rattle.urna_base.proofs.DecimalLaws.{decimal_value-decimal}
 use Rattle.urna_base.proofs.DigitLaws.{both_from_and}
-use Rattle.urna_base.proofs.Lacking.{Lacks, decimal_lacks, is_other, lacks-append}
-use Rattle.urna_base.proofs.PieceLaws.{piece_first, piece_last}
+use Rattle.urna_base.proofs.Lacking.{Lacks, decimal_lacks, is_other, lacks-append, seen_lack}
+use Rattle.urna_base.proofs.PieceLaws.{piece_first, piece_last, pieces_joined}
 use Rattle.hash_chain.specs.Chain.{Link, link_text}
-use Rattle.hash_chain.specs.Cut.{joined}
 use Rattle.hash_chain.specs.Lines.{IsLink, is_word, is_field, two_numbers, fields_and_hash, link_of_pieces, link_in}
 use Rattle.hash_chain.specs.Hash.{is_hash}
-use Rattle.urna_base.specs.Words.{after_word, pieces}
+use Rattle.urna_base.specs.Words.{after_word, pieces, joined}
 
 -- ---- bytes that are no separators
 
 -- each element that passes one test passes another
-pub all_weaker : (p q : ℕ → Bool) → ((x : ℕ) → p x ≡ true → q x ≡ true) → (t : List ℕ) → list_all p t ≡ true → list_all q t ≡ true
+all_weaker : (p q : ℕ → Bool) → ((x : ℕ) → p x ≡ true → q x ≡ true) → (t : List ℕ) → list_all p t ≡ true → list_all q t ≡ true
 all_weaker p q weaker [] h = refl
 all_weaker p q weaker (x ∷ t) h = let both = both_from_and (p x) (list_all p t) h in rw (weaker x both.0, all_weaker p q weaker t both.1) refl
 
-printed_other : (c : ℕ) → c < 33 → (x : ℕ) → is_between 33 126 x ≡ true → is_other c x ≡ true
-printed_other c low x h = grind (arith, nat_tests)
-
-pub word_other : (c : ℕ) (t : List ℕ) → c < 33 → is_word t ≡ true → Lacks c t
-word_other c t low h = all_weaker (is_between 33 126) (is_other c) (printed_other c low) t (both_from_and (nat_lt 0 (length t)) (list_all (is_between 33 126) t) h).1
+pub word_lacks : (c : ℕ) (t : List ℕ) → c < 33 → is_word t ≡ true → Lacks c t
+word_lacks c t low h = seen_lack c t low (both_from_and (nat_lt 0 (length t)) (list_all (is_between 33 126) t) h).1
 
 hex_other : (c : ℕ) → c < 33 → (x : ℕ) → (is_digit x || is_between 65 70 x) ≡ true → is_other c x ≡ true
 hex_other c low x h = grind (arith, nat_tests)
 
-pub hash_other : (c : ℕ) (t : List ℕ) → c < 33 → is_hash t ≡ true → Lacks c t
-hash_other c t low h = all_weaker (λ x. is_digit x || is_between 65 70 x) (is_other c) (hex_other c low) t (both_from_and (length t == 128) (list_all (λ x. is_digit x || is_between 65 70 x) t) h).1
+pub hash_lacks : (c : ℕ) (t : List ℕ) → c < 33 → is_hash t ≡ true → Lacks c t
+hash_lacks c t low h = all_weaker (λ x. is_digit x || is_between 65 70 x) (is_other c) (hex_other c low) t (both_from_and (length t == 128) (list_all (λ x. is_digit x || is_between 65 70 x) t) h).1
 
--- ---- joined words are split again
-
-pub split_joined : (c : ℕ) (w : List ℕ) (ws : List (List ℕ)) → AllByRecursion (Lacks c) (w ∷ ws) → slice_split (λ b. b == c) (join_with_byte c (w ∷ ws)) ≡ w ∷ ws
-split_joined c w [] h = piece_last c w h.0
-split_joined c w (v ∷ ws) h = piece_first c w (join_with_byte c (v ∷ ws)) h.0 ∙ ap (λ (l : List (List ℕ)). w ∷ l) (split_joined c v ws h.1)
+-- ---- the fields and the hash of a line
 
 pub joined_more : (f : List ℕ) (fs : List (List ℕ)) (w : List ℕ) → joined ((f ∷ fs) ++ w ∷ []) ≡ joined (f ∷ fs) ++ 32 ∷ w
 joined_more f [] w = refl
 joined_more f (g ∷ fs) w = ap (λ (l : List ℕ). f ++ 32 ∷ l) (joined_more g fs w) ∙ sym (append_assoc f (32 ∷ joined (g ∷ fs)) (32 ∷ w))
 
-pub fields_other : (fs : List (List ℕ)) (h : List ℕ) → AllByRecursion (λ f. is_field f ≡ true) fs → is_hash h ≡ true → AllByRecursion (Lacks 32) (fs ++ (codes "HASH:" ++ h) ∷ [])
-fields_other [] h fine hash = (hash_other 32 h (lit< tt) hash, tt)
-fields_other (f ∷ fs) h fine hash = (word_other 32 f (lit< tt) (both_from_and (is_word f) (is_none (after_word (codes "HASH:") f)) fine.0).0, fields_other fs h fine.1 hash)
+pub fields_lack : (fs : List (List ℕ)) (h : List ℕ) → AllByRecursion (λ f. is_field f ≡ true) fs → is_hash h ≡ true → AllByRecursion (Lacks 32) (fs ++ (codes "HASH:" ++ h) ∷ [])
+fields_lack [] h fine hash = (hash_lacks 32 h (lit< tt) hash, tt)
+fields_lack (f ∷ fs) h fine hash = (word_lacks 32 f (lit< tt) (both_from_and (is_word f) (is_none (after_word (codes "HASH:") f)) fine.0).0, fields_lack fs h fine.1 hash)
 
 pub read_fields : (fs : List (List ℕ)) (h : List ℕ) → AllByRecursion (λ f. is_field f ≡ true) fs → is_hash h ≡ true → fields_and_hash (fs ++ (codes "HASH:" ++ h) ∷ []) ≡ Some (fs, h)
 read_fields [] h fine hash = rw hash refl
@@ -75,8 +67,8 @@ regroup l f fs e =
     ∙ (ap (λ (x : List ℕ). numbers_text l.number l.parts ++ (32 ∷ (version_text l.version ++ (32 ∷ (x ++ 32 ∷ (codes "HASH:" ++ l.hash)))))) same
     ∙ ap (λ (x : List ℕ). numbers_text l.number l.parts ++ (32 ∷ (version_text l.version ++ (32 ∷ x)))) (sym last))
 
-numbers_other : (a b : ℕ) → a < 10 ^ 18 → b < 10 ^ 18 → Lacks 32 (numbers_text a b)
-numbers_other a b sa sb =
+numbers_lack : (a b : ℕ) → a < 10 ^ 18 → b < 10 ^ 18 → Lacks 32 (numbers_text a b)
+numbers_lack a b sa sb =
     lacks-append 32 (decimal a) (58 ∷ decimal b) (decimal_lacks 32 a (inl (lit< tt)) sa) (decimal_lacks 32 b (inl (lit< tt)) sb)
 
 two_read : (a b : ℕ) → a < 10 ^ 18 → b < 10 ^ 18 → two_numbers (slice_split (λ x. x == 58) (decimal a ++ 58 ∷ decimal b)) ≡ Some (a, b)
@@ -101,9 +93,9 @@ lines_are_read l h = go l.fields refl
         let P : List (List ℕ) → Type 0 = λ x. AllByRecursion (λ t. is_field t ≡ true) x in
         let fine : AllByRecursion (λ t. is_field t ≡ true) (f ∷ fs) = subst P e h.fields in
         let words : List (List ℕ) = (f ∷ fs) ++ (codes "HASH:" ++ l.hash) ∷ [] in
-        let first = piece_first 32 (numbers_text l.number l.parts) (version_text l.version ++ 32 ∷ joined words) (numbers_other l.number l.parts sa sb) in
-        let second = piece_first 32 (version_text l.version) (joined words) (word_other 32 l.version (lit< tt) h.version) in
-        let third = split_joined 32 f (fs ++ (codes "HASH:" ++ l.hash) ∷ []) (fields_other (f ∷ fs) l.hash fine h.hash) in
+        let first = piece_first 32 (numbers_text l.number l.parts) (version_text l.version ++ 32 ∷ joined words) (numbers_lack l.number l.parts sa sb) in
+        let second = piece_first 32 (version_text l.version) (joined words) (word_lacks 32 l.version (lit< tt) h.version) in
+        let third = pieces_joined 32 f (fs ++ (codes "HASH:" ++ l.hash) ∷ []) (fields_lack (f ∷ fs) l.hash fine h.hash) in
         let all : pieces (link_text l) ≡ numbers_text l.number l.parts ∷ version_text l.version ∷ words =
         ap (λ (x : List ℕ). pieces x) (regroup l f fs e) ∙ (first ∙ ap (λ (x : List (List ℕ)). numbers_text l.number l.parts ∷ x) (second ∙ ap (λ (x : List (List ℕ)). version_text l.version ∷ x) third)) in
         let record_same : record { number = l.number; parts = l.parts; version = l.version; fields = f ∷ fs; hash = l.hash } ≡ l =

@@ -1,26 +1,25 @@
 -- A line is taken apart: its two numbers, its version, and its fields and hash.
-use Rattle.std.proofs.Common.{◌≡◌, ℕ, List, [], ◌∷◌, ◌++◌, ◌+◌, ◌-◌, ◌<◌, ◌≤◌, length, take, drop, Bool, true, false, not, Option, Some, None, refl, sym, ap, ◌∙◌, subst, inl, inr, arith, lit<, length-append}
+use Rattle.std.proofs.Common.{◌≡◌, ℕ, List, [], ◌∷◌, ◌++◌, ◌+◌, ◌-◌, ◌<◌, ◌≤◌, length, take, drop, Bool, true, false, Option, Some, None, refl, sym, ap, ◌∙◌, subst, inl, inr, arith, lit<, length-append}
 use Rattle.std.specs.Prelude.{codes, ◌==◌, ◌&&◌, nat_lt, position}
 use Rattle.std.specs.List.{slice_split, list_all, AllByRecursion, join_with_byte}
 use Rattle.std.specs.Option.{option_and_then, option_map}
 use Rattle.std.proofs.lemmas.Bool.Decides.{nat_tests}
 use Rattle.std.proofs.Math.Seq.{drop-append_seam}
 use Rattle.std.proofs.lemmas.List.Splits.{join_with_byte-slice_split}
-use Rattle.urna_base.specs.Digits.{decimal_value, is_digit}
-use Rattle.urna_base.specs.Words.{after_word, pieces}
+use Rattle.urna_base.specs.Digits.{decimal_value}
+use Rattle.urna_base.specs.Words.{after_word, pieces, joined}
 use Rattle.urna_base.proofs.DecimalLaws.{decimal_value-some}
 use Rattle.urna_base.proofs.DigitLaws.{both_from_and}
-use Rattle.urna_base.proofs.Lacking.{Lacks, is_other}
+use Rattle.urna_base.proofs.Lacking.{Lacks, digits_lack}
 use Rattle.urna_base.proofs.WordLaws.{after_word-append}
 use Rattle.urna_base.proofs.Cases.{and_then_some, guard_some, option_cases}
-use Rattle.urna_base.proofs.PieceLaws.{no_split, piece_last, split_first}
-use Rattle.hash_chain.proofs.LineLaws.{all_weaker, fields_other, joined_more, read_fields, split_joined, word_other}
+use Rattle.urna_base.proofs.PieceLaws.{no_split, piece_last, pieces_joined, split_first}
+use Rattle.hash_chain.proofs.LineLaws.{fields_lack, joined_more, read_fields, word_lacks}
 use Rattle.hash_chain.proofs.LinesBack.{fields_back, line_back}
 use Rattle.hash_chain.proofs.PieceLaws.{joined_pieces, some_piece}
 use Rattle.hash_chain.proofs.FileLaws.{is_word_of}
 use Rattle.hash_chain.proofs.Sizes.{hash_length}
 use Rattle.hash_chain.specs.Chain.{Link, hashed_text}
-use Rattle.hash_chain.specs.Cut.{joined}
 use Rattle.hash_chain.specs.Hash.{is_hash}
 use Rattle.hash_chain.specs.Lines.{fields_and_hash, is_field, is_word, link_in, link_of_pieces, only, two_numbers}
 use Rattle.hash_chain.specs.Reading.{link_by, made, numbers_in, tail_of, version_in}
@@ -37,14 +36,11 @@ pub second_none : (a b : Option ℕ) → b ≡ None → both_numbers a b ≡ Non
 second_none None b e = refl
 second_none (Some x) b e = rw e refl
 
-digit_no_colon : (x : ℕ) → is_digit x ≡ true → (λ (b : ℕ). not (b == 58)) x ≡ true
-digit_no_colon x h = grind (arith, nat_tests)
-
 two_behind : (a b : List ℕ) → two_numbers (a ∷ slice_split (λ x. x == 58) b) ≡ both_numbers (decimal_value a) (decimal_value b)
 two_behind a b = elim (option_cases (decimal_value b)) [
   | inr v ↦
       let digits = (decimal_value-some b v.0 v.1).0.all in
-      let one = piece_last 58 b (all_weaker is_digit (is_other 58) digit_no_colon b digits) in
+      let one = piece_last 58 b (digits_lack 58 b (inr (lit< tt)) digits) in
       ap (λ (l : List (List ℕ)). two_numbers (a ∷ l)) one
   | inl none ↦ of_pieces (slice_split (λ x. x == 58) b) (join_with_byte-slice_split 58 b) none
 ]
@@ -86,16 +82,16 @@ tail_read f h fine hash = of_pieces (pieces f) refl
         let are = all_fields (p ∷ ps) (subst P e fine) in
         let text : f ++ 32 ∷ w ≡ joined ((p ∷ ps) ++ w ∷ []) =
         ap (λ (t : List ℕ). t ++ 32 ∷ w) (sym (joined_pieces f) ∙ ap (λ (l : List (List ℕ)). joined l) e) ∙ sym (joined_more p ps w) in
-        let split : pieces (f ++ 32 ∷ w) ≡ (p ∷ ps) ++ w ∷ [] = ap (λ (t : List ℕ). pieces t) text ∙ split_joined 32 p (ps ++ w ∷ []) (fields_other (p ∷ ps) h are hash) in
+        let split : pieces (f ++ 32 ∷ w) ≡ (p ∷ ps) ++ w ∷ [] = ap (λ (t : List ℕ). pieces t) text ∙ pieces_joined 32 p (ps ++ w ∷ []) (fields_lack (p ∷ ps) h are hash) in
         let some : nat_lt 0 (length (p ∷ ps)) ≡ true = grind (arith, nat_tests) in
         rw (split, read_fields (p ∷ ps) h are hash, some) (ap (λ (l : List (List ℕ)). Some (l, h)) (sym e))
 
 words_of : (fs : List (List ℕ)) → AllByRecursion (λ f. is_field f ≡ true) fs → AllByRecursion (Lacks 32) fs
 words_of [] h = tt
-words_of (f ∷ fs) h = (word_other 32 f (lit< tt) (is_word_of f h.0), words_of fs h.1)
+words_of (f ∷ fs) h = (word_lacks 32 f (lit< tt) (is_word_of f h.0), words_of fs h.1)
 
 pieces_of_fields : (f : List ℕ) (fs : List (List ℕ)) → AllByRecursion (λ g. is_field g ≡ true) (f ∷ fs) → pieces (joined (f ∷ fs)) ≡ f ∷ fs
-pieces_of_fields f fs h = split_joined 32 f fs (words_of (f ∷ fs) h)
+pieces_of_fields f fs h = pieces_joined 32 f fs (words_of (f ∷ fs) h)
 
 pub record TailBack (rest : List ℕ) (x : List (List ℕ) × List ℕ) : Type 0 where
   pub fields : List ℕ

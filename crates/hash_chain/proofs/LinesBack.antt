@@ -15,13 +15,13 @@ use Rattle.urna_base.proofs.DigitLaws.{both_from_and}
 use Rattle.urna_base.proofs.Cases.{and_then_some, guard_some, map_some}
 use Rattle.urna_base.proofs.WordLaws.{after_word-some}
 use Rattle.hash_chain.specs.Chain.{Link, hashed_text, link_text, link_of}
-use Rattle.hash_chain.specs.Cut.{joined, part_size}
+use Rattle.hash_chain.specs.Cut.{part_size}
 use Rattle.hash_chain.specs.declared.fault.PartFault.TheVariants.{Version, Number, Hash, Cut}
 use Rattle.hash_chain.specs.Lines.{IsLink, only, is_word, is_field, two_numbers, fields_and_hash, link_of_pieces, link_in}
 use Rattle.hash_chain.specs.Hash.{is_hash, hash_text}
 use Rattle.hash_chain.specs.Fault.{failing_link, hash_before, fits_before}
 use Rattle.hash_chain.specs.declared.fault.PartFault.{PartFault}
-use Rattle.urna_base.specs.Words.{after_word, pieces}
+use Rattle.urna_base.specs.Words.{after_word, pieces, joined}
 use Rattle.hash_chain.proofs.LineLaws.{regroup, numbers_text, version_text}
 
 -- ---- readers backwards

@@ -1,5 +1,5 @@
 -- The pieces of a text, at a separator and behind it.
-use Rattle.std.proofs.Common.{◌≡◌, ◌≢◌, ℕ, zero, suc, List, [], ◌∷◌, ◌++◌, ◌+◌, ◌<◌, ◌≤◌, length, take, drop, get_or, Bool, true, false, not, Some, None, refl, sym, ap, ◌∙◌, arith}
+use Rattle.std.proofs.Common.{◌≡◌, ◌≢◌, ℕ, zero, suc, List, [], ◌∷◌, ◌++◌, ◌+◌, ◌<◌, ◌≤◌, length, take, drop, get_or, Bool, true, false, not, Some, None, refl, sym, ap, ◌∙◌, arith, lit<}
 use Rattle.std.specs.Prelude.{◌==◌, ◌&&◌, position, nat_lt, codes, is_none}
 use Rattle.std.specs.List.{slice_split, position_or_len, onto_first, list_all}
 use Rattle.std.proofs.lemmas.Bool.{ltb-true, ltb-false}
@@ -7,12 +7,11 @@ use Rattle.std.proofs.lemmas.Bool.Decides.{nat_tests}
 use Rattle.std.proofs.lemmas.List.{take-append-drop}
 use Rattle.std.proofs.lemmas.List.Splits.{slice_split-cons_no, length-slice_split, join_with_byte-slice_split}
 use Rattle.std.proofs.lemmas.List.Sums.{fails_before_first, passes_at_first}
-use Rattle.urna_base.specs.Words.{after_word, pieces}
+use Rattle.urna_base.specs.Words.{after_word, pieces, joined}
 use Rattle.urna_base.proofs.DigitLaws.{both_from_and, some_from_test}
 use Rattle.urna_base.proofs.Cases.{guard_none}
-use Rattle.urna_base.proofs.Lacking.{Lacks, is_other}
+use Rattle.urna_base.proofs.Lacking.{Lacks, is_other, seen_lack}
 use Rattle.urna_base.proofs.PieceLaws.{piece_first, piece_last}
-use Rattle.hash_chain.specs.Cut.{joined}
 use Rattle.hash_chain.specs.Lines.{is_field}
 use Rattle.hash_chain.specs.Reading.{is_printed}
 
@@ -73,25 +72,18 @@ at_place [] end h = absurd (omega arith)
 at_place (x ∷ t) zero h = refl
 at_place (x ∷ t) (suc n) h = let next : suc n + 1 ≡ suc (n + 1) = omega arith in rw next (at_place t n (omega arith))
 
-no_space : (x : ℕ) → is_printed x ≡ true → is_other 32 x ≡ true
-no_space x h = grind (arith, nat_tests)
-
-spaces_none : (t : List ℕ) → list_all is_printed t ≡ true → Lacks 32 t
-spaces_none [] h = refl
-spaces_none (x ∷ t) h = let both = both_from_and (is_printed x) (list_all is_printed t) h in rw (no_space x both.0, spaces_none t both.1) refl
-
 -- printed bytes to the end are one piece
 pub whole_word : (text : List ℕ) (end : ℕ) → end ≡ length text → list_all is_printed (take end text) ≡ true → (pieces text ≡ text ∷ []) × (list_all is_printed text ≡ true)
 whole_word text end e h =
     let all : list_all is_printed text ≡ true = ap (λ (t : List ℕ). list_all is_printed t) (sym (ap (λ (n : ℕ). take n text) e ∙ take_all text)) ∙ h in
-    (piece_last 32 text (spaces_none text all), all)
+    (piece_last 32 text (seen_lack 32 text (lit< tt) all), all)
 
 -- printed bytes to a space are the first piece
 pub word_cut : (text : List ℕ) (end : ℕ) → end < length text → get_or text end 0 ≡ 32 → list_all is_printed (take end text) ≡ true → pieces text ≡ take end text ∷ pieces (drop (end + 1) text)
 word_cut text end within space h =
     let cut_here : text ≡ take end text ++ 32 ∷ drop (end + 1) text =
     sym (take-append-drop end text) ∙ ap (λ (l : List ℕ). take end text ++ l) (at_place text end within ∙ ap (λ (x : ℕ). x ∷ drop (end + 1) text) space) in
-    ap (λ (t : List ℕ). pieces t) cut_here ∙ piece_first 32 (take end text) (drop (end + 1) text) (spaces_none (take end text) h)
+    ap (λ (t : List ℕ). pieces t) cut_here ∙ piece_first 32 (take end text) (drop (end + 1) text) (seen_lack 32 (take end text) (lit< tt) h)
 
 -- the first piece goes on behind bytes that are no spaces
 goes_on : (w t : List ℕ) → Lacks 32 w → (p : List ℕ) × (ps : List (List ℕ)) × (pieces (w ++ t) ≡ (w ++ p) ∷ ps) × (pieces t ≡ p ∷ ps)
@@ -127,7 +119,7 @@ pub word_broken : (text : List ℕ) (end : ℕ) → end < length text → get_or
 word_broken text end within space bad h =
     let c : ℕ = get_or text end 0 in
     let cut_here : text ≡ take end text ++ c ∷ drop (end + 1) text = sym (take-append-drop end text) ∙ ap (λ (l : List ℕ). take end text ++ l) (at_place text end within) in
-    let first = goes_on (take end text) (c ∷ drop (end + 1) text) (spaces_none (take end text) h) in
+    let first = goes_on (take end text) (c ∷ drop (end + 1) text) (seen_lack 32 (take end text) (lit< tt) h) in
     let no : is_other 32 c ≡ true = grind (arith, nat_tests) in
     let one : Lacks 32 (c ∷ []) = rw no refl in
     let second = goes_on (c ∷ []) (drop (end + 1) text) one in

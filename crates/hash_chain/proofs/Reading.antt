@@ -1,8 +1,8 @@
 -- A device of proofs: a file is read line by line, as the code reads it. No contract names it.
 use Rattle.std.specs.Prelude.{ℕ, ◌+◌, ◌&&◌, ◌==◌, nat_lt, if◌then◌else◌, List, [], ◌∷◌, length, Option, None, Some, Result, Ok, Err}
 use Rattle.std.specs.List.{flat_map}
+use Rattle.urna_base.specs.Words.{joined}
 use Rattle.hash_chain.specs.Chain.{Link}
-use Rattle.hash_chain.specs.Cut.{joined}
 use Rattle.hash_chain.specs.Fault.{failing_link}
 use Rattle.hash_chain.specs.Lines.{feeds_in, link_in, rows}
 use Rattle.hash_chain.specs.declared.fault.PartFault.{PartFault}

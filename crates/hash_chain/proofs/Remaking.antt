@@ -8,9 +8,11 @@ use Rattle.std.proofs.lemmas.Bool.{ltb-true}
 use Rattle.urna_base.proofs.DigitLaws.{both_from_and}
 use Rattle.urna_base.proofs.Cases.{option_cases, result_cases}
 use Rattle.urna_base.proofs.Lacking.{Lacks}
-use Rattle.urna_base.specs.Words.{pieces}
+use Rattle.urna_base.proofs.PieceLaws.{pieces_joined}
+use Rattle.urna_base.specs.Words.{pieces, joined}
+use Rattle.urna_base.proofs.Every.{every_append}
 use Rattle.hash_chain.specs.Chain.{Link, link_text, link_of, links_from, links_text, parts_text}
-use Rattle.hash_chain.specs.Cut.{joined, part_size, IsFull, AreFull, IsCut, cut}
+use Rattle.hash_chain.specs.Cut.{part_size, IsFull, AreFull, IsCut, cut}
 use Rattle.hash_chain.specs.declared.fault.PartFault.TheVariants.{Form}
 use Rattle.hash_chain.specs.Lines.{IsLink, is_field, link_in, feeds_in}
 use Rattle.hash_chain.specs.Fault.{failing_link, hash_before, fits_before, AreFields}
@@ -18,7 +20,7 @@ use Rattle.hash_chain.proofs.Reading.{read_from, lines_read, text_of_lines}
 use Rattle.hash_chain.specs.Laws.{LinksAreSpelled}
 use Rattle.hash_chain.specs.declared.fault.PartFault.{PartFault}
 use Rattle.hash_chain.proofs.CutLaws.{one_cut}
-use Rattle.hash_chain.proofs.LineLaws.{split_joined, word_other, lines_are_read}
+use Rattle.hash_chain.proofs.LineLaws.{word_lacks, lines_are_read}
 use Rattle.hash_chain.proofs.FileLaws.{length_lines, Few, is_word_of, read_step}
 use Rattle.hash_chain.proofs.LinesBack.{line_back, Fine, fine}
 
@@ -144,7 +146,10 @@ flat_fields : (ls : List Link) → flat_map (λ l. l.fields) ls ≡ flat_map (λ
 flat_fields [] = refl
 flat_fields (l ∷ ls) = ap (λ (x : List (List ℕ)). l.fields ++ x) (flat_fields ls)
 
-fit_in : (fs : List (List ℕ)) → Few fs → length (joined fs) ≤ part_size → AllByRecursion (λ f. (is_field f ≡ true) × (length f ≤ part_size)) fs
+abbrev Fits : List ℕ → Type 0
+Fits f = (is_field f ≡ true) × (length f ≤ part_size)
+
+fit_in : (fs : List (List ℕ)) → Few fs → length (joined fs) ≤ part_size → AllByRecursion Fits fs
 fit_in [] h w = tt
 fit_in (f ∷ []) h w = ((h.0, w), tt)
 fit_in (f ∷ g ∷ fs) h w =
@@ -153,23 +158,18 @@ fit_in (f ∷ g ∷ fs) h w =
     let rest : length (joined (g ∷ fs)) ≤ part_size = omega arith in
     ((h.0, first), fit_in (g ∷ fs) h.1 rest)
 
-fit_append : (a b : List (List ℕ)) → AllByRecursion (λ f. (is_field f ≡ true) × (length f ≤ part_size)) a → AllByRecursion (λ f. (is_field f ≡ true) × (length f ≤ part_size)) b
-    → AllByRecursion (λ f. (is_field f ≡ true) × (length f ≤ part_size)) (a ++ b)
-fit_append [] b h g = g
-fit_append (x ∷ a) b h g = (h.0, fit_append a b h.1 g)
-
 chain_fields : (n i : ℕ) (before : Option Link) (ls : List Link) → Chain n i before ls
-    → AllByRecursion (λ f. (is_field f ≡ true) × (length f ≤ part_size)) (flat_map (λ l. l.fields) ls)
+    → AllByRecursion Fits (flat_map (λ l. l.fields) ls)
 chain_fields n i before [] h = tt
-chain_fields n i before (l ∷ ls) h = fit_append l.fields (flat_map (λ m. m.fields) ls) (fit_in l.fields h.0.fields h.1.within) (chain_fields n (i + 1) (Some l) ls h.2)
+chain_fields n i before (l ∷ ls) h = every_append Fits l.fields (flat_map (λ m. m.fields) ls) (fit_in l.fields h.0.fields h.1.within) (chain_fields n (i + 1) (Some l) ls h.2)
 
-words : (fs : List (List ℕ)) → AllByRecursion (λ f. (is_field f ≡ true) × (length f ≤ part_size)) fs → AllByRecursion (Lacks 32) fs
+words : (fs : List (List ℕ)) → AllByRecursion Fits fs → AllByRecursion (Lacks 32) fs
 words [] h = tt
-words (f ∷ fs) h = (word_other 32 f (lit< tt) (is_word_of f h.0.0), words fs h.1)
+words (f ∷ fs) h = (word_lacks 32 f (lit< tt) (is_word_of f h.0.0), words fs h.1)
 
-pieces_of : (fs : List (List ℕ)) → 0 < length fs → AllByRecursion (λ f. (is_field f ≡ true) × (length f ≤ part_size)) fs → pieces (joined fs) ≡ fs
+pieces_of : (fs : List (List ℕ)) → 0 < length fs → AllByRecursion Fits fs → pieces (joined fs) ≡ fs
 pieces_of [] some h = absurd (omega arith)
-pieces_of (f ∷ fs) some h = split_joined 32 f fs (words (f ∷ fs) h)
+pieces_of (f ∷ fs) some h = pieces_joined 32 f fs (words (f ∷ fs) h)
 
 some_fields : (n i : ℕ) (before : Option Link) (ls : List Link) → Chain n i before ls → 0 < length ls → 0 < length (flat_map (λ l. l.fields) ls)
 some_fields n i before [] h some = absurd (omega arith)

@@ -2,8 +2,8 @@
 use Rattle.std.proofs.Common.{◌≡◌, ℕ, List, [], ◌∷◌, ◌++◌, map, length, refl, Some, None}
 use Rattle.std.specs.Prelude.{codes, replicate}
 use Rattle.urna_base.specs.Digits.{decimal_value}
-use Rattle.urna_base.specs.Words.{pieces}
-use Rattle.hash_chain.specs.Cut.{cut, joined}
+use Rattle.urna_base.specs.Words.{pieces, joined}
+use Rattle.hash_chain.specs.Cut.{cut}
 use Rattle.hash_chain.specs.Fault.{failing_link, fault_at_link, rows_read}
 use Rattle.hash_chain.specs.Lines.{link_in}
 use Rattle.hash_chain.specs.declared.fault.PartFault.TheVariants as fault

@@ -8,11 +8,11 @@ use Rattle.std.proofs.lemmas.List.Sums.{sum_by-cons}
 use Rattle.std.proofs.lemmas.Bool.Decides.{nat_tests}
 use Rattle.urna_base.proofs.DecimalLaws.{decimal_value-decimal, decimal_value-some}
 use Rattle.urna_base.proofs.DigitLaws.{both_from_and}
-use Rattle.urna_base.specs.Words.{pieces}
+use Rattle.urna_base.specs.Words.{pieces, joined}
 use Rattle.hash_chain.proofs.CutLaws.{few_parts, one_cut, part_bytes}
 use Rattle.hash_chain.proofs.HashLaws.{hashes}
 use Rattle.hash_chain.specs.Chain.{Link, link_text, links_from, links_text, link_of, hashed_text, parts_text}
-use Rattle.hash_chain.specs.Cut.{cut, joined}
+use Rattle.hash_chain.specs.Cut.{cut}
 use Rattle.hash_chain.specs.Fault.{AreFields, ArePartsOf}
 use Rattle.hash_chain.specs.Hash.{is_hash, is_hex}
 use Rattle.hash_chain.specs.Laws.{FewBytes}

@@ -1,8 +1,8 @@
 -- The file of a field text: one line for each part, each with a hash that goes on from that of the line before.
 use Rattle.std.specs.Prelude.{ℕ, ◌+◌, List, [], ◌∷◌, ◌++◌, length, codes}
 use Rattle.std.specs.Fmt.{decimal}
-use Rattle.urna_base.specs.Words.{pieces}
-use Rattle.hash_chain.specs.Cut.{cut, joined}
+use Rattle.urna_base.specs.Words.{pieces, joined}
+use Rattle.hash_chain.specs.Cut.{cut}
 use Rattle.hash_chain.specs.Hash.{hash_text}
 
 -- what the line of a part says: which part of how many it is, its version, its fields and its hash

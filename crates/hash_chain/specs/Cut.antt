@@ -1,10 +1,7 @@
 -- The fields of a text, cut into parts (docs/FORMATS.md, "Parts").
 use Rattle.std.specs.Prelude.{◌≡◌, ℕ, ◌+◌, ◌<◌, ◌≤◌, nat_le, if◌then◌else◌, List, [], ◌∷◌, ◌++◌, length}
-use Rattle.std.specs.List.{AllByRecursion, flat_map, join_with_byte}
-
--- fields with single spaces between them
-abbrev pub joined : List (List ℕ) → List ℕ
-joined fields = join_with_byte 32 fields
+use Rattle.std.specs.List.{AllByRecursion, flat_map}
+use Rattle.urna_base.specs.Words.{joined}
 
 -- how many bytes the fields of a part have at most, with the spaces between them
 abbrev pub part_size : ℕ

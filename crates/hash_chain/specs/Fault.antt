@@ -2,9 +2,9 @@
 use Rattle.std.specs.Prelude.{◌≡◌, ℕ, ◌+◌, ◌-◌, ◌<◌, ◌≤◌, Bool, true, false, not, ◌&&◌, ◌||◌, ◌==◌, nat_le, nat_lt, if◌then◌else◌, List, [], ◌∷◌, ◌++◌, length, Option, Some, None}
 use Rattle.std.specs.List.{AllByRecursion}
 use Rattle.std.specs.Str.{bytes_eq}
-use Rattle.urna_base.specs.Words.{pieces}
+use Rattle.urna_base.specs.Words.{pieces, joined}
 use Rattle.hash_chain.specs.Chain.{Link, hashed_text, parts_text, chain_version}
-use Rattle.hash_chain.specs.Cut.{joined, part_size}
+use Rattle.hash_chain.specs.Cut.{part_size}
 use Rattle.hash_chain.specs.Hash.{hash_text}
 use Rattle.hash_chain.specs.Lines.{feeds_in, is_field, last_row, link_at, rows}
 use Rattle.hash_chain.specs.declared.fault.PartFault.{PartFault}

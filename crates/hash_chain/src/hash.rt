@@ -9,7 +9,7 @@ use std::alloc::Global;
 use urna_base::Memory;
 
 /// How many characters a hash has.
-pub(crate) const HASH_SIZE: usize = 128;
+pub const HASH_SIZE: usize = 128;
 
 /// The hash of a part's text, which goes on from the hash of the part before it: from nothing at the first part.
 #[tactic(auto, unfolding(crate::specs::Hash::hash_text))]

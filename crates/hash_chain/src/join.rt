@@ -1,9 +1,9 @@
 //! A file of parts is read.
 ghost use Rattle.std.specs.Prelude.{◌≡◌, ◌≢◌, ◌==◌, ◌+◌, ◌<◌, ◌^◌, ◌++◌, ◌∷◌, [], ℕ, List, length, nat_le, nat_lt, ◌&&◌, position, IfOk, IfSome, MatchOption, MatchResult, OnOk, Err, None, Some};
 ghost use Rattle.std.specs.Str.{bytes_eq};
-ghost use Rattle.urna_base.specs.Words.{pieces};
+ghost use Rattle.urna_base.specs.Words.{pieces, joined};
 ghost use Rattle.hash_chain.specs.Chain.{chain_version, hashed_text};
-ghost use Rattle.hash_chain.specs.Cut.{joined, part_size};
+ghost use Rattle.hash_chain.specs.Cut.{part_size};
 ghost use Rattle.hash_chain.specs.Fault.{ArePartsOf, IsPartFault, failing_link, fault_of_link, fits_before, hash_before};
 ghost use Rattle.hash_chain.specs.Hash.{hash_text};
 ghost use Rattle.hash_chain.specs.Lines.{feeds_in, link_in, rows};

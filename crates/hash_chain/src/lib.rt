@@ -15,5 +15,6 @@ mod line;
 mod make;
 
 pub use fault::{PartError, PartFault};
+pub use hash::HASH_SIZE;
 pub use join::join_parts;
 pub use make::{count_parts, make_parts};

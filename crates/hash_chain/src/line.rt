@@ -36,7 +36,7 @@ pub(crate) fn read_link(row: &[u8]) -> Option<Link<'_>>
     ensures link { MatchOption result (link_in row.now ≡ None) (λ l. link_in row.now ≡ Some (said l)) }
     ensures text { IfSome result (λ l. l.text.now ≡ hashed_text (said l)) }
 {
-    let (heading, version, tail) = split_line(row)?;
+    let (heading, version, tail) = split_pieces(row)?;
     let (number, parts) = numbers_of(heading)?;
     let version = version_of(version)?;
     let (fields, hash) = split_hash(tail)?;
@@ -52,7 +52,7 @@ pub(crate) fn read_link(row: &[u8]) -> Option<Link<'_>>
 }
 
 /// The first two pieces of a line, and what stands behind them.
-fn split_line(row: &[u8]) -> Option<(&[u8], &[u8], &[u8])>
+fn split_pieces(row: &[u8]) -> Option<(&[u8], &[u8], &[u8])>
     ensures { MatchOption result (link_in row.now ≡ None) (λ x. link_in row.now ≡ link_by (numbers_in x.0.now) (version_in x.1.now) (tail_of x.2.now)) }
 {
     let (heading, behind) = split_piece(row);

@@ -10,7 +10,7 @@ use crate::cut::split_part;
 use crate::hash::hash_of;
 use crate::line::VERSION;
 use std::alloc::Global;
-use urna_base::{Memory, put_decimal};
+use urna_base::{Memory, put_numbered};
 
 /// The file of a field text: its parts, one line for each (docs/FORMATS.md, "Parts").
 ///
@@ -95,10 +95,8 @@ fn put_hash(out: &mut Vec<u8>, hash: &[u8]) -> Result<(), Memory>
 fn put_text(out: &mut Vec<u8>, parts: u64, number: u64, fields: &[u8]) -> Result<(), Memory>
     ensures { OnOk result (out.new.items ≡ out.old.items ++ plain_text parts number fields.now) }
 {
-    out.extend_from_slice(b"QRBU:")?;
-    put_decimal(out, number)?;
-    out.push(b':')?;
-    put_decimal(out, parts)?;
+    put_numbered(out, b"QRBU:", number)?;
+    put_numbered(out, b":", parts)?;
     out.extend_from_slice(b" VRQR:")?;
     out.extend_from_slice(&VERSION)?;
     out.push(b' ')?;

@@ -3,6 +3,7 @@ use Rattle.std.proofs.Common.{◌≡◌, ℕ, zero, suc, ◌+◌, ◌*◌, ◌<�
 use Rattle.std.specs.List.{AllByRecursion, slice_index}
 use Rattle.std.proofs.lemmas.List.{drop-drop, drop_more, take_more, length-take-le}
 use Rattle.std.proofs.lemmas.Option.{cond_some}
+use Rattle.urna_base.proofs.Every.{every_take}
 use Rattle.urna_base.proofs.Cases.{and_then_some, guard_some, map_some}
 use Rattle.election_tables.specs.TablesData.{TablesData, places_at}
 use Rattle.vote_kinds.specs.declared.choice.Choice.{Choice}
@@ -54,15 +55,10 @@ vote_of_bag line n i bytes rest d lt is e =
     ∙ vote_found line (choice.Nominal 0) n i (drop 4 bytes) (unwrap_or (bag_in line n bytes) []) d lt
     (starts_votes line n bytes (unwrap_or (bag_in line n bytes) []) (value_of (bag_in line n bytes) [] is))
 
-all_take : (P : Choice → Type 0) (i : ℕ) (bag : List Choice) → AllByRecursion P bag → AllByRecursion P (take i bag)
-all_take P zero bag all = tt
-all_take P (suc i) [] all = tt
-all_take P (suc i) (c ∷ bag) all = (all.0, all_take P i bag all.1)
-
 order_take : (i : ℕ) (bag : List Choice) → IsInOrder bag → IsInOrder (take i bag)
 order_take zero bag order = tt
 order_take (suc i) [] order = tt
-order_take (suc i) (c ∷ bag) order = (all_take (λ d. choice_le c d ≡ true) i bag order.0, order_take i bag order.1)
+order_take (suc i) (c ∷ bag) order = (every_take (λ d. choice_le c d ≡ true) i bag order.0, order_take i bag order.1)
 
 pub all_get : (P : Choice → Type 0) (bag : List Choice) (i : ℕ) (d : Choice) → AllByRecursion P bag → i < length bag → P (get_or bag i d)
 all_get P [] i d all lt = absurd (omega arith)

@@ -8,6 +8,7 @@ use Rattle.std.proofs.lemmas.List.{drop-drop, drop_at, take-append-drop, length-
 use Rattle.std.proofs.lemmas.List.Sums.{count_by-le-length, sum_by-cons}
 use Rattle.std.proofs.lemmas.Nat.{from_be_bytes-to_be_bytes_4}
 use Rattle.std.proofs.lemmas.Option.{cond_some}
+use Rattle.urna_base.proofs.Every.{every_append}
 use Rattle.urna_base.proofs.Cases.{and_then_some, map_some}
 use Rattle.election_tables.specs.Limits.{most_voters}
 use Rattle.vote_kinds.specs.declared.choice.Choice.{Choice}
@@ -16,7 +17,7 @@ use Rattle.vote_kinds.specs.Choice.{AreRising, is_same}
 use Rattle.vote_kinds.proofs.LineChoices.{choices_are}
 use Rattle.vote_record.specs.Bag.{IsInOrder, count_of}
 use Rattle.vote_record.specs.Counters.{bag_with, counts_of}
-use Rattle.vote_record.proofs.Bags.{all_append, all_replicate}
+use Rattle.vote_record.proofs.Bags.{all_replicate}
 use Rattle.vote_record.proofs.Counting.{all_among, bag_of_counts, counts_of_bag, order_bag_with, length_bag_with}
 use Rattle.image_codec.specs.Encoding.{counter_bytes}
 use Rattle.image_codec.specs.Numbers.{are_zero, counters_in, number4_at}
@@ -68,7 +69,7 @@ among : (line : BallotLine) (choices : List Choice) (counts : List ℕ) → AreO
 among line [] counts all = tt
 among line (c ∷ choices) [] all = tt
 among line (c ∷ choices) (n ∷ counts) all =
-    all_append (λ d. is_choice line d ≡ true) (replicate n c) (bag_with choices counts) (all_replicate (λ d. is_choice line d ≡ true) n c all.0) (among line choices counts all.1)
+    every_append (λ d. is_choice line d ≡ true) (replicate n c) (bag_with choices counts) (all_replicate (λ d. is_choice line d ≡ true) n c all.0) (among line choices counts all.1)
 
 pub record TakesCounted (line : BallotLine) (n : ℕ) (bytes : List ℕ) (bag : List Choice) : Type 0 where
   pub text : bytes ≡ counter_bytes (line, bag) ++ drop (4 * length (choices_of line)) bytes

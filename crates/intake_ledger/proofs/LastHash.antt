@@ -7,9 +7,9 @@ use Rattle.hex.specs.Hex.{IsBytes, decode_sized, encode_upper, upper_digits}
 use Rattle.hex.proofs.HexLemmas.{decode_of-encode_upper, decode_sized-twice, length-encode_with}
 use Rattle.sha2.specs.Sha512.{sha512}
 use Rattle.sha2.proofs.Facts512.{length-sha512}
-use Rattle.urna_base.specs.Words.{pieces}
+use Rattle.urna_base.specs.Words.{pieces, joined}
 use Rattle.hash_chain.specs.Chain.{Link, chain_version, hashed_text, link_of, links_from, links_text, parts_text}
-use Rattle.hash_chain.specs.Cut.{cut, cut_after, joined, part_size}
+use Rattle.hash_chain.specs.Cut.{cut, cut_after, part_size}
 use Rattle.hash_chain.specs.Fault.{ArePartsOf}
 use Rattle.hash_chain.specs.Hash.{hash_text}
 use Rattle.intake_ledger.specs.LastHash.{IsLastHash, last_hash, lines_of_parts, lines_of_text}

@@ -1,17 +1,12 @@
 -- The header of a ledger's flash
 use Rattle.std.specs.Prelude.{ℕ, List, [], ◌∷◌, ◌++◌, codes, replicate}
 use Rattle.urna_outside.specs.declared.device.Dev.{Dev}
-use Rattle.urna_outside.specs.declared.device.Dev.TheVariants.{Internal, External}
 use Rattle.election_tables.specs.TablesData.{TablesData}
+use Rattle.flash_store.specs.Device.{device_byte}
 
 -- the eight bytes with which each header begins
 abbrev pub magic : List ℕ
 magic = codes "URNALG" ++ 0 ∷ 0 ∷ []
-
--- the byte that names the device
-abbrev pub device_byte : Dev → ℕ
-device_byte Internal = 1
-device_byte External = 2
 
 -- how many zeros fill a header up
 abbrev pub header_zeros : ℕ

@@ -9,10 +9,9 @@ use crate::layout::{
     BODY_SIZE, HASH_SIZE, HASHES_OFFSET, MARKED_SECTIONS, MARKS_END, MARKS_OFFSET, NUMBER_OFFSET,
     SUM_SIZE, SUMS_OFFSET, VERSION,
 };
-use crate::zero::is_zero;
 use election_tables::Tables;
 use poll_report::GREATEST_COUNT;
-use urna_base::{be32, be64};
+use urna_base::{be32, be64, is_zero};
 
 /// How many sections have a report, as a body says it.
 pub(crate) fn number_in(bytes: &[u8]) -> u32

@@ -1,9 +1,10 @@
 //! The header of a ledger's flash.
 ghost use Rattle.std.specs.Prelude.{◌≡◌};
-ghost use Rattle.intake_ledger.specs.Header.{device_byte, header};
+ghost use Rattle.intake_ledger.specs.Header.{header};
 
 use arrayvec::ArrayVec;
 use election_tables::Tables;
+use flash_store::device_byte;
 use gate_slot::HEADER_SIZE;
 use urna_outside::Dev;
 
@@ -24,13 +25,4 @@ pub(crate) fn header(tables: &Tables, dev: Dev) -> [u8; HEADER_SIZE]
     bytes.try_extend_from_slice(&tables.digest()).unwrap();
     bytes.try_extend_from_slice(&[0; HEADER_ZEROS]).unwrap();
     bytes.into_inner().unwrap()
-}
-
-fn device_byte(dev: Dev) -> u8
-    ensures { result ≡ device_byte dev }
-{
-    match dev {
-        Dev::Internal => 1,
-        Dev::External => 2,
-    }
 }

@@ -7,7 +7,7 @@ use crate::layout::HASH_SIZE;
 use hex::decode_to_slice;
 
 /// How many characters a hash has.
-const HASH_TEXT: usize = 128;
+const HASH_TEXT: usize = hash_chain::HASH_SIZE;
 
 /// How many bytes stand from where the last one begins up to the end of the file: the hash and a line feed.
 const TAIL: usize = HASH_TEXT + 1;

@@ -25,7 +25,6 @@ mod ledger;
 mod ranks;
 mod room;
 mod sums;
-mod zero;
 
 pub use layout::{BODY_SIZE, DEVICE_SIZE};
 pub use ledger::{Ledger, LedgerError, OfferError};

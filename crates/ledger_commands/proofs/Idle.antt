@@ -13,7 +13,8 @@ use Rattle.gate_slot.specs.Slot.{header_size}
 use Rattle.flash_store.specs.Syncs.{IsFrontOfSyncs, IsUntouched, both_synced}
 use Rattle.intake_ledger.specs.Body.{StandsFor}
 use Rattle.intake_ledger.specs.Calls.{FailsToFormat, FailsToOpen}
-use Rattle.intake_ledger.specs.Header.{device_byte, header, header_zeros, magic}
+use Rattle.flash_store.specs.Device.{device_byte}
+use Rattle.intake_ledger.specs.Header.{header, header_zeros, magic}
 use Rattle.intake_ledger.specs.Kept.{AreFound, HasFrameOf, IsBegun, IsInUse, ledgers}
 use Rattle.intake_ledger.specs.Ledger.{LedgerData, accepted_in, panel_choices}
 use Rattle.intake_ledger.specs.Totals.{TotalsData}

@@ -4,12 +4,12 @@ use Rattle.std.specs.Fmt.{decimal}
 use Rattle.std.specs.Prelude.{codes}
 use Rattle.std.proofs.lemmas.List.{drop_all, length-append}
 use Rattle.std.specs.Prelude.{slice_index_or}
+use Rattle.urna_base.proofs.Every.{every_append}
 use Rattle.urna_outside.specs.Cabinet.{CabinetTold, Files}
 use Rattle.urna_outside.specs.Told.{Told}
 use Rattle.election_tables.specs.TablesData.{IsTables, TablesData}
 use Rattle.section_intake.specs.Accepted.{File}
 use Rattle.section_intake.specs.declared.verdict.Verdict.{Verdict}
-use Rattle.section_intake.proofs.Members.{all_append}
 use Rattle.flash_store.specs.Pieces.{AreFull, Piece, state_after}
 use Rattle.flash_store.specs.Played.{HasPut, HasStopped}
 use Rattle.flash_store.proofs.Counting.{state_after-append}
@@ -52,7 +52,7 @@ full_line k v = some_behind (decimal k ++ codes " ") (verdict_line v) (some_behi
 pub full_pieces : (t : TablesData) (l m : LedgerData) (files : List File) (verdicts : List Verdict) (pieces : List (Piece LedgerData)) → AreOfferedTo t l files verdicts pieces m → AreFull pieces
 full_pieces t l _ _ _ _ none_offered = tt
 full_pieces t l _ _ _ _ (one_more {files} {verdicts} {pieces} {m} {k} {file} {v} before offer) =
-    all_append (λ (piece : Piece LedgerData). 0 < length piece.line) pieces (offer_piece (length files + 1) v k ∷ []) (full_pieces t l m files verdicts pieces before) (full_line (length files + 1) v, tt)
+    every_append (λ (piece : Piece LedgerData). 0 < length piece.line) pieces (offer_piece (length files + 1) v k ∷ []) (full_pieces t l m files verdicts pieces before) (full_line (length files + 1) v, tt)
 
 -- behind an offer stands the ledger that it leaves
 left_by : (t : TablesData) (m k : LedgerData) (file : File) (v : Verdict) → IsOffer t m file v k → unwrap_or (told_by v k) m ≡ k

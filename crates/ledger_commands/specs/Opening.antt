@@ -1,7 +1,7 @@
 -- The ledger that the flashes hold is opened, and what is put out from it on
 use Rattle.std.specs.Prelude.{◌≡◌, ℕ, List, [], ◌∷◌, ◌++◌, codes}
-use Rattle.std.specs.Fmt.{decimal}
 use Rattle.std.specs.Option.{ForSome}
+use Rattle.urna_base.specs.Lines.{number_line}
 use Rattle.urna_outside.specs.Faults.{IsFaultless}
 use Rattle.urna_outside.specs.Flash.{Op}
 use Rattle.urna_outside.specs.Told.{Runs, Told}
@@ -14,7 +14,7 @@ use Rattle.intake_ledger.specs.Ledger.{LedgerData, accepted_in}
 
 -- the line that tells how many sections of a ledger are accepted
 abbrev pub ledger_line : ℕ → List ℕ
-ledger_line accepted = codes "LIVRO " ++ decimal accepted ++ 10 ∷ []
+ledger_line accepted = number_line (codes "LIVRO ") accepted
 
 -- it as a piece, which tells no new ledger
 abbrev pub opening : LedgerData → List (Piece LedgerData)

@@ -1,21 +1,20 @@
 //! The lines that tell a ledger.
-ghost use Rattle.std.specs.Prelude.{◌≡◌, ◌++◌, ◌<◌, ◌≤◌, ◌^◌, length, map, IfOk, OnOk};
+ghost use Rattle.std.specs.Prelude.{◌≡◌, ◌++◌, ◌<◌, ◌≤◌, ◌^◌, length, IfOk, OnOk};
 ghost use Rattle.election_tables.specs.Limits.{most_candidates};
 ghost use Rattle.election_tables.specs.TablesData.{IsTables};
 ghost use Rattle.intake_ledger.specs.Ledger.{LedgerData};
 ghost use Rattle.intake_ledger.specs.Totals.{AreTotals};
-ghost use Rattle.seat_remainders.specs.Parties.{nominal_votes};
-ghost use Rattle.totals.specs.Lines.{candidate_line, total_of};
+ghost use Rattle.totals.specs.Lines.{total_of};
 ghost use Rattle.vote_kinds.specs.Ballot.{panel_at};
 ghost use Rattle.ledger_commands.specs.Lines.{entries_told, ledger_lines, panel_lines, votes_told};
 ghost use Rattle.ledger_commands.specs.Opening.{ledger_line};
 
 use election_tables::Tables;
 use intake_ledger::Totals;
-use seat_remainders::{Entries, Entry};
+use seat_remainders::{Entries, Entry, nominal_votes};
 use std::alloc::Global;
-use totals::{PanelVotes, candidate_line, number_line, office_line, section_line};
-use urna_base::{LineBuffer, Memory};
+use totals::{PanelVotes, office_line, push_candidates, section_line};
+use urna_base::{LineBuffer, Memory, number_line};
 
 /// The line that tells how many sections of a ledger are accepted.
 pub(crate) fn ledger_line(accepted: u32) -> LineBuffer
@@ -64,16 +63,6 @@ fn push_panel(
     push_candidates(lines, entries.as_slice())
 }
 
-/// One line for each candidate.
-fn push_candidates(lines: &mut Vec<LineBuffer>, entries: &[Entry]) -> Result<(), Memory>
-    ensures { OnOk result (lines.new.items ≡ lines.old.items ++ map candidate_line entries.now) }
-{
-    for entry in entries {
-        lines.push(candidate_line(*entry))?;
-    }
-    Ok(())
-}
-
 /// The candidates of a panel, rising, with their sums.
 fn entries_of(alloc: Global, tables: &Tables, sums: &Totals, panel: u32) -> Result<Entries, Memory>
     requires panel { panel < length tables.now.panels }
@@ -107,14 +96,6 @@ fn votes_of(tables: &Tables, sums: &Totals, panel: u32, entries: &[Entry]) -> Pa
         blank: sums.blank(panel),
         null_votes: sums.null_votes(panel),
     }
-}
-
-/// The votes of all these candidates.
-fn nominal_votes(entries: &[Entry]) -> u64
-    requires { nominal_votes entries.now < 10 ^ 11 }
-    ensures { result ≡ nominal_votes entries.now }
-{
-    entries.iter().map(|entry| entry.votes).sum()
 }
 
 /// The party votes of all parties in a panel.

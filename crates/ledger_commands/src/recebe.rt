@@ -5,8 +5,8 @@ ghost use Rattle.election_tables.specs.TablesData.{IsTables};
 ghost use Rattle.intake_ledger.specs.Calls.{Keeps};
 ghost use Rattle.intake_ledger.specs.Kept.{AreDevices};
 ghost use Rattle.intake_ledger.specs.Ledger.{LedgerData};
-ghost use Rattle.section_intake.specs.Accepted.{is_accepted};
 ghost use Rattle.command_parts.specs.Documents.{IsListed};
+ghost use Rattle.ledger_commands.specs.Command.{Recebe};
 ghost use Rattle.ledger_commands.specs.Documents.{HasTaken, status_in};
 ghost use Rattle.ledger_commands.specs.Receiving.{OfferEnds, OffersEnd};
 ghost use Rattle.ledger_commands.specs.Recebe.{RecebeEnds, refused_status};
@@ -35,13 +35,12 @@ pub(crate) fn recebe<M: Machine, C: Cabinet>(
         (C.told cabinet.old) (C.told cabinet.new) (M.told machine.old) (M.told machine.new) (status_in result) }
 {
     let (tables, list) = take_tables_and_list(alloc, cabinet, names.tables, names.list)?;
-    recebe_over(alloc, names, &tables, &list, machine, cabinet)
+    recebe_over(alloc, &tables, &list, machine, cabinet)
 }
 
 /// The reports, once the tables and the list are taken. These are lent, so that no way out lets go of them.
 fn recebe_over<M: Machine, C: Cabinet>(
     alloc: Global,
-    names: RecebeNames<'_>,
     tables: &Tables,
     list: &Names,
     machine: &mut M,
@@ -49,9 +48,8 @@ fn recebe_over<M: Machine, C: Cabinet>(
 ) -> Result<(), LedgerStatus>
     requires devices { AreDevices (M.told machine.old).sizes }
     requires valid { IsTables tables.now }
-    ensures { (c : CabinetTold) → IsListed c.files names.entry.tables.now names.entry.list.now tables.now list.now → HasTaken 2 LedgerStatus.Done c (C.told cabinet.old)
-        → RecebeEnds (record { tables = names.entry.tables.now; list = names.entry.list.now })
-        c (C.told cabinet.new) (M.told machine.old) (M.told machine.new) (status_in result) }
+    ensures { (names : Recebe) (c : CabinetTold) → IsListed c.files names.tables names.list tables.now list.now → HasTaken 2 LedgerStatus.Done c (C.told cabinet.old)
+        → RecebeEnds names c (C.told cabinet.new) (M.told machine.old) (M.told machine.new) (status_in result) }
 {
     let ledger = Ledger::open(alloc, tables, machine)?;
     tell_line(machine, &ledger_line(ledger.totals().accepted()))?;
@@ -98,7 +96,7 @@ fn offer_all<M: Machine, C: Cabinet>(
             cabinet,
         )?;
         ledger = behind;
-        if !is_accepted(verdict) {
+        if !verdict.is_accepted() {
             refused += 1;
         }
     }
@@ -123,11 +121,4 @@ fn offer<M: Machine, C: Cabinet>(
     let bytes = take::<C, Vec<u8>>(alloc, cabinet, name)?;
     let offered = ledger.offer(tables, machine, number, &bytes)?;
     Ok(offered)
-}
-
-/// Whether a verdict is that the report is accepted.
-fn is_accepted(verdict: Verdict) -> bool
-    ensures { result ≡ is_accepted verdict }
-{
-    matches!(verdict, Verdict::Accepted { .. })
 }

@@ -1,33 +1,13 @@
 //! The voter's terminal on one panel, key by key (the crate `voter_term`).
 ghost use Rattle.key_script.specs.Event.{IsKey};
 
+use crate::tables::GOOD;
 use election_tables::Tables;
 use key_script::Key;
 use std::process::Abort;
 use std::test::Fail;
 use vote_kinds::{Choice, office_digits};
 use voter_term::{Panel, Shown, screen};
-
-const TABLES: &[u8] = br#"
-processo = 7
-data = 20261004
-turno = 1
-cargo = [
-  {codigo = 13, regra = "proporcional", cadeiras = 5},
-  {codigo = 11, regra = "absoluta", cadeiras = 1},
-]
-partido = [
-  {numero = 13, nome = "PA"},
-  {numero = 45, nome = "PB"},
-]
-candidato = [
-  {cargo = 13, numero = 13001, nascimento = 19700101, nome = "ANA"},
-  {cargo = 13, numero = 45001, nascimento = 19650520, nome = "BRUNO"},
-  {cargo = 11, numero = 13, nascimento = 19600303, nome = "CARLA"},
-  {cargo = 11, numero = 45, nascimento = 19751212, nome = "DAVI"},
-]
-secao = [{zona = 1, secao = 42, eleitores = 3}]
-"#;
 
 /// The key of a byte of a row; C, as any other byte, confirms.
 fn key_of(byte: u8) -> Key
@@ -84,7 +64,7 @@ fn check_rows<const CAP: u8>(
 
 #[test]
 fn five_digits_of_a_proportional_office(rt: HostRuntime) -> Result<(), Fail> {
-    let tables = Tables::read(rt.alloc(), TABLES)?;
+    let tables = Tables::read(rt.alloc(), GOOD.as_bytes())?;
     let rows = [
         (None, "45C", "TELA 4\nTELA 45 LEGENDA PB\nParty(45)"),
         (None, "4B5C", "TELA 4\nTELA 45 LEGENDA PB\nParty(45)"),
@@ -112,7 +92,7 @@ fn five_digits_of_a_proportional_office(rt: HostRuntime) -> Result<(), Fail> {
 
 #[test]
 fn two_digits_of_a_majority_office(rt: HostRuntime) -> Result<(), Fail> {
-    let tables = Tables::read(rt.alloc(), TABLES)?;
+    let tables = Tables::read(rt.alloc(), GOOD.as_bytes())?;
     let rows = [
         (None, "C", ""),
         (None, "9C", "TELA 9\n"),

@@ -6,7 +6,8 @@ use std::test::Fail;
 
 mod documents;
 
-use documents::{DOCUMENTS, GOOD, GOOD_PANELS, PanelRow, SPELLINGS};
+pub(crate) use documents::GOOD;
+use documents::{DOCUMENTS, GOOD_PANELS, PanelRow, SPELLINGS};
 
 /// The first answer that isn't as the good document has it, but for the panels.
 fn wrong_list(tables: &Tables) -> Option<&'static str> {

@@ -1,26 +1,11 @@
 //! The record of the votes (the crate `vote_record`).
 ghost use Rattle.std.specs.Prelude.{◌<◌, length};
 
+use crate::tables::GOOD;
 use election_tables::Tables;
 use std::test::Fail;
 use vote_kinds::{Choice, is_choice};
 use vote_record::Rdv;
-
-const TABLES: &[u8] = br#"
-processo = 7
-data = 20261004
-turno = 1
-cargo = [{codigo = 13, regra = "proporcional", cadeiras = 5}]
-partido = [
-  {numero = 13, nome = "PA"},
-  {numero = 45, nome = "PB"},
-]
-candidato = [
-  {cargo = 13, numero = 13001, nascimento = 19700101, nome = "ANA"},
-  {cargo = 13, numero = 45001, nascimento = 19650520, nome = "BRUNO"},
-]
-secao = [{zona = 1, secao = 42, eleitores = 6}]
-"#;
 
 /// Whether the votes of the first panel are these, in this order, each once.
 fn has_votes(votes: &Rdv, kept: [Choice; 6]) -> bool
@@ -36,8 +21,8 @@ fn has_votes(votes: &Rdv, kept: [Choice; 6]) -> bool
 
 #[test]
 fn tells_votes_in_the_order_of_choices(rt: HostRuntime) -> Result<(), Fail> {
-    let tables = Tables::read(rt.alloc(), TABLES)?;
-    assert!(rt; tables.panels() == 1);
+    let tables = Tables::read(rt.alloc(), GOOD.as_bytes())?;
+    assert!(rt; tables.panels() == 3);
     let mut votes = Rdv::new(rt.alloc(), &tables, 6)?;
     let typed = [
         Choice::Null,

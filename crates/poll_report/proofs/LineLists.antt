@@ -1,6 +1,7 @@
 -- The lines of the first candidates, parties and panels
 use Rattle.std.proofs.Common.{◌≡◌, ℕ, zero, suc, ◌+◌, ◌<◌, ◌≤◌, List, [], ◌∷◌, ◌++◌, map, length, take, slice_get, Option, Some, None, option_map, unwrap_or, codes, refl, sym, ap, ◌∙◌, append_assoc, add-one, arith}
 use Rattle.std.proofs.lemmas.List.{take_all, append-nil}
+use Rattle.urna_base.specs.Lines.{number_line}
 use Rattle.vote_kinds.specs.declared.choice.Choice.{Choice}
 use Rattle.vote_kinds.specs.Ballot.{panel_at, no_panel}
 use Rattle.vote_record.specs.Bag.{bag_at, count_of}
@@ -13,7 +14,7 @@ use Rattle.election_tables.specs.declared.tables.parties.Party.{Party}
 use Rattle.vote_kinds.specs.declared.choice.Choice.TheVariants as choice
 use Rattle.vote_kinds.proofs.Lookups.{office_known, candidates_known}
 use Rattle.election_tables.specs.declared.office.Office.{Office}
-use Rattle.poll_report.specs.Counts.{word_line, votes_line, candidate_line, candidate_lines, party_line, kind_lines, total_lines, panel_lines, lines_of_panels, count_lines}
+use Rattle.poll_report.specs.Counts.{votes_line, candidate_line, candidate_lines, party_line, kind_lines, total_lines, panel_lines, lines_of_panels, count_lines}
 
 -- one line, or number, of each element
 
@@ -110,14 +111,14 @@ party_told bag (Some q) number n e counted =
 -- by the numbers that the code has
 
 pub totals_are : (bag : List Choice) (n m k : ℕ) → n ≡ count_of choice.Blank bag → m ≡ count_of choice.Null bag → k ≡ length bag
-    → word_line (codes "BRANCO") n ∷ word_line (codes "NULO") m ∷ word_line (codes "TOTAL") k ∷ [] ≡ total_lines bag
+    → number_line (codes "BRANCO ") n ∷ number_line (codes "NULO ") m ∷ number_line (codes "TOTAL ") k ∷ [] ≡ total_lines bag
 totals_are bag n m k e f g = rw (e, f, g) refl
 
 pub panel_is : (t : TablesData) (panel : ℕ) (bag : List Choice) (office : Office) (code : ℕ) → option_map (λ p. p.office) (slice_get t.panels panel) ≡ Some office → code ≡ office.code
-    → word_line (codes "CARGO") code ∷ (candidate_lines (candidates_at panel t) bag ++ (kind_lines office.kind t bag ++ total_lines bag)) ≡ panel_lines t (panel_at t panel) bag
+    → number_line (codes "CARGO ") code ∷ (candidate_lines (candidates_at panel t) bag ++ (kind_lines office.kind t bag ++ total_lines bag)) ≡ panel_lines t (panel_at t panel) bag
 panel_is t panel bag office code e f =
     let same = office_known t panel office e in
-    ap (λ (n : ℕ). word_line (codes "CARGO") n ∷ (candidate_lines (candidates_at panel t) bag ++ (kind_lines office.kind t bag ++ total_lines bag))) f
-    ∙ (ap (λ (o : Office). word_line (codes "CARGO") o.code ∷ (candidate_lines (candidates_at panel t) bag ++ (kind_lines o.kind t bag ++ total_lines bag))) same
-    ∙ ap (λ (cs : List NamedCandidate). word_line (codes "CARGO") (panel_at t panel).office.code ∷ (candidate_lines cs bag ++ (kind_lines (panel_at t panel).office.kind t bag ++ total_lines bag)))
+    ap (λ (n : ℕ). number_line (codes "CARGO ") n ∷ (candidate_lines (candidates_at panel t) bag ++ (kind_lines office.kind t bag ++ total_lines bag))) f
+    ∙ (ap (λ (o : Office). number_line (codes "CARGO ") o.code ∷ (candidate_lines (candidates_at panel t) bag ++ (kind_lines o.kind t bag ++ total_lines bag))) same
+    ∙ ap (λ (cs : List NamedCandidate). number_line (codes "CARGO ") (panel_at t panel).office.code ∷ (candidate_lines cs bag ++ (kind_lines (panel_at t panel).office.kind t bag ++ total_lines bag)))
     (candidates_known t panel))

@@ -1,6 +1,6 @@
 -- The lines of a report of counts (docs/FORMATS.md, "Shown texts"), each with its line feed
 use Rattle.std.specs.Prelude.{ℕ, ◌+◌, List, [], ◌∷◌, ◌++◌, codes, map, length}
-use Rattle.std.specs.Fmt.{decimal}
+use Rattle.urna_base.specs.Lines.{number_line, two_number_line}
 use Rattle.election_tables.specs.TablesData.{TablesData}
 use Rattle.election_tables.specs.declared.office.Kind.{Kind}
 use Rattle.election_tables.specs.declared.office.Kind.TheVariants as kind
@@ -11,13 +11,9 @@ use Rattle.vote_kinds.specs.declared.choice.Choice.{Choice}
 use Rattle.vote_kinds.specs.declared.choice.Choice.TheVariants as choice
 use Rattle.vote_record.specs.Bag.{count_of, bag_at}
 
--- a word and a number
-abbrev pub word_line : List ℕ → ℕ → List ℕ
-word_line word n = word ++ codes " " ++ decimal n ++ 10 ∷ []
-
 -- a number and its votes
 abbrev pub votes_line : ℕ → ℕ → List ℕ
-votes_line number votes = decimal number ++ codes " " ++ decimal votes ++ 10 ∷ []
+votes_line number votes = two_number_line [] number (codes " ") votes
 
 -- the line of a candidate
 abbrev pub candidate_line : List Choice → NamedCandidate → List ℕ
@@ -44,13 +40,13 @@ kind_lines kind.Simple t bag = []
 -- the lines of the blank, of the null and of all votes
 abbrev pub total_lines : List Choice → List (List ℕ)
 total_lines bag =
-    word_line (codes "BRANCO") (count_of choice.Blank bag) ∷ word_line (codes "NULO") (count_of choice.Null bag)
-    ∷ word_line (codes "TOTAL") (length bag) ∷ []
+    number_line (codes "BRANCO ") (count_of choice.Blank bag) ∷ number_line (codes "NULO ") (count_of choice.Null bag)
+    ∷ number_line (codes "TOTAL ") (length bag) ∷ []
 
 -- the lines of a panel
 abbrev pub panel_lines : TablesData → Panel → List Choice → List (List ℕ)
 panel_lines t p bag =
-    word_line (codes "CARGO") p.office.code ∷ (candidate_lines p.candidates bag ++ (kind_lines p.office.kind t bag ++ total_lines bag))
+    number_line (codes "CARGO ") p.office.code ∷ (candidate_lines p.candidates bag ++ (kind_lines p.office.kind t bag ++ total_lines bag))
 
 -- of these panels, the first of which has this number
 abbrev pub lines_of_panels : TablesData → List (List Choice) → ℕ → List Panel → List (List ℕ)

@@ -68,6 +68,10 @@ pub record IsOfficeCount (came : ℕ) (o : OfficeCount) : Type 0 where
   pub total : total_of o ≡ came * o.places
   pub few : total_of o ≤ greatest_count
 
+-- an office of some report
+abbrev pub IsCounted : OfficeCount → Type 0
+IsCounted o = (came : ℕ) × IsOfficeCount came o
+
 -- an office has the code, none of these has it, and there is room for one more
 abbrev pub may_have_code : List ℕ → ℕ → Bool
 may_have_code before code = nat_lt (length before) most_offices && (is_some (code_digits code) && not (list_any (λ c. c == code) before))

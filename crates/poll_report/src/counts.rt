@@ -1,14 +1,15 @@
 //! The count lines of a record.
 ghost use Rattle.std.specs.Prelude.{◌≡◌, ◌<◌, ◌≤◌, [], ◌∷◌, length};
+ghost use Rattle.urna_base.specs.Lines.{number_line};
 ghost use Rattle.election_tables.specs.TablesData.{candidates_at};
 ghost use Rattle.urna_outside.specs.ShownLines.{Shows};
 ghost use Rattle.vote_kinds.specs.declared.choice.Choice.TheVariants.{Blank, Null};
 ghost use Rattle.vote_kinds.specs.Ballot.{panel_at};
 ghost use Rattle.vote_record.specs.Bag.{bag_at};
-ghost use Rattle.poll_report.specs.Counts.{candidate_lines, count_lines, kind_lines, panel_lines, party_lines, total_lines, votes_line, word_line};
+ghost use Rattle.poll_report.specs.Counts.{candidate_lines, count_lines, kind_lines, panel_lines, party_lines, total_lines, votes_line};
 
 use election_tables::{Kind, Tables};
-use urna_base::LineBuffer;
+use urna_base::{number_line, two_number_line};
 use urna_outside::{Failed, Machine, show_line};
 use vote_kinds::Choice;
 use vote_record::Rdv;
@@ -46,7 +47,7 @@ fn show_panel<M: Machine>(m: &mut M, tables: &Tables, votes: &Rdv, panel: u32) -
     ensures { Shows result (panel_lines tables.now (panel_at tables.now panel) (bag_at votes.now.bags panel)) (M.told m.old) (M.told m.new) }
 {
     let office = tables.office(panel);
-    show_word(m, b"CARGO", u32::from(office.code))?;
+    show_number(m, b"CARGO ", u32::from(office.code))?;
     show_candidates(m, tables, votes, panel)?;
     show_parties(m, tables, votes, panel, office.kind)?;
     show_totals(m, votes, panel)
@@ -110,34 +111,24 @@ fn show_totals<M: Machine>(m: &mut M, votes: &Rdv, panel: u32) -> Result<(), Fai
     requires { panel < length votes.now.bags }
     ensures { Shows result (total_lines (bag_at votes.now.bags panel)) (M.told m.old) (M.told m.new) }
 {
-    show_word(m, b"BRANCO", votes.count(panel, Choice::Blank))?;
-    show_word(m, b"NULO", votes.count(panel, Choice::Null))?;
-    show_word(m, b"TOTAL", votes.total(panel))
+    show_number(m, b"BRANCO ", votes.count(panel, Choice::Blank))?;
+    show_number(m, b"NULO ", votes.count(panel, Choice::Null))?;
+    show_number(m, b"TOTAL ", votes.total(panel))
 }
 
-/// A word and a number.
-#[tactic(auto, using(urna_base::proofs::DecimalLaws::line_lengths))]
-fn show_word<M: Machine>(m: &mut M, word: &[u8], n: u32) -> Result<(), Failed>
-    requires { length word.now ≤ 6 }
-    ensures { Shows result (word_line word.now n ∷ []) (M.told m.old) (M.told m.new) }
+/// The line of a word and a number.
+fn show_number<M: Machine>(m: &mut M, word: &[u8], number: u32) -> Result<(), Failed>
+    requires { length word.now ≤ 40 }
+    ensures { Shows result (number_line word.now number ∷ []) (M.told m.old) (M.told m.new) }
 {
-    let mut line = LineBuffer::new();
-    line.push_text(word);
-    line.push_text(b" ");
-    line.push_decimal(u64::from(n));
-    line.push_text(b"\n");
+    let line = number_line(word, u64::from(number));
     show_line(m, line.as_bytes())
 }
 
-/// A number and its votes.
-#[tactic(auto, using(urna_base::proofs::DecimalLaws::line_lengths))]
+/// The line of a number and its votes.
 fn show_votes<M: Machine>(m: &mut M, number: u32, votes: u32) -> Result<(), Failed>
     ensures { Shows result (votes_line number votes ∷ []) (M.told m.old) (M.told m.new) }
 {
-    let mut line = LineBuffer::new();
-    line.push_decimal(u64::from(number));
-    line.push_text(b" ");
-    line.push_decimal(u64::from(votes));
-    line.push_text(b"\n");
+    let line = two_number_line(b"", u64::from(number), b" ", u64::from(votes));
     show_line(m, line.as_bytes())
 }

@@ -3,6 +3,7 @@ use Rattle.std.proofs.Common.{sym, Some, lit<, ◌≡◌, ℕ, zero, suc, ◌+�
 use Rattle.std.specs.Prelude.{if◌then◌else◌, ◌==◌, nat_lt, option_map}
 use Rattle.std.specs.List.{AllByRecursion, zip}
 use Rattle.std.proofs.lemmas.Bool.{eqb-true}
+use Rattle.urna_base.proofs.Every.{every_append}
 use Rattle.urna_base.specs.Moment.{is_date}
 use Rattle.qr_text.specs.Reading.{no_party, start, State, Code, Head, new_office, number_at, step, with_head}
 use Rattle.qr_text.specs.Said.{ReportField, Test, head_field, head_tests, head_values}
@@ -97,14 +98,10 @@ pairs_more n few v s =
     (λ e. refl) (λ e. refl) (λ e. refl) (λ e. refl) (λ e. refl) (λ e. refl)
     (λ e. refl) (λ e. refl) (λ e. refl) (λ e. refl) (λ e. refl) (λ e. refl) n few
 
-both_fit : (xs ys : List (Row × ℕ)) → AllByRecursion FitsRow xs → AllByRecursion FitsRow ys → AllByRecursion FitsRow (xs ++ ys)
-both_fit [] ys h g = g
-both_fit (x ∷ xs) ys h g = (h.0, both_fit xs ys h.1 g)
-
 pub fits_more : (n : ℕ) → n ≤ 12 → (v : ℕ) (s : Said) → Fits n s → fits (row_at n).form v ≡ true → Fits (n + 1) (with_head n v s)
 fits_more n few v s h e =
     let P : List (Row × ℕ) → Type 0 = λ xs. AllByRecursion FitsRow xs in
-    subst P (pairs_more n few v s e) (both_fit (take n (head_pairs s)) ((row_at n, v) ∷ []) h (e, tt))
+    subst P (pairs_more n few v s e) (every_append FitsRow (take n (head_pairs s)) ((row_at n, v) ∷ []) h (e, tt))
 
 -- ---- what is said is followed
 
@@ -223,4 +220,4 @@ pub fits_going_on : (n : ℕ) → n ≤ 12 → (s : Said) → Fits n s → AllBy
 fits_going_on n few s h =
     let P : List (Row × ℕ) → Type 0 = λ xs. AllByRecursion FitsRow xs in
     subst P (pairs_going_on n few s)
-    (both_fit (take n (head_pairs s)) (drop n (head_pairs (going_on 0 s))) h (rest_fits n (head_pairs (going_on 0 s)) (all_fit s)))
+    (every_append FitsRow (take n (head_pairs s)) (drop n (head_pairs (going_on 0 s))) h (rest_fits n (head_pairs (going_on 0 s)) (all_fit s)))

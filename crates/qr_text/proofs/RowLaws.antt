@@ -1,6 +1,6 @@
 -- Writing and reading of one field, and of a candidate's.
-use Rattle.std.proofs.Common.{◌≡◌, Bool, true, false, List, [], ◌∷◌, ◌++◌, length, ℕ, ◌<◌, ◌^◌, Some, None, refl, sym, ap, ◌∙◌, subst, inl, inr, arith, lit<}
-use Rattle.std.specs.Prelude.{codes, not, ◌==◌, All}
+use Rattle.std.proofs.Common.{◌≡◌, true, false, List, [], ◌∷◌, ◌++◌, length, ℕ, ◌<◌, ◌^◌, Some, None, refl, sym, ap, ◌∙◌, subst, inl, inr, arith, lit<}
+use Rattle.std.specs.Prelude.{codes, ◌==◌}
 use Rattle.std.specs.Fmt.{decimal}
 use Rattle.std.specs.List.{list_all, slice_split, join_with_byte}
 use Rattle.std.specs.Option.{option_and_then}
@@ -8,14 +8,15 @@ use Rattle.std.specs.Str.{bytes_eq}
 use Rattle.std.proofs.lemmas.Bool.{cases_Bool, eqb-true}
 use Rattle.std.proofs.lemmas.Bool.Decides.{nat_tests}
 use Rattle.std.proofs.lemmas.Fmt.{decimal_nonempty}
-use Rattle.std.proofs.lemmas.List.Elements.{All-nil, All-cons}
-use Rattle.std.proofs.lemmas.List.Splits.{slice_split_at, slice_split_none, join_with_byte-slice_split}
+use Rattle.std.proofs.lemmas.List.Splits.{join_with_byte-slice_split}
 use Rattle.std.proofs.lemmas.Slice.Eq.{bytes_eq-Decides}
 use Rattle.urna_base.specs.Digits.{is_digit, decimal_value}
 use Rattle.urna_base.specs.Moment.{is_between}
 use Rattle.urna_base.proofs.DecimalLaws.{decimal_value-decimal, decimal-decimal_value, all_digits}
 use Rattle.urna_base.proofs.DigitLaws.{digits_value-padded, padded-digits_value, both_from_and}
+use Rattle.urna_base.proofs.Lacking.{Lacks, decimal_lacks}
 use Rattle.urna_base.proofs.MomentLaws.{is_date-below}
+use Rattle.urna_base.proofs.PieceLaws.{piece_first, piece_last}
 use Rattle.election_tables.specs.Fields.{has_digits}
 use Rattle.election_tables.proofs.Kept.{has_digits-below}
 use Rattle.poll_report.specs.Report.{digits_in, is_some_votes, is_vote}
@@ -91,17 +92,6 @@ number_back r p v e =
 
 -- ---- a candidate's field
 
-abbrev is_colon : ℕ → Bool
-is_colon b = b == 58
-
-pub no_colons : (t : List ℕ) → list_all is_digit t ≡ true → All (λ b. is_colon b ≡ false) t
-no_colons [] h = All-nil (λ b. is_colon b ≡ false)
-no_colons (c ∷ t) h =
-    let both = both_from_and (is_digit c) (list_all is_digit t) h in
-    let digit : is_digit c ≡ true = both.0 in
-    let other : is_colon c ≡ false = grind (arith, nat_tests) in
-    All-cons (λ b. is_colon b ≡ false) c t other (no_colons t both.1)
-
 vote_small : (digits : ℕ) (c : Count) → is_vote digits c ≡ true → c.votes < 10 ^ 18
 vote_small digits c e = let few = (both_from_and (has_digits digits c.number) (is_some_votes c.votes) e).1 in
     between_small 1 9999 c.votes few (lit< tt)
@@ -120,23 +110,11 @@ vote_again digits c small e =
     let votes_small : c.votes < 10 ^ 18 = vote_small digits c e in
     let number = decimal_value-decimal c.number small in
     let votes = decimal_value-decimal c.votes votes_small in
-    let first = slice_split_at is_colon (decimal c.number) 58 (decimal c.votes)
-    (no_colons (decimal c.number) (all_digits c.number small)) refl in
-    let second = slice_split_none is_colon (decimal c.votes) (no_colons (decimal c.votes) (all_digits c.votes votes_small)) in
+    let first = piece_first 58 (decimal c.number) (decimal c.votes) (decimal_lacks 58 c.number (inr (lit< tt)) small) in
+    let second = piece_last 58 (decimal c.votes) (decimal_lacks 58 c.votes (inr (lit< tt)) votes_small) in
     rw (first, second, number, votes, e) refl
 
 -- ---- what is no candidate's field
-
-abbrev not_colon : ℕ → Bool
-not_colon b = not (b == 58)
-
-no_colon_in : (t : List ℕ) → list_all not_colon t ≡ true → All (λ b. is_colon b ≡ false) t
-no_colon_in [] h = All-nil (λ b. is_colon b ≡ false)
-no_colon_in (c ∷ t) h =
-    let both = both_from_and (not_colon c) (list_all not_colon t) h in
-    let test : not_colon c ≡ true = both.0 in
-    let other : is_colon c ≡ false = grind (arith, nat_tests) in
-    All-cons (λ b. is_colon b ≡ false) c t other (no_colon_in t both.1)
 
 vote_of_none : (digits : ℕ) (a : List ℕ) (rest : List (List ℕ)) → decimal_value a ≡ None → vote_of digits (a ∷ rest) ≡ None
 vote_of_none digits a [] h = refl
@@ -144,11 +122,10 @@ vote_of_none digits a (b ∷ []) h = rw h refl
 vote_of_none digits a (b ∷ c ∷ more) h = refl
 
 -- a field whose key is no number is no candidate's
-pub vote_none : (digits : ℕ) (key t : List ℕ) → list_all not_colon key ≡ true → decimal_value key ≡ None
+pub vote_none : (digits : ℕ) (key t : List ℕ) → Lacks 58 key → decimal_value key ≡ None
     → vote_at digits (key ++ 58 ∷ t) ≡ None
 unfolding vote_at
-vote_none digits key t h n = rw (slice_split_at is_colon key 58 t (no_colon_in key h) refl)
-    (vote_of_none digits key (slice_split is_colon t) n)
+vote_none digits key t h n = rw (piece_first 58 key t h) (vote_of_none digits key (slice_split (λ b. b == 58) t) n)
 
 -- ---- what is no other field
 
@@ -175,7 +152,7 @@ vote_not_places code c h =
 pub vote_back : (digits : ℕ) (p : List ℕ) (c : Count) → vote_at digits p ≡ Some c
     → (p ≡ row_text (vote_row c.number) c.votes) × (is_vote digits c ≡ true)
 unfolding vote_at
-vote_back digits p c e = split_back digits p c (slice_split is_colon p) (join_with_byte-slice_split 58 p) e
+vote_back digits p c e = split_back digits p c (slice_split (λ b. b == 58) p) (join_with_byte-slice_split 58 p) e
   where
     pair_back : (a b : List ℕ) → a ++ 58 ∷ b ≡ p → vote_of digits (a ∷ b ∷ []) ≡ Some c
         → (p ≡ row_text (vote_row c.number) c.votes) × (is_vote digits c ≡ true)

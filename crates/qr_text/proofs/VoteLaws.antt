@@ -1,10 +1,10 @@
 -- Candidates and their votes, in one field and in many.
-use Rattle.std.proofs.Common.{◌≡◌, ℕ, ◌+◌, ◌<◌, ◌≤◌, ◌^◌, Bool, true, false, List, [], ◌∷◌, ◌++◌, take, drop, Option, Some, None, refl, sym, ap, subst, ◌∙◌, arith}
+use Rattle.std.proofs.Common.{◌≡◌, ℕ, ◌+◌, ◌<◌, ◌≤◌, ◌^◌, Bool, true, false, List, [], ◌∷◌, ◌++◌, take, drop, Option, Some, None, refl, sym, ap, subst, ◌∙◌, arith, inr, lit<}
 use Rattle.std.specs.Prelude.{◌==◌, ◌&&◌, position, nat_lt, if◌then◌else◌, option_map}
 use Rattle.std.specs.List.{slice_split, join_with_byte}
 use Rattle.std.specs.Option.{option_and_then}
 use Rattle.std.proofs.lemmas.Bool.Decides.{nat_tests}
-use Rattle.std.proofs.lemmas.List.Splits.{slice_split_none, join_with_byte-slice_split}
+use Rattle.std.proofs.lemmas.List.Splits.{join_with_byte-slice_split}
 use Rattle.std.proofs.lemmas.List.Sums.{sum_by-append}
 use Rattle.election_tables.proofs.Kept.{has_digits-below}
 use Rattle.election_tables.specs.Fields.{has_digits}
@@ -12,10 +12,11 @@ use Rattle.poll_report.specs.Report.{is_some_votes, is_vote, votes_of}
 use Rattle.poll_report.specs.declared.report.Count.{Count}
 use Rattle.urna_base.proofs.DecimalLaws.{decimal_value-some}
 use Rattle.urna_base.proofs.DigitLaws.{both_from_and}
-use Rattle.urna_base.proofs.PieceLaws.{split_first, no_split}
+use Rattle.urna_base.proofs.Lacking.{digits_lack}
+use Rattle.urna_base.proofs.PieceLaws.{no_split, piece_last, split_first}
 use Rattle.urna_base.specs.Digits.{decimal_value}
 use Rattle.urna_base.specs.Moment.{is_between}
-use Rattle.qr_text.proofs.RowLaws.{no_colons, vote_back}
+use Rattle.qr_text.proofs.RowLaws.{vote_back}
 use Rattle.qr_text.specs.Reading.{vote_at, vote_of, vote_with}
 use Rattle.qr_text.specs.Sections.{FieldsLeft}
 use Rattle.qr_text.specs.Votes.{accepted, belongs, first_at, vote_after, vote_by_colon, vote_first, votes_from, votes_reading}
@@ -39,7 +40,7 @@ behind_colon : (digits : ℕ) (a r : List ℕ) (o : Option ℕ) → decimal_valu
     → option_and_then (λ number. option_and_then (vote_with digits number) o) (decimal_value a) ≡ vote_of digits (a ∷ slice_split is_colon r)
 behind_colon digits a r None h = nothing_of digits (decimal_value a) ∙ sym (no_votes digits a r (slice_split is_colon r) (join_with_byte-slice_split 58 r) h)
 behind_colon digits a r (Some v) h =
-    let one : slice_split is_colon r ≡ r ∷ [] = slice_split_none is_colon r (no_colons r (decimal_value-some r v h).0.all) in
+    let one : slice_split is_colon r ≡ r ∷ [] = piece_last 58 r (digits_lack 58 r (inr (lit< tt)) (decimal_value-some r v h).0.all) in
     rw (one, h) refl
 
 by_colon : (digits : ℕ) (p : List ℕ) (o : Option ℕ) → position is_colon p ≡ o

@@ -10,14 +10,14 @@ use Rattle.std.proofs.lemmas.List.{append-nil, map-append, take_more}
 use Rattle.urna_base.proofs.MomentLaws.{is_date-below}
 use Rattle.election_tables.specs.Fields.{first_two}
 use Rattle.election_tables.specs.Offices.{code_proportional}
-use Rattle.poll_report.specs.Report.{greatest_count, votes_of, IsOfficeCount, IsReport, MayCount, EachAfter, digits_in}
+use Rattle.poll_report.specs.Report.{greatest_count, votes_of, IsOfficeCount, IsReport, MayCount, EachAfter, digits_in, IsCounted}
 use Rattle.poll_report.specs.declared.report.Count.{Count}
 use Rattle.poll_report.specs.declared.report.OfficeCount.{OfficeCount}
 use Rattle.poll_report.specs.declared.report.Report.{Report}
 use Rattle.qr_text.specs.Said.{ReportField, fields, vote_field, party_field, office_field, kind_number, party_fields, places_fields, votes_fields, sum_fields, office_fields, texts}
 use Rattle.qr_text.specs.Spelling.{candidates_of_party, party_votes, said, said_office, said_party, report_fields, report_text}
 use Rattle.qr_text.specs.Table.{head_rows, row_text}
-use Rattle.qr_text.specs.Writing.{IsCounted, with_fields, with_total, head_texts, spaced_vote, spaced_votes, spaced_party, spaced_parties, spaced_places, spaced_office_votes, with_code, with_sums, with_last, with_office, spaced, spaced_office}
+use Rattle.qr_text.specs.Writing.{with_fields, with_total, head_texts, spaced_vote, spaced_votes, spaced_party, spaced_parties, spaced_places, spaced_office_votes, with_code, with_sums, with_last, with_office, spaced, spaced_office}
 use Rattle.qr_text.specs.declared.said.Said.{Said}
 use Rattle.qr_text.specs.declared.said.SaidOffice.{SaidOffice}
 use Rattle.qr_text.specs.declared.said.SaidParty.{SaidParty}

@@ -1,8 +1,8 @@
 -- The one spelling of a report.
 use Rattle.std.specs.Prelude.{◌≡◌, ℕ, ◌+◌, ◌-◌, ◌/◌, ◌%◌, nat_lt, ◌==◌, if◌then◌else◌, List, [], map}
-use Rattle.std.specs.List.{find, filter, range_with_len, join_with_byte}
+use Rattle.std.specs.List.{find, filter, range_with_len}
 use Rattle.std.specs.Option.{option_map_or}
-use Rattle.urna_base.specs.Words.{pieces}
+use Rattle.urna_base.specs.Words.{joined, pieces}
 use Rattle.election_tables.specs.Fields.{first_two}
 use Rattle.election_tables.specs.Offices.{code_proportional}
 use Rattle.poll_report.specs.Report.{IsReport, digits_in, total_of, votes_of}
@@ -78,7 +78,7 @@ report_fields r = texts (fields (said r))
 
 -- the text of a report: its fields with single spaces (32) between them
 unfoldable pub report_text : Report → List ℕ
-report_text r = join_with_byte 32 (report_fields r)
+report_text r = joined (report_fields r)
 
 -- a text spells a report: its pieces are the report's fields
 pub record Spells (bytes : List ℕ) (r : Report) : Type 0 where

@@ -2,7 +2,7 @@
 use Rattle.std.specs.Prelude.{ℕ, ◌+◌, ◌-◌, ◌/◌, ◌%◌, ◌<◌, ◌^◌, Bool, nat_lt, ◌==◌, if◌then◌else◌, List, [], ◌∷◌, ◌++◌}
 use Rattle.std.specs.List.{flat_map, range_with_len}
 use Rattle.election_tables.specs.Offices.{code_proportional}
-use Rattle.poll_report.specs.Report.{IsOfficeCount, digits_in, total_of, votes_of}
+use Rattle.poll_report.specs.Report.{digits_in, total_of, votes_of}
 use Rattle.poll_report.specs.declared.report.Count.{Count}
 use Rattle.poll_report.specs.declared.report.OfficeCount.{OfficeCount}
 use Rattle.poll_report.specs.declared.report.Report.{Report}
@@ -80,10 +80,6 @@ unfoldable pub spaced_office_votes : OfficeCount → List ℕ
 spaced_office_votes o = if code_proportional o.code then spaced_parties o 90 else spaced_places o.places ++ spaced_votes o.nominal
 
 -- ---- an office
-
--- an office of some report
-abbrev pub IsCounted : OfficeCount → Type 0
-IsCounted o = (came : ℕ) × IsOfficeCount came o
 
 unfoldable pub with_code : ℕ → Bool → List ℕ → List ℕ
 with_code code proportional text = with_fields text (row_text TABLE.office code ∷ row_text TABLE.kind (kind_number proportional) ∷ [])

@@ -8,7 +8,7 @@ ghost use Rattle.qr_text.specs.Writing.{HasRoom, spaced_vote};
 use crate::table::{Form, Row};
 use election_tables::first_two;
 use poll_report::{Count, digits_in};
-use urna_base::{Memory, put_decimal, put_digits};
+use urna_base::{Memory, put_decimal, put_digits, put_numbered};
 
 /// Appends a field of the table.
 pub(crate) fn put_field(out: &mut Vec<u8>, row: &Row, value: u64) -> Result<(), Memory>
@@ -39,10 +39,8 @@ pub(crate) fn put_next(out: &mut Vec<u8>, row: &Row, value: u64) -> Result<(), M
 pub(crate) fn put_vote(out: &mut Vec<u8>, count: Count) -> Result<(), Memory>
     ensures { OnOk result (out.new.items ≡ out.old.items ++ spaced_vote count) }
 {
-    out.push(b' ')?;
-    put_decimal(out, u64::from(count.number))?;
-    out.push(b':')?;
-    put_decimal(out, u64::from(count.votes))
+    put_numbered(out, b" ", u64::from(count.number))?;
+    put_numbered(out, b":", u64::from(count.votes))
 }
 
 /// The party of a candidate of an office: the first two digits of the candidate's number.

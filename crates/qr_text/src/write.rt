@@ -3,9 +3,9 @@ ghost use Rattle.std.specs.Prelude.{◌≡◌, ◌≤◌, ◌+◌, ◌++◌, ◌
 ghost use Rattle.std.specs.List.{flat_map, prefix_len};
 ghost use Rattle.election_tables.specs.Fields.{first_two};
 ghost use Rattle.election_tables.specs.Offices.{code_proportional};
-ghost use Rattle.poll_report.specs.Report.{IsReport, digits_in, greatest_count, votes_of};
+ghost use Rattle.poll_report.specs.Report.{IsReport, digits_in, greatest_count, votes_of, IsCounted};
 ghost use Rattle.qr_text.specs.Spelling.{report_text};
-ghost use Rattle.qr_text.specs.Writing.{IsCounted, spaced_office, spaced_office_votes, spaced_parties, spaced_party, spaced_places, spaced_votes, with_code, with_last, with_office, with_sums, with_total};
+ghost use Rattle.qr_text.specs.Writing.{spaced_office, spaced_office_votes, spaced_parties, spaced_party, spaced_places, spaced_votes, with_code, with_last, with_office, with_sums, with_total};
 ghost use Rattle.qr_text.specs.declared.table.TheConstants.{TABLE};
 
 use crate::field::{party_of, put_field, put_next, put_vote};

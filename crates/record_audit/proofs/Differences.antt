@@ -1,11 +1,12 @@
 -- The first choice at which votes and a report differ: what the definition says of all choices.
-use Rattle.std.proofs.Common.{◌≡◌, ℕ, zero, suc, ◌<◌, Bool, true, false, not, cond, List, [], ◌∷◌, ◌++◌, map, Option, Some, None, refl, sym, ap, ◌∙◌, subst, ◌⊎◌, inl, inr, arith}
+use Rattle.std.proofs.Common.{◌≡◌, ℕ, zero, suc, ◌<◌, Bool, true, false, not, cond, List, [], ◌∷◌, map, Option, Some, None, refl, sym, ap, ◌∙◌, subst, ◌⊎◌, inl, inr, arith}
 use Rattle.std.specs.Prelude.{◌==◌, if◌then◌else◌}
 use Rattle.std.specs.List.{AllByRecursion, filter, find}
 use Rattle.std.specs.Option.{option_map_or}
 use Rattle.std.proofs.lemmas.Bool.{cases_Bool}
 use Rattle.std.proofs.lemmas.Bool.Decides.{nat_tests}
 use Rattle.urna_base.proofs.Cases.{option_cases}
+use Rattle.urna_base.proofs.Every.{every_apart}
 use Rattle.vote_kinds.specs.Choice.{choice_le, is_same}
 use Rattle.vote_kinds.specs.declared.choice.Choice.{Choice}
 use Rattle.vote_kinds.specs.declared.choice.Choice.TheVariants as choice
@@ -84,10 +85,6 @@ unfilter p P (c ∷ cs) all = go (p c) refl all (unfilter p P cs)
 
 -- ---- each choice that differs is named
 
-all_front : {X : Type 0} (P : X → Type 0) (xs ys : List X) → AllByRecursion P (xs ++ ys) → AllByRecursion P xs × AllByRecursion P ys
-all_front P [] ys all = (tt, all)
-all_front P (x ∷ xs) ys all = let rest = all_front P xs ys all.1 in ((all.0, rest.0), rest.1)
-
 pub counted_has : (P : Choice → Type 0) (votes : List Choice) (c : Choice) → AllByRecursion P votes → 0 < count_of c votes → P c
 counted_has P [] c all some = absurd (omega arith)
 counted_has P (v ∷ votes) c all some = elim (cases_Bool (is_same c v)) [
@@ -114,9 +111,9 @@ some_of (suc a) b h = inl (omega arith)
 
 named_has : (P : Choice → Type 0) (votes : List Choice) (o : OfficeCount) (c : Choice) → AllByRecursion P (named votes o) → differs_at votes o c ≡ true → P c
 named_has P votes o c all h =
-    let first = all_front P votes _ all in
-    let second = all_front P (map (λ x. choice.Nominal x.number) o.nominal) _ first.1 in
-    let third = all_front P (map (λ x. choice.Party x.number) o.parties) (choice.Blank ∷ choice.Null ∷ []) second.1 in
+    let first = every_apart P votes _ all in
+    let second = every_apart P (map (λ x. choice.Nominal x.number) o.nominal) _ first.1 in
+    let third = every_apart P (map (λ x. choice.Party x.number) o.parties) (choice.Blank ∷ choice.Null ∷ []) second.1 in
     elim (some_of (count_of c votes) (said_for o c) h) [
       | inl voted ↦ counted_has P votes c first.0 voted
       | inr said ↦ at c said second.0 third.0 third.1

@@ -11,6 +11,7 @@ use Rattle.std.proofs.lemmas.Slice.Eq.{bytes_eq-Decides}
 use Rattle.urna_base.specs.Moment.{is_date}
 use Rattle.urna_base.proofs.Cases.{and_then_some, guard_some, map_some}
 use Rattle.urna_base.proofs.DigitLaws.{both_from_and}
+use Rattle.urna_base.proofs.Every.{every_append}
 use Rattle.election_tables.specs.Offices.{row_of}
 use Rattle.vote_kinds.specs.Choice.{choice_le}
 use Rattle.vote_kinds.specs.declared.choice.Choice.{Choice}
@@ -26,7 +27,7 @@ use Rattle.record_audit.specs.declared.text.RecordOffice.{RecordOffice}
 use Rattle.record_audit.specs.declared.text.RecordText.{RecordText}
 use Rattle.record_audit.proofs.LineLaws.{choice_read, heading_read, office_read}
 use Rattle.record_audit.proofs.Cutting.{line_read}
-use Rattle.record_audit.proofs.Orders.{all_more, in_order_more}
+use Rattle.record_audit.proofs.Orders.{in_order_more}
 
 -- with one line more
 abbrev pub step : Stage → List ℕ → Option Stage
@@ -132,7 +133,7 @@ more_open text o n c wants may behind =
       read = wants.read;
       code = wants.code;
       few = omega arith;
-      votes = all_more (λ d. may_vote o.code d ≡ true) o.votes c wants.votes may;
+      votes = every_append (λ d. may_vote o.code d ≡ true) o.votes (c ∷ []) wants.votes (may, tt);
       in_order = in_order_more o.votes c wants.in_order behind;
     }
 

@@ -8,13 +8,13 @@ use Rattle.std.specs.Str.{bytes_eq}
 use Rattle.std.proofs.lemmas.Bool.{and_from, cases_Bool}
 use Rattle.std.proofs.lemmas.Bool.Decides.{nat_tests}
 use Rattle.std.proofs.lemmas.Slice.Eq.{bytes_eq-Decides}
-use Rattle.urna_base.specs.Digits.{decimal_value, digits_value, is_digit, padded}
+use Rattle.urna_base.specs.Digits.{decimal_value, digits_value, is_digit, padded, decimal_within}
 use Rattle.urna_base.specs.Moment.{is_between, is_date}
 use Rattle.urna_base.specs.Words.{after_word, cut_at}
 use Rattle.urna_base.proofs.Cases.{and_then_some, guard_some, map_some}
 use Rattle.urna_base.proofs.CutLaws.{cut_behind, cut_parts}
 use Rattle.urna_base.proofs.Lacking.{digits_lack}
-use Rattle.urna_base.proofs.DecimalLaws.{all_digits, decimal-decimal_value, decimal_value-decimal}
+use Rattle.urna_base.proofs.DecimalLaws.{all_digits, decimal-decimal_value, decimal_value-decimal, within_read, within_written}
 use Rattle.urna_base.proofs.DigitLaws.{all_digits-padded, both_from_and, digits_value-padded, padded-digits_value}
 use Rattle.urna_base.proofs.MomentLaws.{is_date-below}
 use Rattle.urna_base.proofs.WordLaws.{after_word-append, after_word-some}
@@ -27,7 +27,7 @@ use Rattle.vote_kinds.specs.declared.choice.Choice.TheVariants as choice
 use Rattle.vote_record.specs.RecordText.{heading_words, office_words, vote_words}
 use Rattle.poll_report.proofs.Digits.{digits_few}
 use Rattle.poll_report.specs.Report.{digits_in, may_have_code}
-use Rattle.record_audit.specs.Reading.{candidate_in, cell, choice_in, date_cell, date_in, heading_in, number_cell, number_in, office_in, party_in, section_in}
+use Rattle.record_audit.specs.Reading.{candidate_in, cell, choice_in, date_cell, date_in, heading_in, number_cell, office_in, party_in, section_in}
 use Rattle.record_audit.specs.Spelling.{IsHeading, heading_of, may_vote, most_votes}
 use Rattle.record_audit.specs.declared.text.RecordText.{RecordText}
 
@@ -39,19 +39,7 @@ bind_is o x f y e h = rw e h
 map_is : {A B : Type 0} (o : Option A) (x : A) (f : A → B) (y : B) → o ≡ Some x → f x ≡ y → option_map f o ≡ Some y
 map_is o x f y e h = rw (e, h) refl
 
--- ---- numbers
-
-pub number_written : (low high n : ℕ) → is_between low high n ≡ true → n < 10 ^ 18 → number_in low high (decimal n) ≡ Some n
-unfolding number_in
-number_written low high n h small = rw (decimal_value-decimal n small, h) refl
-
-pub number_read : (low high n : ℕ) (text : List ℕ) → number_in low high text ≡ Some n → (text ≡ decimal n) × (is_between low high n ≡ true)
-unfolding number_in
-number_read low high n text h =
-    let inner = and_then_some (decimal_value text) _ n h in
-    let both = guard_some (is_between low high inner.0) (Some inner.0) n inner.2 in
-    let same : inner.0 ≡ n = cc in
-    (sym (decimal-decimal_value text inner.0 inner.1) ∙ ap decimal same, rw (← same) both.0)
+-- ---- dates
 
 -- a date has at most eight digits
 pub date_small : (n : ℕ) → is_date n ≡ true → n < 10 ^ 8
@@ -85,17 +73,17 @@ pub number_cell_written : (word rest : List ℕ) (low high n : ℕ) → is_betwe
     → number_cell word low high (word ++ (decimal n ++ 32 ∷ rest)) ≡ Some (n, rest)
 unfolding number_cell
 number_cell_written word rest low high n h small =
-    bind_is _ _ _ _ (cell_written word (decimal n) rest (all_digits n small)) (map_is _ _ _ _ (number_written low high n h small) refl)
+    bind_is _ _ _ _ (cell_written word (decimal n) rest (all_digits n small)) (map_is _ _ _ _ (within_written low high n h small) refl)
 
 pub number_cell_read : (word text : List ℕ) (low high : ℕ) (x : ℕ × List ℕ) → number_cell word low high text ≡ Some x
     → (text ≡ word ++ (decimal x.0 ++ 32 ∷ x.1)) × (is_between low high x.0 ≡ true)
 unfolding number_cell
 number_cell_read word text low high x h =
     let outer = and_then_some (cell word text) _ x h in
-    let inner = map_some (λ (m : ℕ). (m, outer.0.1)) (number_in low high outer.0.0) x outer.2 in
+    let inner = map_some (λ (m : ℕ). (m, outer.0.1)) (decimal_within low high outer.0.0) x outer.2 in
     let pair : (inner.0, outer.0.1) ≡ x = inner.2 in
-    let number = number_read low high inner.0 outer.0.0 inner.1 in
-    rw (← pair) (cell_read word text outer.0 outer.1 ∙ ap (λ (l : List ℕ). word ++ (l ++ 32 ∷ outer.0.1)) number.0, number.1)
+    let number = within_read low high inner.0 outer.0.0 inner.1 in
+    rw (← pair) (cell_read word text outer.0 outer.1 ∙ ap (λ (l : List ℕ). word ++ (l ++ 32 ∷ outer.0.1)) number.printed, number.within)
 
 pub date_cell_written : (word rest : List ℕ) (n : ℕ) → is_date n ≡ true → date_cell word (word ++ (padded 8 n ++ 32 ∷ rest)) ≡ Some (n, rest)
 unfolding date_cell
@@ -123,14 +111,14 @@ without_offices r = record { process = r.process; date = r.date; turn = r.turn; 
 
 section_written : (n : ℕ) → is_between 1 greatest_section n ≡ true → section_in (codes "SECA " ++ decimal n) ≡ Some n
 unfolding section_in
-section_written n h = bind_is _ _ (number_in 1 greatest_section) _ (after_word-append (codes "SECA ") (decimal n)) (number_written 1 greatest_section n h (small 1 greatest_section n (lit< tt) h))
+section_written n h = bind_is _ _ (decimal_within 1 greatest_section) _ (after_word-append (codes "SECA ") (decimal n)) (within_written 1 greatest_section n h (small 1 greatest_section n (lit< tt) h))
 
 section_read : (text : List ℕ) (n : ℕ) → section_in text ≡ Some n → (text ≡ codes "SECA " ++ decimal n) × (is_between 1 greatest_section n ≡ true)
 unfolding section_in
 section_read text n h =
-    let behind = and_then_some (after_word (codes "SECA ") text) (number_in 1 greatest_section) n h in
-    let number = number_read 1 greatest_section n behind.0 behind.2 in
-    (after_word-some (codes "SECA ") text behind.0 behind.1 ∙ ap (λ (l : List ℕ). codes "SECA " ++ l) number.0, number.1)
+    let behind = and_then_some (after_word (codes "SECA ") text) (decimal_within 1 greatest_section) n h in
+    let number = within_read 1 greatest_section n behind.0 behind.2 in
+    (after_word-some (codes "SECA ") text behind.0 behind.1 ∙ ap (λ (l : List ℕ). codes "SECA " ++ l) number.printed, number.within)
 
 heading_parts : (line : List ℕ) (p d t z : ℕ × List ℕ) (s : ℕ) → number_cell (codes "PROC ") 1 greatest_process line ≡ Some p
     → date_cell (codes "DTPL ") p.1 ≡ Some d
@@ -213,7 +201,7 @@ votes_few : (votes : ℕ) → is_between 0 most_votes votes ≡ true → votes �
 votes_few votes h = grind (arith, nat_tests)
 
 office_parts : (before line : List ℕ) (c : ℕ × List ℕ) (votes : ℕ) → number_cell (codes "CARG ") 0 greatest_code line ≡ Some c
-    → number_in 0 most_votes c.1 ≡ Some votes
+    → decimal_within 0 most_votes c.1 ≡ Some votes
     → may_have_code before c.0 ≡ true
     → office_in before line ≡ Some (c.0, votes)
 unfolding office_in
@@ -227,7 +215,7 @@ office_written before code votes may few =
     let some = votes_within votes few in
     office_parts before (office_words code votes) (code, decimal votes) votes
     (number_cell_written (codes "CARG ") (decimal votes) 0 greatest_code code known (small 0 greatest_code code (lit< tt) known))
-    (number_written 0 most_votes votes some (small 0 most_votes votes (lit< tt) some)) may
+    (within_written 0 most_votes votes some (small 0 most_votes votes (lit< tt) some)) may
 
 -- what the line of an office says
 pub record Opened (before line : List ℕ) (x : ℕ × ℕ) : Type 0 where
@@ -236,24 +224,24 @@ pub record Opened (before line : List ℕ) (x : ℕ × ℕ) : Type 0 where
   pub same : line ≡ office_words x.0 x.1
 
 office_from : (before line : List ℕ) (c : ℕ × List ℕ) (votes : ℕ) → number_cell (codes "CARG ") 0 greatest_code line ≡ Some c
-    → number_in 0 most_votes c.1 ≡ Some votes
+    → decimal_within 0 most_votes c.1 ≡ Some votes
     → may_have_code before c.0 ≡ true
     → Opened before line (c.0, votes)
 unfolding office_words
 office_from before line c votes a b may =
     let code = number_cell_read (codes "CARG ") line 0 greatest_code c a in
-    let number = number_read 0 most_votes votes c.1 b in
+    let number = within_read 0 most_votes votes c.1 b in
     record {
       may = may;
-      few = votes_few votes number.1;
-      same = code.0 ∙ ap (λ (l : List ℕ). codes "CARG " ++ (decimal c.0 ++ 32 ∷ l)) number.0;
+      few = votes_few votes number.within;
+      same = code.0 ∙ ap (λ (l : List ℕ). codes "CARG " ++ (decimal c.0 ++ 32 ∷ l)) number.printed;
     }
 
 pub office_read : (before line : List ℕ) (x : ℕ × ℕ) → office_in before line ≡ Some x → Opened before line x
 unfolding office_in
 office_read before line x h =
     let a = and_then_some (number_cell (codes "CARG ") 0 greatest_code line) _ x h in
-    let b = and_then_some (number_in 0 most_votes a.0.1) _ x a.2 in
+    let b = and_then_some (decimal_within 0 most_votes a.0.1) _ x a.2 in
     let both = guard_some (may_have_code before a.0.0) (Some (a.0.0, b.0)) x b.2 in
     let pair : (a.0.0, b.0) ≡ x = cc in
     subst (λ (y : ℕ × ℕ). Opened before line y) pair (office_from before line a.0 b.0 a.1 b.1 both.0)
@@ -284,7 +272,7 @@ nominal_line code n line text b x word number may = rw (b, x, word, number, may)
 party_line : (code n : ℕ) (line text : List ℕ) → bytes_eq line (codes "B") ≡ false → bytes_eq line (codes "X") ≡ false
     → after_word (codes "N ") line ≡ None
     → after_word (codes "L ") line ≡ Some text
-    → number_in 10 99 text ≡ Some n
+    → decimal_within 10 99 text ≡ Some n
     → code_proportional code ≡ true
     → choice_in code line ≡ Some (choice.Party n)
 unfolding choice_in party_in
@@ -307,7 +295,7 @@ choice_written code (choice.Party n) h =
     let both = both_from_and (code_proportional code) (is_between 10 99 n) h in
     party_line code n (codes "L " ++ decimal n) (decimal n) (other_word (codes "L " ++ decimal n) (codes "B") (λ e. absurd (cc)))
     (other_word (codes "L " ++ decimal n) (codes "X") (λ e. absurd (cc))) refl (after_word-append (codes "L ") (decimal n))
-    (number_written 10 99 n both.1 (small 10 99 n (lit< tt) both.1)) both.0
+    (within_written 10 99 n both.1 (small 10 99 n (lit< tt) both.1)) both.0
 choice_written code choice.Blank h = blank_line code
 choice_written code choice.Null h = null_line code
 
@@ -330,13 +318,13 @@ candidate_read code line text c word h =
 party_read : (code : ℕ) (line text : List ℕ) (c : Choice) → line ≡ codes "L " ++ text → party_in code text ≡ Some c → Voted code line c
 unfolding party_in
 party_read code line text c word h =
-    let inner = and_then_some (number_in 10 99 text) _ c h in
+    let inner = and_then_some (decimal_within 10 99 text) _ c h in
     let both = guard_some (code_proportional code) (Some (choice.Party inner.0)) c inner.2 in
     let made : choice.Party inner.0 ≡ c = cc in
-    let number = number_read 10 99 inner.0 text inner.1 in
+    let number = within_read 10 99 inner.0 text inner.1 in
     subst (λ (d : Choice). Voted code line d) made (record {
-      may = and_from (code_proportional code) (is_between 10 99 inner.0) both.0 number.1;
-      same = word ∙ ap (λ (l : List ℕ). codes "L " ++ l) number.0;
+      may = and_from (code_proportional code) (is_between 10 99 inner.0) both.0 number.within;
+      same = word ∙ ap (λ (l : List ℕ). codes "L " ++ l) number.printed;
     })
 
 pub choice_read : (code : ℕ) (line : List ℕ) (c : Choice) → choice_in code line ≡ Some c → Voted code line c

@@ -1,6 +1,7 @@
 -- Votes in the order of choices, one more at the end.
 use Rattle.std.proofs.Common.{◌≡◌, suc, ◌-◌, Bool, true, List, [], ◌∷◌, ◌++◌, length, refl, sym, ◌∙◌, arith}
 use Rattle.std.specs.List.{AllByRecursion}
+use Rattle.urna_base.proofs.Every.{every_append}
 use Rattle.vote_kinds.specs.Choice.{choice_le}
 use Rattle.vote_kinds.specs.declared.choice.Choice.{Choice}
 use Rattle.vote_record.specs.Bag.{IsInOrder}
@@ -26,15 +27,11 @@ behind_all : (x y : Choice) (votes : List Choice) (c : Choice) → AllByRecursio
 behind_all x y [] c all h = le_trans x y c all.0 h
 behind_all x y (z ∷ votes) c all h = behind_all x z votes c all.1 h
 
-pub all_more : (P : Choice → Type 0) (votes : List Choice) (c : Choice) → AllByRecursion P votes → P c → AllByRecursion P (votes ++ c ∷ [])
-all_more P [] c all h = (h, tt)
-all_more P (x ∷ votes) c all h = (all.0, all_more P votes c all.1 h)
-
 in_order_last : (votes : List Choice) (c : Choice) → IsInOrder votes → last_le votes c ≡ true → IsInOrder (votes ++ c ∷ [])
 in_order_last [] c is h = (tt, tt)
 in_order_last (x ∷ []) c is h = ((h, tt), (tt, tt))
 in_order_last (x ∷ y ∷ votes) c is h =
-    (all_more (λ d. choice_le x d ≡ true) (y ∷ votes) c is.0 (behind_all x y votes c is.0 h), in_order_last (y ∷ votes) c is.1 h)
+    (every_append (λ d. choice_le x d ≡ true) (y ∷ votes) (c ∷ []) is.0 (behind_all x y votes c is.0 h, tt), in_order_last (y ∷ votes) c is.1 h)
 
 -- votes stay in order with one more that stands at or behind the last
 pub in_order_more : (votes : List Choice) (c : Choice) → IsInOrder votes → may_follow votes c ≡ true → IsInOrder (votes ++ c ∷ [])

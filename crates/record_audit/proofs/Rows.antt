@@ -14,7 +14,7 @@ use Rattle.vote_record.specs.RecordText.{heading_words, office_words, record_lin
 use Rattle.poll_report.specs.declared.report.Report.{Report}
 use Rattle.record_audit.specs.Fault.{IsLineFault, rows_of}
 use Rattle.record_audit.specs.Finding.{difference, finding}
-use Rattle.record_audit.specs.Reading.{after_offices, after_votes, candidate_in, cell, choice_in, date_cell, date_in, heading_in, in_office, line_in, number_cell, number_in, office_in, party_in, reading, section_in, vote_in, with_line}
+use Rattle.record_audit.specs.Reading.{after_offices, after_votes, candidate_in, cell, choice_in, date_cell, date_in, heading_in, in_office, line_in, number_cell, office_in, party_in, reading, section_in, vote_in, with_line}
 use Rattle.record_audit.specs.Spelling.{IsRecord, spelling}
 use Rattle.record_audit.specs.declared.finding.Finding.TheVariants.{Agree, Heading, Office, Differs}
 use Rattle.record_audit.specs.declared.text.RecordText.{RecordText}
@@ -64,12 +64,12 @@ two_offices_is_record = record {
 
 -- without its line `L 45` the office wants one line more, and `CARG` is none
 vote_missing : IsLineFault (text (head ++ (codes "CARG 13 3" ∷ codes "N 13001" ∷ codes "B" ∷ mayor) ++ codes "FIM" ∷ [])) 6
-unfolding reading rows_of with_line line_in cut_at heading_in section_in number_cell date_cell cell number_in date_in office_in after_offices in_office after_votes vote_in choice_in candidate_in party_in decimal_value digits_value is_date row_of
+unfolding reading rows_of with_line line_in cut_at heading_in section_in number_cell date_cell cell date_in office_in after_offices in_office after_votes vote_in choice_in candidate_in party_in decimal_value digits_value is_date row_of
 vote_missing = fault_of _ 6 refl
 
 -- a party vote behind a blank one
 out_of_order : IsLineFault (text (head ++ (codes "CARG 13 2" ∷ codes "B" ∷ codes "L 45" ∷ []) ++ codes "FIM" ∷ [])) 5
-unfolding reading rows_of with_line line_in cut_at heading_in section_in number_cell date_cell cell number_in date_in office_in after_offices in_office after_votes vote_in choice_in candidate_in party_in decimal_value digits_value is_date row_of
+unfolding reading rows_of with_line line_in cut_at heading_in section_in number_cell date_cell cell date_in office_in after_offices in_office after_votes vote_in choice_in candidate_in party_in decimal_value digits_value is_date row_of
 out_of_order = fault_of _ 5 refl
 
 -- a text that ends too early, and one whose last line has no line feed

@@ -6,6 +6,7 @@ use Rattle.std.proofs.Math.Seq.{drop-cons}
 use Rattle.std.proofs.lemmas.Bool.{cases_Bool, ltb-true}
 use Rattle.std.proofs.lemmas.Bool.Decides.{nat_tests}
 use Rattle.std.proofs.lemmas.List.{length-append}
+use Rattle.urna_base.proofs.Every.{every_append}
 use Rattle.urna_base.specs.Moment.{is_between}
 use Rattle.urna_base.proofs.Cases.{option_cases, result_cases}
 use Rattle.urna_base.proofs.DigitLaws.{both_from_and}
@@ -16,7 +17,7 @@ use Rattle.vote_record.specs.Bag.{IsInOrder, count_of}
 use Rattle.vote_record.proofs.Bags.{all_trans, count_cons, le_antisym, le_refl, le_total, le_trans, same_true}
 use Rattle.poll_report.specs.declared.report.Count.{Count}
 use Rattle.poll_report.specs.declared.report.OfficeCount.{OfficeCount}
-use Rattle.poll_report.specs.Report.{EachAfter, IsOfficeCount, IsReport, MayCount, MayLegend, MayVote, digits_in, is_above, may_have_code, numbers_of}
+use Rattle.poll_report.specs.Report.{EachAfter, IsOfficeCount, IsReport, MayCount, MayLegend, MayVote, digits_in, is_above, may_have_code, numbers_of, IsCounted}
 use Rattle.poll_report.specs.declared.report.Report.{Report}
 use Rattle.election_tables.specs.Limits.{most_offices}
 use Rattle.election_tables.specs.Offices.{code_digits}
@@ -24,7 +25,7 @@ use Rattle.poll_report.proofs.Lists.{each_weaker}
 use Rattle.poll_report.proofs.Totals.{Rises}
 use Rattle.record_audit.specs.Finding.{difference, said_for, votes_for}
 use Rattle.record_audit.specs.Laws.{IsFirstDifference}
-use Rattle.record_audit.specs.Walk.{IsCounted, first_before, for_candidate, for_party, listing, passed, passed_all, run}
+use Rattle.record_audit.specs.Walk.{first_before, for_candidate, for_party, listing, passed, passed_all, run}
 use Rattle.record_audit.proofs.Differences.{first_difference, no_difference, one_first}
 
 -- ---- votes in order
@@ -341,10 +342,6 @@ parties_small o is = small_from [] o.parties is.1.parties
 
 -- ---- the list rises
 
-all_join : (P : Choice × ℕ → Type 0) (xs ys : List (Choice × ℕ)) → AllByRecursion P xs → AllByRecursion P ys → AllByRecursion P (xs ++ ys)
-all_join P [] ys h g = g
-all_join P (x ∷ xs) ys h g = (h.0, all_join P xs ys h.1 g)
-
 nominal_up : (m n : ℕ) → n < m → choice_le (choice.Nominal m) (choice.Nominal n) ≡ false
 nominal_up m n h = grind (arith, nat_tests)
 
@@ -369,14 +366,14 @@ last_two o = (choice.Blank, o.blank) ∷ (choice.Null, o.null_votes) ∷ []
 parties_go_up : (o : OfficeCount) (cs : List Count) → Rises (numbers_of cs) → Up (map for_party cs ++ last_two o)
 parties_go_up o [] h = ((refl, tt), (tt, tt))
 parties_go_up o (c ∷ cs) h =
-    (all_join (λ y. choice_le y.0 (choice.Party c.number) ≡ false) (map for_party cs) (last_two o) (parties_behind c.number cs h.0) (refl, (refl, tt)), parties_go_up o cs h.1)
+    (every_append (λ y. choice_le y.0 (choice.Party c.number) ≡ false) (map for_party cs) (last_two o) (parties_behind c.number cs h.0) (refl, (refl, tt)), parties_go_up o cs h.1)
 
 candidates_go_up : (o : OfficeCount) (cs : List Count) → Rises (numbers_of cs) → Rises (numbers_of o.parties) → Up (map for_candidate cs ++ (map for_party o.parties ++ last_two o))
 candidates_go_up o [] h g = parties_go_up o o.parties g
 candidates_go_up o (c ∷ cs) h g =
     let P : Choice × ℕ → Type 0 = λ y. choice_le y.0 (choice.Nominal c.number) ≡ false in (
-      all_join P (map for_candidate cs) (map for_party o.parties ++ last_two o) (candidates_behind c.number cs h.0)
-          (all_join P (map for_party o.parties) (last_two o) (parties_last c.number o.parties) (refl, (refl, tt))),
+      every_append P (map for_candidate cs) (map for_party o.parties ++ last_two o) (candidates_behind c.number cs h.0)
+          (every_append P (map for_party o.parties) (last_two o) (parties_last c.number o.parties) (refl, (refl, tt))),
       candidates_go_up o cs h.1 g,
     )
 

@@ -2,8 +2,8 @@
 use Rattle.std.specs.Prelude.{ℕ, ◌*◌, ◌<◌, ◌≤◌, ◌+◌, ◌-◌, Bool, true, ◌&&◌, ◌==◌, nat_lt, if◌then◌else◌, List, [], ◌∷◌, ◌++◌, codes, length, slice_get, Option, None, Some, option_map, Result, Ok, Err}
 use Rattle.std.specs.Option.{option_and_then, option_map_or}
 use Rattle.std.specs.Str.{bytes_eq}
-use Rattle.urna_base.specs.Digits.{decimal_value, digits_value}
-use Rattle.urna_base.specs.Moment.{is_between, is_date}
+use Rattle.urna_base.specs.Digits.{decimal_value, digits_value, decimal_within}
+use Rattle.urna_base.specs.Moment.{is_date}
 use Rattle.urna_base.specs.Words.{after_word, cut_at}
 use Rattle.election_tables.specs.Fields.{has_digits}
 use Rattle.election_tables.specs.Limits.{greatest_process, greatest_section, most_offices}
@@ -29,10 +29,6 @@ MatchRead (Err (Line k)) P Q = Q k
 
 -- ---- what one line says
 
--- a number in a range
-unfoldable pub number_in : ℕ → ℕ → List ℕ → Option ℕ
-number_in low high text = option_and_then (λ n. if is_between low high n then Some n else None) (decimal_value text)
-
 -- a valid date
 unfoldable pub date_in : List ℕ → Option ℕ
 date_in text = option_and_then (λ n. if is_date n then Some n else None) (digits_value 8 text)
@@ -43,7 +39,7 @@ cell word text = option_and_then (cut_at 32) (after_word word text)
 
 -- a number behind a word, and what stands behind it
 unfoldable pub number_cell : List ℕ → ℕ → ℕ → List ℕ → Option (ℕ × List ℕ)
-number_cell word low high text = option_and_then (λ x. option_map (λ n. (n, x.1)) (number_in low high x.0)) (cell word text)
+number_cell word low high text = option_and_then (λ x. option_map (λ n. (n, x.1)) (decimal_within low high x.0)) (cell word text)
 
 -- a date behind a word, and what stands behind it
 unfoldable pub date_cell : List ℕ → List ℕ → Option (ℕ × List ℕ)
@@ -51,7 +47,7 @@ date_cell word text = option_and_then (λ x. option_map (λ n. (n, x.1)) (date_i
 
 -- a section behind its word, at the end of a line
 unfoldable pub section_in : List ℕ → Option ℕ
-section_in text = option_and_then (number_in 1 greatest_section) (after_word (codes "SECA ") text)
+section_in text = option_and_then (decimal_within 1 greatest_section) (after_word (codes "SECA ") text)
 
 -- which election and section it is, no office being read: five cells, of which each stands behind the one before it (read from below)
 unfoldable pub heading_in : List ℕ → Option RecordText
@@ -68,7 +64,7 @@ heading_in line =
 unfoldable pub office_in : List ℕ → List ℕ → Option (ℕ × ℕ)
 office_in before line =
     option_and_then (λ code. option_and_then (λ votes. if may_have_code before code.0 then Some (code.0, votes) else None)
-    (number_in 0 most_votes code.1))
+    (decimal_within 0 most_votes code.1))
     (number_cell (codes "CARG ") 0 greatest_code line)
 
 -- the candidate of an office
@@ -77,7 +73,7 @@ candidate_in code text = option_and_then (λ n. if has_digits (digits_in code) n
 
 -- the party of an office that is decided in proportion
 unfoldable pub party_in : ℕ → List ℕ → Option Choice
-party_in code text = option_and_then (λ n. if code_proportional code then Some (choice.Party n) else None) (number_in 10 99 text)
+party_in code text = option_and_then (λ n. if code_proportional code then Some (choice.Party n) else None) (decimal_within 10 99 text)
 
 -- the choice of a vote in an office
 unfoldable pub choice_in : ℕ → List ℕ → Option Choice

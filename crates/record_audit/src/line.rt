@@ -1,10 +1,11 @@
 //! What one line of a record text says.
 ghost use Rattle.std.specs.Prelude.{◌≡◌, ◌^◌, ◌<◌, ◌≤◌, ◌==◌, [], length, IfSome, MatchOption, None, Some};
+ghost use Rattle.std.specs.List.{list_any};
+ghost use Rattle.urna_base.specs.Digits.{decimal_within};
 ghost use Rattle.election_tables.specs.Limits.{most_offices};
 ghost use Rattle.poll_report.specs.Report.{digits_in, may_have_code};
-ghost use Rattle.record_audit.specs.Reading.{candidate_in, cell, choice_in, date_cell, date_in, heading_in, may_follow, number_cell, number_in, office_in, party_in, section_in, vote_in};
+ghost use Rattle.record_audit.specs.Reading.{candidate_in, cell, choice_in, date_cell, date_in, heading_in, may_follow, number_cell, office_in, party_in, section_in, vote_in};
 ghost use Rattle.record_audit.specs.Spelling.{codes_in, most_votes};
-ghost use Rattle.std.specs.List.{list_any};
 
 use crate::text::{RecordOffice, RecordOffices, RecordText};
 use election_tables::{
@@ -13,7 +14,7 @@ use election_tables::{
 };
 use poll_report::digits_in;
 use std::alloc::Global;
-use urna_base::{after, cut_at, date_ok, decimal, digits};
+use urna_base::{after, cut_at, date_ok, decimal, decimal_within, digits};
 use vote_kinds::Choice;
 
 /// The most votes of an office: two of each voter.
@@ -177,18 +178,13 @@ fn split_cell<'a>(word: &[u8], text: &'a [u8]) -> Option<(&'a [u8], &'a [u8])>
 }
 
 /// The number in a range that a text writes.
-#[tactic(auto, unfolding(crate::specs::Reading::number_in))]
 fn number_of(low: u64, high: u64, text: &[u8]) -> Option<u32>
     requires { high < 2 ^ 32 }
-    ensures value { result ≡ number_in low high text.now }
+    ensures value { result ≡ decimal_within low high text.now }
     ensures few { IfSome result (λ n. n ≤ high) }
 {
-    let number = decimal(text)?;
-    if low <= number && number <= high {
-        Some(number as u32)
-    } else {
-        None
-    }
+    let number = decimal_within(text, low, high)?;
+    Some(number as u32)
 }
 
 /// The date that a text writes.

@@ -32,7 +32,7 @@ fn read_lines(alloc: Global, bytes: &[u8]) -> Result<RecordText, RecordError>
     let mut stage = Stage::Start;
     let mut number = 1;
     let mut rest = bytes;
-    while let Some((line, behind)) = split_row(rest) {
+    while let Some((line, behind)) = next_line(rest) {
         stage = match stage.with_line(alloc, line)? {
             Some(next) => next,
             None => return Err(RecordError::Line(number)),
@@ -50,7 +50,7 @@ fn read_lines(alloc: Global, bytes: &[u8]) -> Result<RecordText, RecordError>
 }
 
 /// The first line of a text without its line feed, and what stands behind that; `None` where the text has no line feed.
-fn split_row(text: &[u8]) -> Option<(&[u8], &[u8])>
+fn next_line(text: &[u8]) -> Option<(&[u8], &[u8])>
     ensures none { IsNone result → (text.now ≡ []) ⊎ ((rows_of text.now ≡ text.now ∷ []) × (line_in text.now ≡ None)) }
     ensures split { IfSome result (λ x. rows_of text.now ≡ (x.0.now ++ line_end) ∷ rows_of x.1.now) }
     ensures line { IfSome result (λ x. line_in (x.0.now ++ line_end) ≡ Some x.0.now) }

@@ -3,10 +3,10 @@ ghost use Rattle.std.specs.Prelude.{◌≡◌, ◌<◌, ◌≤◌, map, length, 
 ghost use Rattle.std.specs.List.{AllByRecursion};
 ghost use Rattle.election_tables.specs.Limits.{most_offices};
 ghost use Rattle.vote_record.specs.Bag.{count_of};
-ghost use Rattle.poll_report.specs.Report.{IsReport};
+ghost use Rattle.poll_report.specs.Report.{IsReport, IsCounted};
 ghost use Rattle.record_audit.specs.Finding.{codes_counted, difference, finding, first_apart, first_differing, has_same_heading, said_for, votes_for};
 ghost use Rattle.record_audit.specs.Spelling.{codes_in};
-ghost use Rattle.record_audit.specs.Walk.{IsCounted, first_before, for_candidate, for_party, in_order, listing, passed, passed_all, run};
+ghost use Rattle.record_audit.specs.Walk.{first_before, for_candidate, for_party, in_order, listing, passed, passed_all, run};
 
 use crate::finding::Finding;
 use crate::search::search;

@@ -1,8 +1,9 @@
 //! The search for the first difference where votes don't stand in the order of choices, as those of a text do that was read.
 ghost use Rattle.std.specs.Prelude.{◌≡◌, ◌<◌, map};
 ghost use Rattle.std.specs.List.{AllByRecursion};
+ghost use Rattle.poll_report.specs.Report.{IsCounted};
 ghost use Rattle.record_audit.specs.Finding.{differs_at, named};
-ghost use Rattle.record_audit.specs.Walk.{IsCounted, best_of, better};
+ghost use Rattle.record_audit.specs.Walk.{best_of, better};
 
 use crate::recount::{count_lines, said_for};
 use poll_report::{Count, OfficeCount};

@@ -6,10 +6,11 @@ use Rattle.std.proofs.lemmas.Bool.Decides.{nat_tests}
 use Rattle.std.proofs.lemmas.List.Elements.{All-nil, All-cons, All-append}
 use Rattle.std.proofs.lemmas.List.Folds.{flat_map-map}
 use Rattle.std.proofs.lemmas.List.{map-append}
+use Rattle.urna_base.proofs.Every.{every_append}
 use Rattle.urna_base.specs.Digits.{padded, is_digit}
 use Rattle.urna_base.specs.Moment.{is_moment, is_date}
 use Rattle.urna_base.proofs.DigitLaws.{all_digits-padded, is_digit-true, both_from_and}
-use Rattle.urna_base.proofs.Lacking.{Lacks, is_other}
+use Rattle.urna_base.proofs.Lacking.{Lacks, padded_in_line}
 use Rattle.urna_base.proofs.LineLaws.{lines_text-append}
 use Rattle.key_script.specs.declared.keys.Key.{Key}
 use Rattle.key_script.specs.declared.keys.Key.TheVariants as key
@@ -23,7 +24,7 @@ use Rattle.rehearsal.specs.declared.typing.Typed.{Typed}
 use Rattle.rehearsal.specs.declared.typing.Typed.TheVariants.{Five, Two, Blank}
 use Rattle.rehearsal.specs.Script.{ScriptLine, clerk, voter, script_line_text, script_line_events, second_line, visit_with, visit_at, visits, opening_moment, closing_moment, generated_script, text_of_script, events_in_script, script_text, generated_events}
 use Rattle.rehearsal.specs.Typing.{TypedPair, choice_keys, digit_keys, is_suspended, typed_at, typed_keys}
-use Rattle.rehearsal.proofs.LineLaws.{lines_of-text, no_feed-padded}
+use Rattle.rehearsal.proofs.LineLaws.{lines_lack, lines_of-text}
 use Rattle.rehearsal.proofs.Ranges.{flat_map_range_more}
 
 -- ---- lines that are of the form are read back
@@ -38,25 +39,21 @@ line_reads (clerk key) valid = clerk_text-reads key valid
 line_reads (voter []) valid = absurd (omega (arith, valid.0))
 line_reads (voter (key ∷ keys)) valid = keys_text-reads key keys valid.1
 
-no_feed-keys : (keys : List Key) → Lacks 10 (map key_byte keys)
-no_feed-keys [] = refl
-no_feed-keys (key.Digit d ∷ keys) = let apart : (48 + d == 10) ≡ false = grind (arith, nat_tests) in rw (apart, no_feed-keys keys) refl
-no_feed-keys (key.Blank ∷ keys) = no_feed-keys keys
-no_feed-keys (key.Correct ∷ keys) = no_feed-keys keys
-no_feed-keys (key.Confirm ∷ keys) = no_feed-keys keys
+keys_in_line : (keys : List Key) → Lacks 10 (map key_byte keys)
+keys_in_line [] = refl
+keys_in_line (key.Digit d ∷ keys) = let apart : (48 + d == 10) ≡ false = grind (arith, nat_tests) in rw (apart, keys_in_line keys) refl
+keys_in_line (key.Blank ∷ keys) = keys_in_line keys
+keys_in_line (key.Correct ∷ keys) = keys_in_line keys
+keys_in_line (key.Confirm ∷ keys) = keys_in_line keys
 
-no_feed-line : (line : ScriptLine) → Lacks 10 (script_line_text line)
-no_feed-line (clerk (Abre m)) = no_feed-padded 14 m
-no_feed-line (clerk (Titulo t)) = no_feed-padded 12 t
-no_feed-line (clerk Libera) = refl
-no_feed-line (clerk Cancela) = refl
-no_feed-line (clerk Suspende) = refl
-no_feed-line (clerk (Encerra m)) = no_feed-padded 14 m
-no_feed-line (voter keys) = no_feed-keys keys
-
-no_feeds : (lines : List ScriptLine) → list_all (list_all (is_other 10)) (map script_line_text lines) ≡ true
-no_feeds [] = refl
-no_feeds (line ∷ lines) = rw (no_feed-line line, no_feeds lines) refl
+script_in_line : (line : ScriptLine) → Lacks 10 (script_line_text line)
+script_in_line (clerk (Abre m)) = padded_in_line 14 m
+script_in_line (clerk (Titulo t)) = padded_in_line 12 t
+script_in_line (clerk Libera) = refl
+script_in_line (clerk Cancela) = refl
+script_in_line (clerk Suspende) = refl
+script_in_line (clerk (Encerra m)) = padded_in_line 14 m
+script_in_line (voter keys) = keys_in_line keys
 
 all_read : (lines : List ScriptLine) → AllByRecursion IsScriptLine lines
     → all_some (map events_of_line (map script_line_text lines)) ≡ Some (map script_line_events lines)
@@ -65,7 +62,7 @@ all_read (line ∷ lines) valid = rw (line_reads line valid.0, all_read lines va
 
 lines_read : (lines : List ScriptLine) → AllByRecursion IsScriptLine lines → events_of (text_of_script lines) ≡ Some (events_in_script lines)
 unfolding events_of
-lines_read lines valid = rw (lines_of-text (map script_line_text lines) (no_feeds lines), all_read lines valid, flat_map-map (λ events. events) script_line_events lines) refl
+lines_read lines valid = rw (lines_of-text (map script_line_text lines) (lines_lack script_line_text lines script_in_line), all_read lines valid, flat_map-map (λ events. events) script_line_events lines) refl
 
 -- ---- what is typed
 
@@ -110,14 +107,10 @@ visit_with_lines : (place : ℕ) (o : Option TypedPair) → place < most_voters 
 visit_with_lines place None h = tt
 visit_with_lines place (Some pair) h = (omega arith, (tt, (typed_is_line pair.0, (second_is_line place pair, tt))))
 
-lines_and_lines : (xs ys : List ScriptLine) → AllByRecursion IsScriptLine xs → AllByRecursion IsScriptLine ys → AllByRecursion IsScriptLine (xs ++ ys)
-lines_and_lines [] ys a b = b
-lines_and_lines (x ∷ xs) ys a b = (a.0, lines_and_lines xs ys a.1 b)
-
 visits_are_lines : (a n : ℕ) → a + n ≤ most_voters → AllByRecursion IsScriptLine (flat_map visit_at (range_with_len a n))
 visits_are_lines a zero h = tt
 visits_are_lines a (suc n) h =
-    lines_and_lines (visit_at a) (flat_map visit_at (range_with_len (a + 1) n))
+    every_append IsScriptLine (visit_at a) (flat_map visit_at (range_with_len (a + 1) n))
     (visit_with_lines a (typed_at a) (omega arith)) (visits_are_lines (a + 1) n (omega arith))
 
 moments_valid : (is_moment opening_moment ≡ true) × (is_moment closing_moment ≡ true)
@@ -127,7 +120,7 @@ moments_valid = (refl, refl)
 script_is_lines : (voters : ℕ) → voters ≤ most_voters → AllByRecursion IsScriptLine (generated_script voters)
 script_is_lines voters few =
     let closes : AllByRecursion IsScriptLine (clerk (Encerra closing_moment) ∷ []) = (moments_valid.1, tt) in
-    (moments_valid.0, lines_and_lines (visits voters) _ (visits_are_lines 0 voters (omega arith)) closes)
+    (moments_valid.0, every_append IsScriptLine (visits voters) _ (visits_are_lines 0 voters (omega arith)) closes)
 
 pub script_read : (voters : ℕ) (bytes : List ℕ) → voters ≤ most_voters → bytes ≡ script_text voters → events_of bytes ≡ Some (generated_events voters)
 script_read voters bytes few e = rw e (lines_read (generated_script voters) (script_is_lines voters few))

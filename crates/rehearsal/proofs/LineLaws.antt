@@ -1,11 +1,8 @@
 -- The lines of a text of lines.
-use Rattle.std.proofs.Common.{◌≡◌, ℕ, zero, suc, ◌+◌, ◌/◌, ◌%◌, true, List, [], ◌∷◌, ◌++◌, refl, arith, append_assoc}
+use Rattle.std.proofs.Common.{◌≡◌, ℕ, ◌+◌, true, List, [], ◌∷◌, ◌++◌, map, refl, append_assoc}
 use Rattle.std.specs.List.{list_all}
 use Rattle.std.proofs.lemmas.Bool.{and_parts}
-use Rattle.std.proofs.lemmas.Bool.Decides.{nat_tests}
-use Rattle.urna_base.specs.Digits.{padded}
 use Rattle.urna_base.specs.Lines.{lines_of, lines_text}
-use Rattle.urna_base.proofs.DigitLaws.{list_all-push}
 use Rattle.urna_base.proofs.Lacking.{Lacks, is_other, other_byte}
 
 -- a line that ends with its line feed is the first line
@@ -27,7 +24,6 @@ lines_of-text (line ∷ lines) e =
     let (here, more) = and_parts (list_all (is_other 10) line) (list_all (list_all (is_other 10)) lines) e in
     rw (append_assoc, lines_of-feed line (lines_text lines) here, lines_of-text lines more) refl
 
-pub no_feed-padded : (k n : ℕ) → Lacks 10 (padded k n)
-unfolding padded
-no_feed-padded zero n = refl
-no_feed-padded (suc k) n = list_all-push (is_other 10) (padded k (n / 10)) (48 + n % 10) (no_feed-padded k (n / 10)) (grind (arith, nat_tests))
+pub lines_lack : {A : Type 0} (f : A → List ℕ) (xs : List A) → ((x : A) → Lacks 10 (f x)) → list_all (list_all (is_other 10)) (map f xs) ≡ true
+lines_lack f [] each = refl
+lines_lack f (x ∷ xs) each = rw (each x, lines_lack f xs each) refl

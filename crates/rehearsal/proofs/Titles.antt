@@ -1,6 +1,6 @@
 -- The rehearsal's roll is read as its titles.
 use Rattle.std.proofs.Common.{◌≡◌, ℕ, zero, suc, ◌+◌, ◌^◌, ◌≤◌, true, List, [], ◌∷◌, ◌++◌, map, nat_le, Some, None, refl, arith, append-nil, append_assoc}
-use Rattle.std.specs.List.{range_with_len, list_all, position_from, zip}
+use Rattle.std.specs.List.{range_with_len, position_from, zip}
 use Rattle.std.specs.Prelude.{not}
 use Rattle.std.proofs.lemmas.Bool.{and_parts, leb-true, le-leb, lt-ltb}
 use Rattle.std.proofs.lemmas.List.FromFn.{length-map-range_with_len, map-range_with_len_more}
@@ -8,17 +8,13 @@ use Rattle.sha2.specs.Sha256.{sha256}
 use Rattle.urna_base.specs.Digits.{padded}
 use Rattle.urna_base.specs.Lines.{lines_of}
 use Rattle.urna_base.proofs.DigitLaws.{digits_value-padded}
-use Rattle.urna_base.proofs.Lacking.{is_other}
+use Rattle.urna_base.proofs.Lacking.{padded_in_line}
 use Rattle.urna_base.proofs.LineLaws.{lines_text-append}
 use Rattle.election_tables.specs.Limits.{most_voters}
 use Rattle.election_tables.specs.Roll.{titles_on, may_follow, bad_line, IsRollOf}
 use Rattle.rehearsal.specs.Roll.{title_at, titles, roll_text, generated_roll}
-use Rattle.rehearsal.proofs.LineLaws.{lines_of-text, no_feed-padded}
+use Rattle.rehearsal.proofs.LineLaws.{lines_lack, lines_of-text}
 use Rattle.rehearsal.proofs.Rising.{rises_from, rises_from-range}
-
-no_feeds : (ts : List ℕ) → list_all (list_all (is_other 10)) (map (padded 12) ts) ≡ true
-no_feeds [] = refl
-no_feeds (t ∷ ts) = rw (no_feed-padded 12 t, no_feeds ts) refl
 
 titles_read : (a n : ℕ) → a + n ≤ 10 ^ 12 → titles_on (map (padded 12) (range_with_len a n)) ≡ map Some (range_with_len a n)
 titles_read a zero h = refl
@@ -41,7 +37,7 @@ none_bad (t ∷ ts) e =
 
 pub roll_read : (voters : ℕ) (bytes : List ℕ) → 1 ≤ voters → voters ≤ most_voters → bytes ≡ roll_text voters → IsRollOf bytes (generated_roll voters (sha256 bytes))
 roll_read voters bytes some few e =
-    let lines : lines_of bytes ≡ map (padded 12) (titles voters) = rw e (lines_of-text _ (no_feeds (titles voters))) in
+    let lines : lines_of bytes ≡ map (padded 12) (titles voters) = rw e (lines_of-text _ (lines_lack (padded 12) (titles voters) (padded_in_line 12))) in
     let read : titles_on (lines_of bytes) ≡ map Some (titles voters) = rw lines (titles_read (title_at 0) voters (omega arith)) in
     record {
       count = rw (lines, length-map-range_with_len (padded 12) (title_at 0) voters, le-leb 1 voters some, le-leb voters most_voters few) refl;

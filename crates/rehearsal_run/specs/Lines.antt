@@ -3,6 +3,7 @@ use Rattle.std.specs.Prelude.{◌≡◌, ℕ, ◌-◌, nat_lt, if◌then◌else�
 use Rattle.std.specs.Fmt.{decimal}
 use Rattle.std.specs.List.{flat_map, range_with_len}
 use Rattle.urna_base.specs.Words.{pieces}
+use Rattle.urna_base.specs.Lines.{number_line, two_number_line, word_line}
 use Rattle.election_tables.specs.TablesData.{TablesData}
 use Rattle.vote_kinds.specs.Ballot.{panel_at}
 use Rattle.poll_report.specs.declared.report.Report.{Report}
@@ -16,7 +17,7 @@ use Rattle.seat_remainders.specs.declared.outcome.Outcome.{Outcome}
 use Rattle.seat_remainders.specs.declared.outcome.Outcome.TheVariants as outcome
 use Rattle.seat_remainders.specs.declared.outcome.PartySeats.{PartySeats}
 use Rattle.totals.specs.Contest.{contest_in, entries_in, votes_in}
-use Rattle.totals.specs.Lines.{number_line, pair_line, valid_of}
+use Rattle.totals.specs.Lines.{valid_of}
 use Rattle.totals.specs.declared.votes.PanelVotes.{PanelVotes}
 use Rattle.rehearsal.specs.Typing.{is_suspended}
 
@@ -34,14 +35,14 @@ votes_line code v =
 
 -- the electoral quotient, and the vacant ones of the 9 seats
 abbrev pub seats_line : ℕ → ℕ → List ℕ
-seats_line quotient vacant = codes "CARGO 13 QUOCIENTE " ++ (decimal quotient ++ (codes " VAGAS 9 VACANTES " ++ (decimal vacant ++ 10 ∷ [])))
+seats_line quotient vacant = two_number_line (codes "CARGO 13 QUOCIENTE ") quotient (codes " VAGAS 9 VACANTES ") vacant
 
 -- that; or that there is no quotient, for so many valid votes; or that the first phase
 -- comes to more seats than there are
 abbrev pub quotient_line : Outcome → List ℕ
 quotient_line (outcome.Seats s) = seats_line s.quotient s.vacant
-quotient_line (outcome.NoQuotient valid seats) = pair_line (codes "CARGO 13 SEM QUOCIENTE ") valid seats
-quotient_line (outcome.Over first seats) = pair_line (codes "CARGO 13 QUOCIENTE EXCEDIDO ") first seats
+quotient_line (outcome.NoQuotient valid seats) = two_number_line (codes "CARGO 13 SEM QUOCIENTE ") valid (codes " ") seats
+quotient_line (outcome.Over first seats) = two_number_line (codes "CARGO 13 QUOCIENTE EXCEDIDO ") first (codes " ") seats
 
 -- what each party has, rising by number, where seats are given
 abbrev pub parties_in : Outcome → List PartySeats
@@ -66,8 +67,8 @@ elected_line o = codes "CARGO 13 ELEITOS" ++ elected_words (parties_in o) ++ 10 
 -- who is elected, or the two who go to a second turn
 abbrev pub mayor_line : MajorityOutcome → List ℕ
 mayor_line (majority.Elected number) = number_line (codes "CARGO 11 ELEITO ") number
-mayor_line (majority.Runoff first second) = pair_line (codes "CARGO 11 SEGUNDO TURNO ") first second
-mayor_line majority.Nobody = codes "CARGO 11 NINGUEM" ++ 10 ∷ []
+mayor_line (majority.Runoff first second) = two_number_line (codes "CARGO 11 SEGUNDO TURNO ") first (codes " ") second
+mayor_line majority.Nobody = word_line (codes "CARGO 11 NINGUEM")
 
 -- ---- all ten
 

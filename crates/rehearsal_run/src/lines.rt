@@ -1,6 +1,5 @@
 //! The ten lines that tell a rehearsal (docs/FORMATS.md, "The rehearsal").
 ghost use Rattle.std.specs.Prelude.{◌≡◌, ◌+◌, ◌*◌, ◌<◌, ◌≤◌, ◌^◌, ℕ, true, List, [], ◌∷◌, ◌++◌, length, sum_by, IfOk};
-ghost use Rattle.std.specs.Fmt.{decimal};
 ghost use Rattle.poll_report.specs.declared.report.Report.{Report};
 ghost use Rattle.qr_text.specs.Spelling.{report_text};
 ghost use Rattle.urna_base.specs.Words.{pieces};
@@ -20,8 +19,8 @@ use rehearsal::is_suspended;
 use seat_remainders::{MajorityOutcome, Outcome, distribute, majority};
 use section_intake::Intake;
 use std::alloc::Global;
-use totals::{PanelVotes, contest_of, entries_of, number_line, pair_line, push_numbered};
-use urna_base::{LineBuffer, Memory};
+use totals::{PanelVotes, contest_of, entries_of};
+use urna_base::{LineBuffer, Memory, number_line, two_number_line, word_line};
 
 /// The panel of the councillors.
 const COUNCILLOR: u32 = 0;
@@ -49,8 +48,8 @@ pub(crate) fn rehearsal_lines(
 {
     let councillor = votes_of(alloc, tables, intake, COUNCILLOR)?;
     let mayor = votes_of(alloc, tables, intake, MAYOR)?;
-    let elected = elected_of(alloc, tables, intake)?;
-    let outcome = outcome_of(alloc, tables, intake)?;
+    let elected = mayor_outcome(alloc, tables, intake)?;
+    let outcome = councillor_outcome(alloc, tables, intake)?;
     // no line can fail here, so that no further way out lets go of what was made
     let mut lines = Vec::with_capacity(alloc, LINES)?;
     lines.push_reserved(number_line(b"ENSAIO ", u64::from(n)));
@@ -83,7 +82,7 @@ fn votes_of(
 }
 
 /// What comes of the office of mayor.
-fn elected_of(alloc: Global, tables: &Tables, intake: &Intake) -> Result<MajorityOutcome, Memory>
+fn mayor_outcome(alloc: Global, tables: &Tables, intake: &Intake) -> Result<MajorityOutcome, Memory>
     requires panel { 1 < length tables.now.panels }
     requires made { IsIntakeFor tables.now intake.now }
     ensures { IfOk result (λ elected. (reports : List Report) → AreReportsOf (accepted_files intake.now) reports
@@ -93,8 +92,8 @@ fn elected_of(alloc: Global, tables: &Tables, intake: &Intake) -> Result<Majorit
     Ok(majority(entries.as_slice(), true))
 }
 
-/// What comes of the office of councillor, which has 9 seats at most.
-fn outcome_of(alloc: Global, tables: &Tables, intake: &Intake) -> Result<Outcome, Memory>
+/// What comes of the office of councillor. The caller owes that it has 9 seats at most.
+fn councillor_outcome(alloc: Global, tables: &Tables, intake: &Intake) -> Result<Outcome, Memory>
     requires panel { 0 < length tables.now.panels }
     requires seats { (panel_at tables.now 0).office.seats ≤ 9 }
     requires made { IsIntakeFor tables.now intake.now }
@@ -104,7 +103,7 @@ fn outcome_of(alloc: Global, tables: &Tables, intake: &Intake) -> Result<Outcome
 {
     let contest = contest_of(alloc, tables, intake, COUNCILLOR)?;
     seat_remainders::laws::seats();
-    Ok(distribute(alloc, &contest)?)
+    distribute(alloc, &contest)
 }
 
 /// How many of `n` voters the clerk suspends.
@@ -126,10 +125,10 @@ fn votes_line(code: u8, votes: PanelVotes) -> LineBuffer
     ensures { result ≡ votes_line code votes }
 {
     let mut line = LineBuffer::new();
-    push_numbered(&mut line, b"CARGO ", u64::from(code));
-    push_numbered(&mut line, b" VALIDOS ", votes.valid());
-    push_numbered(&mut line, b" BRANCOS ", votes.blank);
-    push_numbered(&mut line, b" NULOS ", votes.null_votes);
+    line.push_numbered(b"CARGO ", u64::from(code));
+    line.push_numbered(b" VALIDOS ", votes.valid());
+    line.push_numbered(b" BRANCOS ", votes.blank);
+    line.push_numbered(b" NULOS ", votes.null_votes);
     line.push_text(b"\n");
     line
 }
@@ -141,10 +140,15 @@ fn quotient_line(outcome: &Outcome) -> LineBuffer
     match outcome {
         Outcome::Seats(seats) => seats_line(seats.quotient, seats.vacant),
         Outcome::NoQuotient { valid, seats } => {
-            pair_line(b"CARGO 13 SEM QUOCIENTE ", *valid, u64::from(*seats))
+            two_number_line(b"CARGO 13 SEM QUOCIENTE ", *valid, b" ", u64::from(*seats))
         }
         Outcome::Over { first, seats } => {
-            pair_line(b"CARGO 13 QUOCIENTE EXCEDIDO ", *first, u64::from(*seats))
+            two_number_line(
+                b"CARGO 13 QUOCIENTE EXCEDIDO ",
+                *first,
+                b" ",
+                u64::from(*seats),
+            )
         }
     }
 }
@@ -153,25 +157,12 @@ fn quotient_line(outcome: &Outcome) -> LineBuffer
 fn seats_line(quotient: u64, vacant: u32) -> LineBuffer
     ensures { result ≡ seats_line quotient vacant }
 {
-    two_numbers(
+    two_number_line(
         b"CARGO 13 QUOCIENTE ",
         quotient,
         b" VAGAS 9 VACANTES ",
         u64::from(vacant),
     )
-}
-
-/// A line of two words, each with a number.
-fn two_numbers(word: &[u8], number: u64, other_word: &[u8], other: u64) -> LineBuffer
-    requires few { length word.now ≤ 40 }
-    requires other_few { length other_word.now ≤ 40 }
-    ensures { result ≡ word.now ++ (decimal number ++ (other_word.now ++ (decimal other ++ 10 ∷ []))) }
-{
-    let mut line = LineBuffer::new();
-    push_numbered(&mut line, word, number);
-    push_numbered(&mut line, other_word, other);
-    line.push_text(b"\n");
-    line
 }
 
 /// The parties with seats. The caller owes that these are 9 seats at most, so that they fit a line.
@@ -207,21 +198,18 @@ fn push_seats(line: &mut LineBuffer, party: u8, seats: u32)
     }
 }
 
-/// What comes of the office of mayor.
+/// The line of what comes of the office of mayor.
 fn mayor_line(outcome: MajorityOutcome) -> LineBuffer
     ensures { result ≡ mayor_line outcome }
 {
     match outcome {
         MajorityOutcome::Elected(number) => number_line(b"CARGO 11 ELEITO ", u64::from(number)),
-        MajorityOutcome::Runoff(first, second) => pair_line(
+        MajorityOutcome::Runoff(first, second) => two_number_line(
             b"CARGO 11 SEGUNDO TURNO ",
             u64::from(first),
+            b" ",
             u64::from(second),
         ),
-        MajorityOutcome::Nobody => {
-            let mut line = LineBuffer::new();
-            line.push_text(b"CARGO 11 NINGUEM\n");
-            line
-        }
+        MajorityOutcome::Nobody => word_line(b"CARGO 11 NINGUEM"),
     }
 }

@@ -5,7 +5,6 @@ ghost use Rattle.report_lines.specs.Verdicts.{field_fault_text, numbered_line, p
 use hash_chain::PartFault;
 use qr_text::FieldFault;
 use section_intake::Verdict;
-use totals::push_numbered;
 use urna_base::LineBuffer;
 
 /// The line of a verdict, with its line feed.
@@ -48,17 +47,14 @@ fn push_verdict(line: &mut LineBuffer, verdict: Verdict)
 }
 
 /// Appends a word and a section.
-#[tactic(auto, using(urna_base::proofs::DecimalLaws::line_lengths))]
 fn push_section(line: &mut LineBuffer, word: &[u8], zone: u32, section: u32)
     requires room { length line.old ≤ 30 }
     requires word { length word.now ≤ 20 }
     ensures text { line.new ≡ line.old ++ section_text word.now zone section }
     ensures short { length line.new ≤ 127 }
 {
-    line.push_text(word);
-    line.push_decimal(u64::from(zone));
-    line.push_text(b" ");
-    line.push_decimal(u64::from(section));
+    line.push_numbered(word, u64::from(zone));
+    line.push_numbered(b" ", u64::from(section));
 }
 
 /// Appends the fault of a part.
@@ -68,11 +64,11 @@ fn push_part(line: &mut LineBuffer, fault: PartFault)
     ensures short { length line.new ≤ 127 }
 {
     match fault {
-        PartFault::Form(part) => push_numbered(line, b"PARTE FORMA ", u64::from(part)),
-        PartFault::Version(part) => push_numbered(line, b"PARTE VERSAO ", u64::from(part)),
-        PartFault::Number(part) => push_numbered(line, b"PARTE NUMERO ", u64::from(part)),
-        PartFault::Hash(part) => push_numbered(line, b"PARTE HASH ", u64::from(part)),
-        PartFault::Cut(part) => push_numbered(line, b"PARTE CORTE ", u64::from(part)),
+        PartFault::Form(part) => line.push_numbered(b"PARTE FORMA ", u64::from(part)),
+        PartFault::Version(part) => line.push_numbered(b"PARTE VERSAO ", u64::from(part)),
+        PartFault::Number(part) => line.push_numbered(b"PARTE NUMERO ", u64::from(part)),
+        PartFault::Hash(part) => line.push_numbered(b"PARTE HASH ", u64::from(part)),
+        PartFault::Cut(part) => line.push_numbered(b"PARTE CORTE ", u64::from(part)),
     }
 }
 
@@ -83,7 +79,7 @@ fn push_field(line: &mut LineBuffer, fault: FieldFault)
     ensures short { length line.new ≤ 127 }
 {
     match fault {
-        FieldFault::Field(field) => push_numbered(line, b"CAMPO ", u64::from(field)),
+        FieldFault::Field(field) => line.push_numbered(b"CAMPO ", u64::from(field)),
         FieldFault::Sum { field, sum, said } => push_sum(line, field, sum, said),
     }
 }
@@ -94,7 +90,7 @@ fn push_sum(line: &mut LineBuffer, field: u32, sum: u64, said: u64)
     ensures text { line.new ≡ line.old ++ field_fault_text (FieldFault.Sum field sum said) }
     ensures short { length line.new ≤ 127 }
 {
-    push_numbered(line, b"SOMA ", u64::from(field));
-    push_numbered(line, b" ", sum);
-    push_numbered(line, b" ", said);
+    line.push_numbered(b"SOMA ", u64::from(field));
+    line.push_numbered(b" ", sum);
+    line.push_numbered(b" ", said);
 }

@@ -1,5 +1,5 @@
 -- No line of a certificate has a line feed.
-use Rattle.std.proofs.Common.{ℕ, ◌+◌, ◌^◌, ◌≤◌, ◌<◌, List, [], ◌∷◌, ◌++◌, length, map, take, flat_map, zero, suc, inl, inr, refl, arith}
+use Rattle.std.proofs.Common.{ℕ, ◌+◌, ◌^◌, ◌≤◌, ◌<◌, List, [], ◌∷◌, ◌++◌, length, map, flat_map, inl, inr, refl, arith}
 use Rattle.std.specs.Prelude.{codes}
 use Rattle.std.specs.Fmt.{decimal}
 use Rattle.std.specs.List.{AllByRecursion}
@@ -58,8 +58,3 @@ lines_lack code c is = (
     ),
   ),
 )
-
-pub all_take : (P : List ℕ → Type 0) (n : ℕ) (lines : List (List ℕ)) → AllByRecursion P lines → AllByRecursion P (take n lines)
-all_take P zero lines all = tt
-all_take P (suc n) [] all = tt
-all_take P (suc n) (line ∷ lines) all = (all.0, all_take P n lines all.1)

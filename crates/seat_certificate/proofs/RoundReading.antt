@@ -9,13 +9,14 @@ use Rattle.urna_base.proofs.CutLaws.{cut_behind, cut_parts}
 use Rattle.quotients.specs.Average.{AverageData}
 use Rattle.seat_certificate.specs.declared.table.TheConstants.{TABLE}
 use Rattle.seat_certificate.specs.declared.certificate.Round.{Round}
-use Rattle.seat_certificate.specs.Reading.{average_at, averages_at, keyed, next_average, number_at, round_at, round_front}
+use Rattle.seat_certificate.specs.Reading.{average_at, averages_at, keyed, next_average, round_at, round_front}
 use Rattle.seat_certificate.specs.Text.{AverageFits, IsBloc, RiseAbove, RoundFits, average_word, round_line}
 use Rattle.seat_certificate.proofs.Members.{some_same}
 use Rattle.seat_certificate.proofs.Pieces.{number_first, words_join}
 use Rattle.urna_base.proofs.Lacking.{Lacks, decimal_lacks, lacks-append}
 use Rattle.urna_base.proofs.PieceLaws.{piece_first, piece_last}
 use Rattle.urna_base.proofs.Cases.{and_then_some, guard_some, map_some}
+use Rattle.urna_base.specs.Digits.{decimal_within}
 use Rattle.seat_certificate.proofs.WordReading.{bind_some, keyed_read, keyed_written, number_read, number_written}
 
 -- ---- one average
@@ -41,10 +42,10 @@ average_read : (w : List ℕ) (a : AverageData) → average_at w ≡ Some a → 
 unfolding average_at
 average_read w a h =
     let first = bind_some (cut_at TABLE.average_votes.mark w) _ a h in
-    let p = bind_some (number_at TABLE.average_party.low TABLE.average_party.high first.0.0) _ a first.2 in
+    let p = bind_some (decimal_within TABLE.average_party.low TABLE.average_party.high first.0.0) _ a first.2 in
     let second = bind_some (cut_at TABLE.average_divisor.mark first.0.1) _ a p.2 in
-    let v = bind_some (number_at TABLE.average_votes.low TABLE.average_votes.high second.0.0) _ a second.2 in
-    let d = bind_some (number_at TABLE.average_divisor.low TABLE.average_divisor.high second.0.1) _ a v.2 in
+    let v = bind_some (decimal_within TABLE.average_votes.low TABLE.average_votes.high second.0.0) _ a second.2 in
+    let d = bind_some (decimal_within TABLE.average_divisor.low TABLE.average_divisor.high second.0.1) _ a v.2 in
     let np = number_read TABLE.average_party.low TABLE.average_party.high p.0 first.0.0 p.1 in
     let nv = number_read TABLE.average_votes.low TABLE.average_votes.high v.0 second.0.0 v.1 in
     let nd = number_read TABLE.average_divisor.low TABLE.average_divisor.high d.0 second.0.1 d.1 in

@@ -4,6 +4,7 @@ use Rattle.std.specs.Prelude.{Result, Ok, Err}
 use Rattle.std.proofs.lemmas.Bool.{cases_order}
 use Rattle.std.proofs.lemmas.List.{take-append-drop, take-take, length-take-le}
 use Rattle.std.proofs.Math.Seq.{take-append_seam}
+use Rattle.urna_base.proofs.Every.{every_take}
 use Rattle.seat_certificate.specs.declared.certificate.Certificate.{Certificate}
 use Rattle.seat_certificate.specs.Reading.{AtStart, goes, lines_in, read_by}
 use Rattle.urna_base.specs.Lines.{lines_text}
@@ -14,7 +15,7 @@ use Rattle.seat_certificate.proofs.Fronts.{front_bad}
 use Rattle.seat_certificate.proofs.Machine.{same_read}
 use Rattle.seat_certificate.proofs.Pieces.{lines_back, lines_of_text}
 use Rattle.urna_base.proofs.Lacking.{Lacks}
-use Rattle.seat_certificate.proofs.Plain.{all_take, lines_lack}
+use Rattle.seat_certificate.proofs.Plain.{lines_lack}
 use Rattle.seat_certificate.proofs.Reached.{on_the_way, reached, whole}
 
 -- what is read is spelled
@@ -55,7 +56,7 @@ begun : (n : ℕ) (bytes : List ℕ) (code : ℕ) (c : Certificate) → HasText 
 begun n bytes code c is (within, rest, e) =
     let front = take n (certificate_lines code c) in
     let lines : (lines_in bytes).0 ≡ front ++ (lines_in rest).0 =
-    ap (λ (t : List ℕ). (lines_in t).0) e ∙ ap (λ (x : List (List ℕ) × List ℕ). x.0) (lines_of_text front rest (all_take (Lacks 10) n (certificate_lines code c) (lines_lack code c is))) in
+    ap (λ (t : List ℕ). (lines_in t).0) e ∙ ap (λ (x : List (List ℕ) × List ℕ). x.0) (lines_of_text front rest (every_take (Lacks 10) n (certificate_lines code c) (lines_lack code c is))) in
     let len : length front ≡ n = length-take-le n (certificate_lines code c) within in
     let count = ap (λ (l : List (List ℕ)). length l) lines ∙ length-append front (lines_in rest).0 in (
       omega (arith, count, len),

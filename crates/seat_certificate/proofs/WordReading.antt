@@ -1,16 +1,15 @@
 -- Words of a line, in both directions.
-use Rattle.std.proofs.Common.{◌≡◌, ℕ, ◌^◌, ◌≤◌, ◌<◌, true, List, [], ◌∷◌, Option, None, Some, refl, sym, ap, ◌∙◌, arith}
+use Rattle.std.proofs.Common.{◌≡◌, ℕ, ◌^◌, ◌≤◌, ◌<◌, true, List, [], ◌∷◌, Option, None, Some, refl, ap, ◌∙◌, arith}
 use Rattle.std.specs.Fmt.{decimal}
-use Rattle.std.specs.Prelude.{if◌then◌else◌, option_map}
+use Rattle.std.specs.Prelude.{option_map}
 use Rattle.std.specs.Str.{bytes_eq}
 use Rattle.std.proofs.lemmas.Bool.Decides.{nat_tests}
 use Rattle.std.proofs.lemmas.Slice.Eq.{bytes_eq-Decides}
-use Rattle.urna_base.specs.Digits.{decimal_value}
+use Rattle.urna_base.specs.Digits.{decimal_within}
 use Rattle.urna_base.specs.Moment.{is_between}
-use Rattle.urna_base.proofs.Cases.{and_then_some, guard_some, map_some}
-use Rattle.urna_base.proofs.DecimalLaws.{decimal-decimal_value, decimal_value-below, decimal_value-decimal}
-use Rattle.urna_base.proofs.DigitLaws.{some_from_test}
-use Rattle.seat_certificate.specs.Reading.{◌>>=◌, at_end, keyed, number_at}
+use Rattle.urna_base.proofs.Cases.{guard_some, map_some}
+use Rattle.urna_base.proofs.DecimalLaws.{within_read, within_written}
+use Rattle.seat_certificate.specs.Reading.{◌>>=◌, at_end, keyed}
 
 -- ---- options
 
@@ -27,10 +26,10 @@ end_some x y (w ∷ ws) h = absurd (cc)
 between_to : (low high n : ℕ) → is_between low high n ≡ true → (low ≤ n) × (n ≤ high)
 between_to low high n h = (grind (arith, nat_tests), grind (arith, nat_tests))
 
-pub number_written : (low high n : ℕ) → low ≤ n → n ≤ high → n < 10 ^ 18 → number_at low high (decimal n) ≡ Some n
+pub number_written : (low high n : ℕ) → low ≤ n → n ≤ high → n < 10 ^ 18 → decimal_within low high (decimal n) ≡ Some n
 number_written low high n h g lt =
     let within : is_between low high n ≡ true = grind (arith, nat_tests) in
-    rw (decimal_value-decimal n lt, within) refl
+    within_written low high n within lt
 
 -- what was read within bounds
 pub record IsNumber (low high n : ℕ) (w : List ℕ) : Type 0 where
@@ -39,14 +38,11 @@ pub record IsNumber (low high n : ℕ) (w : List ℕ) : Type 0 where
   pub most : n ≤ high
   pub few : n < 10 ^ 18
 
-pub number_read : (low high n : ℕ) (w : List ℕ) → number_at low high w ≡ Some n → IsNumber low high n w
+pub number_read : (low high n : ℕ) (w : List ℕ) → decimal_within low high w ≡ Some n → IsNumber low high n w
 number_read low high n w h =
-    let found = and_then_some (decimal_value w) (λ n. if is_between low high n then Some n else None) n h in
-    let test = some_from_test (is_between low high found.0) found.0 n found.2 in
-    let bounds = between_to low high found.0 test.0 in
-    let value : decimal_value w ≡ Some n = found.1 ∙ ap (λ (x : ℕ). Some x) test.1 in
-    let printed : (n < 10 ^ 18) × (decimal n ≡ w) = (decimal_value-below w n value, decimal-decimal_value w n value) in
-    record { word = sym printed.1; least = omega (arith, bounds.0, test.1); most = omega (arith, bounds.1, test.1); few = printed.0 }
+    let read = within_read low high n w h in
+    let bounds = between_to low high n read.within in
+    record { word = read.printed; least = bounds.0; most = bounds.1; few = read.few }
 
 -- ---- a keyword and its number
 
@@ -70,8 +66,8 @@ unfolding keyed
 keyed_read word low high [] x h = absurd (cc)
 keyed_read word low high (w ∷ []) x h = absurd (cc)
 keyed_read word low high (w ∷ v ∷ ws) x h =
-    let test = guard_some (bytes_eq w word) (option_map (λ n. (n, ws)) (number_at low high v)) x h in
-    let found = map_some (λ n. (n, ws)) (number_at low high v) x test.1 in
+    let test = guard_some (bytes_eq w word) (option_map (λ n. (n, ws)) (decimal_within low high v)) x h in
+    let found = map_some (λ n. (n, ws)) (decimal_within low high v) x test.1 in
     let read = number_read low high found.0 v found.1 in
     let first : found.0 ≡ x.0 = ap (λ (y : ℕ × List (List ℕ)). y.0) found.2 in
     let rest : ws ≡ x.1 = ap (λ (y : ℕ × List (List ℕ)). y.1) found.2 in

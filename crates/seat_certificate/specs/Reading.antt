@@ -4,8 +4,7 @@ use Rattle.std.specs.Prelude.{ℕ, ◌+◌, ◌==◌, nat_lt, if◌then◌else�
 use Rattle.std.specs.List.{slice_split}
 use Rattle.std.specs.Option.{option_and_then, option_or}
 use Rattle.std.specs.Str.{bytes_eq}
-use Rattle.urna_base.specs.Digits.{decimal_value}
-use Rattle.urna_base.specs.Moment.{is_between}
+use Rattle.urna_base.specs.Digits.{decimal_within}
 use Rattle.urna_base.specs.Words.{cut_at, pieces}
 use Rattle.election_tables.specs.Offices.{code_proportional}
 use Rattle.quotients.specs.Average.{AverageData}
@@ -36,15 +35,11 @@ lines_in bytes = with_feeds (slice_split (λ b. b == 10) bytes)
 
 -- ---- words
 
--- a word that is a number within these bounds
-abbrev pub number_at : ℕ → ℕ → List ℕ → Option ℕ
-number_at low high w = option_and_then (λ n. if is_between low high n then Some n else None) (decimal_value w)
-
 -- a keyword and a number behind it, and the words behind that
 unfoldable pub keyed : List ℕ → ℕ → ℕ → List (List ℕ) → Option (ℕ × List (List ℕ))
 keyed word low high [] = None
 keyed word low high (w ∷ []) = None
-keyed word low high (w ∷ v ∷ ws) = if bytes_eq w word then option_map (λ n. (n, ws)) (number_at low high v) else None
+keyed word low high (w ∷ v ∷ ws) = if bytes_eq w word then option_map (λ n. (n, ws)) (decimal_within low high v) else None
 
 -- no word is left
 abbrev pub at_end : {A : Type 0} → A → List (List ℕ) → Option A
@@ -72,10 +67,10 @@ bloc_at line = do
 unfoldable pub average_at : List ℕ → Option AverageData
 average_at w = do
   first ← cut_at TABLE.average_votes.mark w
-  p ← number_at TABLE.average_party.low TABLE.average_party.high first.0
+  p ← decimal_within TABLE.average_party.low TABLE.average_party.high first.0
   second ← cut_at TABLE.average_divisor.mark first.1
-  v ← number_at TABLE.average_votes.low TABLE.average_votes.high second.0
-  d ← number_at TABLE.average_divisor.low TABLE.average_divisor.high second.1
+  v ← decimal_within TABLE.average_votes.low TABLE.average_votes.high second.0
+  d ← decimal_within TABLE.average_divisor.low TABLE.average_divisor.high second.1
   Some (record { votes = v; divisor = d; party = p })
 
 -- the average of a word, where its bloc is above the last

@@ -1,8 +1,9 @@
 -- The text of a certificate of an office, and the first fault of any other text (docs/FORMATS.md, "Certificate")
 use Rattle.std.specs.Prelude.{◌≡◌, ◌⊎◌, ℕ, ◌+◌, ◌^◌, ◌≤◌, ◌<◌, true, List, [], ◌∷◌, ◌++◌, length, map, take, flat_map}
 use Rattle.std.specs.Fmt.{decimal}
-use Rattle.std.specs.List.{AllByRecursion, join_with_byte}
+use Rattle.std.specs.List.{AllByRecursion}
 use Rattle.urna_base.specs.Lines.{lines_text}
+use Rattle.urna_base.specs.Words.{joined}
 use Rattle.election_tables.specs.Offices.{code_proportional}
 use Rattle.quotients.specs.Average.{AverageData}
 use Rattle.seat_remainders.specs.declared.contest.Contest.{Contest}
@@ -71,22 +72,18 @@ pub record HasFewBlocs (contest : Contest) : Type 0 where
 
 -- ---- the text
 
--- words with single spaces (32) between them
-abbrev pub spaced : List (List ℕ) → List ℕ
-spaced words = join_with_byte 32 words
-
 -- the line of an office's code
 abbrev pub office_line : ℕ → List ℕ
-office_line code = spaced (TABLE.office.word ∷ decimal code ∷ [])
+office_line code = joined (TABLE.office.word ∷ decimal code ∷ [])
 
 -- that of the electoral quotient
 abbrev pub quotient_line : ℕ → List ℕ
-quotient_line q = spaced (TABLE.quotient.word ∷ decimal q ∷ [])
+quotient_line q = joined (TABLE.quotient.word ∷ decimal q ∷ [])
 
 -- that of a bloc in the first phase
 abbrev pub bloc_line : FirstLine → List ℕ
 bloc_line l =
-    spaced (TABLE.party.word ∷ decimal l.party ∷ TABLE.party_quotient.word ∷ decimal l.quotient ∷ TABLE.able.word ∷ decimal l.able ∷ TABLE.seats.word ∷ decimal l.seats ∷ [])
+    joined (TABLE.party.word ∷ decimal l.party ∷ TABLE.party_quotient.word ∷ decimal l.quotient ∷ TABLE.able.word ∷ decimal l.able ∷ TABLE.seats.word ∷ decimal l.seats ∷ [])
 
 -- an average behind a space, as bloc, votes and divisor
 abbrev pub average_word : AverageData → List ℕ
@@ -95,7 +92,7 @@ average_word a = TABLE.average_party.mark ∷ (decimal a.party ++ TABLE.average_
 -- round number k
 abbrev pub round_line : ℕ → Round → List ℕ
 round_line k r =
-    spaced (TABLE.round ∷ decimal k ∷ TABLE.phase.word ∷ decimal r.phase ∷ TABLE.winner.word ∷ (decimal r.party ++ flat_map average_word r.averages) ∷ [])
+    joined (TABLE.round ∷ decimal k ∷ TABLE.phase.word ∷ decimal r.phase ∷ TABLE.winner.word ∷ (decimal r.party ++ flat_map average_word r.averages) ∷ [])
 
 -- rounds, the first of them with this number
 abbrev pub round_lines : ℕ → List Round → List (List ℕ)
@@ -104,7 +101,7 @@ round_lines k (r ∷ rounds) = round_line k r ∷ round_lines (k + 1) rounds
 
 -- that of the vacant seats
 abbrev pub vacant_line : ℕ → List ℕ
-vacant_line m = spaced (TABLE.vacant.word ∷ decimal m ∷ [])
+vacant_line m = joined (TABLE.vacant.word ∷ decimal m ∷ [])
 
 -- the lines of a certificate of the office of a code
 abbrev pub certificate_lines : ℕ → Certificate → List (List ℕ)

@@ -1,9 +1,9 @@
 -- What is told after the rounds
-use Rattle.std.proofs.Common.{◌≡◌, ℕ, zero, suc, ◌+◌, ◌-◌, ◌≤◌, ◌<◌, List, [], ◌∷◌, ◌++◌, length, map, take, get_or, sym, ap, ◌∙◌, subst, append-nil, arith}
-use Rattle.std.specs.List.{AllByRecursion}
+use Rattle.std.proofs.Common.{◌≡◌, ℕ, ◌+◌, ◌-◌, ◌≤◌, ◌<◌, List, [], ◌∷◌, ◌++◌, length, map, take, get_or, sym, ap, ◌∙◌, subst, append-nil, arith}
 use Rattle.std.proofs.lemmas.List.{take_more, map_more}
 use Rattle.std.proofs.lemmas.List.Concat.{flat_map-append}
 use Rattle.std.proofs.lemmas.List.Sums.{sum_by_more_le}
+use Rattle.urna_base.proofs.Every.{every_take}
 use Rattle.quotients.specs.Average.{AverageData}
 use Rattle.quotients.specs.Quotients.{electoral_quotient}
 use Rattle.seat_remainders.specs.declared.contest.Contestant.{Contestant}
@@ -29,16 +29,11 @@ elected_more qe awards parties i d lt =
 pub parties_more : (qe : ℕ) (awards : List Award) (parties : List Contestant) (i : ℕ) (d : Contestant) → i < length parties → map (party_seats qe awards) (take (i + 1) parties) ≡ map (party_seats qe awards) (take i parties) ++ party_seats qe awards (get_or parties i d) ∷ []
 parties_more qe awards parties i d lt = map_more (party_seats qe awards) parties i d lt
 
-all_take : (P : Contestant → Type 0) (i : ℕ) (xs : List Contestant) → AllByRecursion P xs → AllByRecursion P (take i xs)
-all_take P zero xs all = tt
-all_take P (suc i) [] all = tt
-all_take P (suc i) (x ∷ xs) all = (all.0, all_take P i xs all.1)
-
 room_within : (qe left vacant : ℕ) (parties : List Contestant) (awards : List Award) (i : ℕ) (d : Contestant) → AreRounds qe parties left awards vacant → PartiesRise parties → first_phase qe parties + left ≤ 200 → i < length parties
     → length (elected_by qe awards (take i parties)) + seats_after qe awards (get_or parties i d) ≤ 200
 room_within qe left vacant parties awards i d rounds rise few lt =
     let all = all_of_members (λ p. seats_after qe awards p ≤ length p.candidates) parties (λ p at. within_candidates qe parties awards p (are_rising parties rise) at rounds.each) in
-    let told = elected_sum qe awards (take i parties) (all_take (λ p. seats_after qe awards p ≤ length p.candidates) i parties all) in
+    let told = elected_sum qe awards (take i parties) (every_take (λ p. seats_after qe awards p ≤ length p.candidates) i parties all) in
     let more = sum_by_more_le (seats_after qe awards) parties i d lt in
     let over = sum_over qe parties [] awards (are_rising parties rise) rounds.each in
     let none = sum_none qe parties in

@@ -12,6 +12,7 @@ use Rattle.std.proofs.lemmas.List.Filters.{sum_by-filter_both}
 use Rattle.std.proofs.lemmas.List.Sums.{sum_by-cons, sum_by-append}
 use Rattle.std.proofs.lemmas.List.Sorted.{length_permutation, sum_by-IsPermutation}
 use Rattle.std.proofs.Math.Seq.{take-append_seam}
+use Rattle.urna_base.proofs.Every.{every_append}
 use Rattle.seat_remainders.specs.declared.contest.Entry.{Entry}
 use Rattle.seat_remainders.specs.Candidates.{stands_first, in_order, AreInOrder}
 use Rattle.seat_remainders.proofs.Ordered.{GoesUp, first_self, first_total, all_behind, all_moved, are_in_order, in_order-length, in_order-permutation, in_order-sum}
@@ -108,14 +109,10 @@ sorted_is xs ys moved sorted = same_order ys (in_order xs) (in_order_of_sorted y
 
 -- The first alone, sorted
 
-all_append : (P : Entry → Type 0) (xs ys : List Entry) → AllByRecursion P xs → AllByRecursion P ys → AllByRecursion P (xs ++ ys)
-all_append P [] ys all more = more
-all_append P (x ∷ xs) ys all more = (all.0, all_append P xs ys all.1 more)
-
 -- candidates in order behind others in order, each of whom stands before each of them
 order-append : (xs ys : List Entry) → AreInOrder xs → AreInOrder ys → AllByRecursion (λ a. AllByRecursion (λ b. stands_first a b ≡ true) ys) xs → AreInOrder (xs ++ ys)
 order-append [] ys p q all = q
-order-append (x ∷ xs) ys p q all = (all_append (λ b. stands_first x b ≡ true) xs ys p.0 all.0, order-append xs ys p.1 q all.1)
+order-append (x ∷ xs) ys p q all = (every_append (λ b. stands_first x b ≡ true) xs ys p.0 all.0, order-append xs ys p.1 q all.1)
 
 -- who stands before one stands before all that this one stands before
 each_before : (x : Entry) (xs ys : List Entry) → AllByRecursion (λ a. stands_first a x ≡ true) xs → AllByRecursion (λ b. stands_first x b ≡ true) ys → AllByRecursion (λ a. AllByRecursion (λ b. stands_first a b ≡ true) ys) xs

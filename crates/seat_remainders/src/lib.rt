@@ -4,9 +4,9 @@
 //! The layer above makes a `Contest` of an office's votes and asks `distribute` what comes of it, which `specs/Outcome.antt` says with
 //! `specs/Parties.antt` (the first phase), `specs/Rounds.antt` (the seats that remain) and `specs/Candidates.antt` (the order of
 //! candidates); it asks `averages` for the sorted table that decides the seats of phase 2, which `specs/Table.antt` says, and `majority`
-//! by `specs/Majority.antt`. Whoever looks at given seats counts a party by `standing_of`, with `valid_votes` and `most_seats`, and orders
-//! candidates by `sort_candidates`; none of these takes memory. `laws` says that each contest has one outcome and one table, that the
-//! fronts of two such tables are the rounds and the awards of given seats the averages that stand with them, that the seats add up and are
+//! by `specs/Majority.antt`. Whoever looks at given seats counts a party by `standing_of`, with `valid_votes` and `most_seats`, sums
+//! the votes of candidates by `nominal_votes` and orders candidates by `sort_candidates`; none of these takes memory. `laws` says that
+//! each contest has one outcome and one table, that the fronts of two such tables are the rounds and the awards of given seats the averages that stand with them, that the seats add up and are
 //! filled, by how many seats a party is eligible, and when nobody is elected or two go to a second round.
 #![tactic(auto)]
 
@@ -30,4 +30,4 @@ pub use outcome::{
 };
 pub use standing::{Standing, most_seats, standing_of};
 pub use table::averages;
-pub use votes::valid_votes;
+pub use votes::{nominal_votes, valid_votes};

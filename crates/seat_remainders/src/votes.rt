@@ -4,8 +4,8 @@ ghost use Rattle.seat_remainders.specs.Parties.{nominal_votes, votes_of, valid_v
 
 use crate::contest::{Contest, Contestant, Entry};
 
-/// The nominal votes of some candidates.
-pub(crate) fn nominal_votes(entries: &[Entry]) -> u64
+/// The nominal votes of some candidates. The caller owes that they are at most 10^12.
+pub fn nominal_votes(entries: &[Entry]) -> u64
     requires { nominal_votes entries.now ≤ 10 ^ 12 }
     ensures { result ≡ nominal_votes entries.now }
 {

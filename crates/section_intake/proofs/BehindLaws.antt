@@ -7,13 +7,14 @@ use Rattle.std.proofs.lemmas.Bool.{cases_Bool}
 use Rattle.std.proofs.lemmas.Bool.Decides.{nat_tests}
 use Rattle.std.proofs.lemmas.List.{append_assoc, same_from_push}
 use Rattle.std.proofs.lemmas.List.Elements.{All-contains, All-from_recursion, Contains-append_cases}
+use Rattle.urna_base.proofs.Every.{every_append}
 use Rattle.election_tables.specs.TablesData.{IsTables, TablesData}
 use Rattle.section_intake.specs.Accepted.{AreOffered, File, IsOfSection, IsVerdictBehind, accepted_with, again, another, by_itself, first, is_accepted, none_offered, one_more}
 use Rattle.section_intake.specs.Laws.{AreAllApart, AreApart, AreShort, EachIsAccepted, EachSectionOnce, OneListOfVerdicts, SomeVerdicts}
 use Rattle.section_intake.specs.Verdict.{IsVerdict}
 use Rattle.section_intake.specs.declared.verdict.Verdict.{Verdict}
 use Rattle.section_intake.specs.declared.verdict.Verdict.TheVariants as verdict
-use Rattle.section_intake.proofs.Members.{all_append, all_but_last, only}
+use Rattle.section_intake.proofs.Members.{all_but_last, only}
 use Rattle.section_intake.proofs.VerdictLaws.{one_verdict, some_verdict}
 
 -- ---- one verdict behind the accepted files
@@ -168,13 +169,13 @@ each_is_accepted t _ _ _ none_offered = tt
 each_is_accepted t _ _ _ (one_more {files} {accepted} {verdicts} {file} {v} before is) =
     let Q : File → Type 0 = λ f. (zone : ℕ) × (section : ℕ) × IsOfSection t zone section f in
     kept_with (AllByRecursion Q) t accepted file v is (each_is_accepted t files verdicts accepted before)
-    (λ z s h free. all_append Q accepted (file ∷ []) (each_is_accepted t files verdicts accepted before) ((z, s, h), tt))
+    (λ z s h free. every_append Q accepted (file ∷ []) (each_is_accepted t files verdicts accepted before) ((z, s, h), tt))
 
 pub apart_push : (t : TablesData) (files : List File) (file : File) (z s : ℕ) → length file < 2 ^ 63 → AreAllApart t files → IsOfSection t z s file
     → AllByRecursion (λ f. ¬ IsOfSection t z s f) files → AreAllApart t (files ++ file ∷ [])
 apart_push t [] file z s short apart h free = (tt, tt)
 apart_push t (f ∷ files) file z s short apart h free = (
-  all_append (AreApart t f) files (file ∷ []) apart.0 ((λ y u i j. let same = one_section t file z s y u short h j in free.0 (rw (same.0, same.1) i)), tt),
+  every_append (AreApart t f) files (file ∷ []) apart.0 ((λ y u i j. let same = one_section t file z s y u short h j in free.0 (rw (same.0, same.1) i)), tt),
   apart_push t files file z s short apart.1 h free.1,
 )
 
@@ -193,7 +194,7 @@ short_accepted t _ _ _ short (one_more {files} {accepted} {verdicts} {file} {v} 
     let S : File → Type 0 = λ f. length f < 2 ^ 63 in
     let both = all_but_last S files file short in
     let rest = short_accepted t files verdicts accepted both.0 before in
-    kept_with (AllByRecursion S) t accepted file v is rest (λ z s h free. all_append S accepted (file ∷ []) rest (both.1, tt))
+    kept_with (AllByRecursion S) t accepted file v is rest (λ z s h free. every_append S accepted (file ∷ []) rest (both.1, tt))
 
 -- ---- some verdicts, and no others
 
@@ -207,7 +208,7 @@ go_on t is before [] verdicts accepted short more offered = (verdicts, accepted,
 go_on t is before (f ∷ rest) verdicts accepted short more offered =
     let (v, h) = some_behind t is accepted f (short_accepted t before verdicts accepted short offered) more.0 in
     let S : File → Type 0 = λ g. length g < 2 ^ 63 in
-    let (all, kept, done) = go_on t is (before ++ f ∷ []) rest (verdicts ++ v ∷ []) (accepted_with accepted v f) (all_append S before (f ∷ []) short (more.0, tt)) more.1
+    let (all, kept, done) = go_on t is (before ++ f ∷ []) rest (verdicts ++ v ∷ []) (accepted_with accepted v f) (every_append S before (f ∷ []) short (more.0, tt)) more.1
     (one_more offered h) in
     (all, kept, subst (λ (l : List File). AreOffered t l all kept) (append_assoc before (f ∷ []) rest) done)
 

@@ -7,6 +7,7 @@ use Rattle.std.proofs.lemmas.Bool.Decides.{nat_tests}
 use Rattle.std.proofs.lemmas.List.{length-map, length_push}
 use Rattle.std.proofs.lemmas.List.Sums.{sum_by-cons, sum_by_push}
 use Rattle.std.proofs.lemmas.Option.{slice_get_cases, slice_get_read, slice_get_within}
+use Rattle.urna_base.proofs.Every.{every_append}
 use Rattle.election_tables.specs.TablesData.{TablesData, place_with}
 use Rattle.election_tables.specs.declared.tables.sections.Section.{Section}
 use Rattle.poll_report.specs.Report.{IsReport, total_of}
@@ -29,7 +30,6 @@ use Rattle.section_intake.specs.declared.panel_sums.PanelSums.{PanelSums}
 use Rattle.section_intake.specs.declared.tallies.Tally.{Tally}
 use Rattle.section_intake.proofs.AcceptedLaws.{files_short, report_few, small_sum, sums_within_all}
 use Rattle.section_intake.proofs.HolderLaws.{free, free_place, held, held_more, section_there}
-use Rattle.section_intake.proofs.Members.{all_append}
 use Rattle.section_intake.proofs.NumberSums.{sum_zero}
 use Rattle.section_intake.proofs.ReportLaws.{are_reports, as_many, no_more, one_list, one_more}
 use Rattle.section_intake.proofs.SumLaws as sums
@@ -196,7 +196,7 @@ apart_more : (s : Section) (reports : List Report) (r : Report) → is_of s r �
     → AreOfDifferentSections (reports ++ r ∷ [])
 apart_more s [] r mine none apart = (tt, tt)
 apart_more s (q ∷ reports) r mine none apart =
-    (all_append (λ x. is_beside q x ≡ false) reports (r ∷ []) apart.0 (other s q r mine none.0, tt), apart_more s reports r mine none.1 apart.1)
+    (every_append (λ x. is_beside q x ≡ false) reports (r ∷ []) apart.0 (other s q r mine none.0, tt), apart_more s reports r mine none.1 apart.1)
   where
     other : (s : Section) (q r : Report) → is_of s r ≡ true → is_of s q ≡ false → is_beside q r ≡ false
     other s q r mine no_q = elim (cases_Bool (is_beside q r)) [
@@ -215,7 +215,7 @@ one_more_fits t i r place is fit at kept =
     let (s, there, mine) = section_there t.sections r.zone r.section place at in
     let held : slice_get (holders_in t.sections is.reports) place ≡ Some None = ap (λ (l : List (Option ℕ)). slice_get l place) (sym is.holders) ∙ kept in
     let none = free_place t is.reports r place s there held in
-    let few = no_more t (is.reports ++ r ∷ []) (all_append (Fits t) is.reports (r ∷ []) is.fit (fit, tt)) (apart_more s is.reports r mine none is.different) in
+    let few = no_more t (is.reports ++ r ∷ []) (every_append (Fits t) is.reports (r ∷ []) is.fit (fit, tt)) (apart_more s is.reports r mine none is.different) in
     let more = length_push is.reports r in
     let many = as_many (accepted_files i) is.reports is.read in
     omega arith
@@ -235,10 +235,10 @@ still_made t i more bytes r place is short h fit at kept files holders panels =
     record {
       tables = is.tables;
       panels = ap length panels ∙ sums.as_many r.offices i.panels.items ∙ is.panels;
-      short = subst (AllByRecursion S) (sym files) (all_append S (accepted_files i) (bytes ∷ []) is.short (short, tt));
+      short = subst (AllByRecursion S) (sym files) (every_append S (accepted_files i) (bytes ∷ []) is.short (short, tt));
       reports = is.reports ++ r ∷ [];
       read = subst (λ (l : List File). AreReportsOf l (is.reports ++ r ∷ [])) (sym files) (one_more (accepted_files i) is.reports bytes r is.read h);
-      fit = all_append (Fits t) is.reports (r ∷ []) is.fit (fit, tt);
+      fit = every_append (Fits t) is.reports (r ∷ []) is.fit (fit, tt);
       different = apart_more s is.reports r mine none is.different;
       holders = holders
           ∙ ap (λ (l : List (Option ℕ)). set l place (Some (length (accepted_files i)))) is.holders

@@ -1,4 +1,7 @@
 //! What is said of the file of a report.
+ghost use Rattle.std.specs.Prelude.{◌≡◌};
+ghost use Rattle.section_intake.specs.Accepted.{is_accepted};
+
 use hash_chain::PartFault;
 use qr_text::FieldFault;
 
@@ -17,4 +20,13 @@ pub enum Verdict {
     Repeated { zone: u32, section: u32 },
     /// It is another file of a section of which one was accepted before.
     Conflict { zone: u32, section: u32 },
+}
+
+impl Verdict {
+    /// Whether the report is accepted.
+    pub fn is_accepted(self) -> bool
+        ensures { result ≡ is_accepted self }
+    {
+        matches!(self, Verdict::Accepted { .. })
+    }
 }

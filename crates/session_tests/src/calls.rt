@@ -1,5 +1,5 @@
 //! A command over a machine and a cabinet in memory, and what it shows.
-use case_parts::{Faults, Flashes, Halt, Paper, cabinet_of, head, machine};
+use case_parts::{Failing, Flashes, Halt, Paper, cabinet_of, head, machine};
 use ledger_commands::urna_ledger;
 use memory_outside::{Recorder, WatchedShelf};
 use state_store::DEVICE_SIZE;
@@ -73,17 +73,17 @@ fn answer(
     program: Program,
     words: &[String],
     flashes: &Flashes,
-    faults: &Faults,
+    failing: &Failing,
     cabinet: &mut WatchedShelf,
 ) -> Result<(u8, Recorder), Halt> {
     match program {
         Program::Urna => {
-            let mut machine = machine(alloc, flashes, faults, DEVICE_SIZE)?;
+            let mut machine = machine(alloc, flashes, failing, DEVICE_SIZE)?;
             let code = urna(alloc, words, &mut machine, cabinet).code();
             Ok((code, machine))
         }
         Program::Ledger => {
-            let mut machine = machine(alloc, flashes, faults, intake_ledger::DEVICE_SIZE)?;
+            let mut machine = machine(alloc, flashes, failing, intake_ledger::DEVICE_SIZE)?;
             let code = urna_ledger(alloc, words, &mut machine, cabinet).code();
             Ok((code, machine))
         }
@@ -117,13 +117,13 @@ fn is_spoiled(cabinet: &WatchedShelf, papers: &[Paper], is_session: bool) -> boo
 fn run_in(
     alloc: Global,
     papers: &[Paper],
-    faults: &Faults,
+    failing: &Failing,
     call: &Call,
     flashes: &Flashes,
     cabinet: &mut WatchedShelf,
 ) -> Result<Ran, Halt> {
     let words = words_of(alloc, &call.words)?;
-    let (code, machine) = answer(alloc, call.program, &words, flashes, faults, cabinet)?;
+    let (code, machine) = answer(alloc, call.program, &words, flashes, failing, cabinet)?;
     Ok(Ran {
         code,
         machine,
@@ -132,19 +132,19 @@ fn run_in(
     })
 }
 
-/// The command over these files and flashes, with these faults.
+/// The command over these files and flashes, where these calls fail.
 pub(crate) fn run(
     alloc: Global,
     papers: &[Paper],
-    faults: &Faults,
+    failing: &Failing,
     call: &Call,
     flashes: &Flashes,
 ) -> Result<Ran, Halt> {
-    let mut cabinet = cabinet_of(alloc, papers, &faults.cabinet)?;
+    let mut cabinet = cabinet_of(alloc, papers, &failing.cabinet)?;
     if let Some(keys) = &call.keys {
         cabinet.shelf.place(KEYS, keys.as_bytes())?;
     }
-    let ran = run_in(alloc, papers, faults, call, flashes, &mut cabinet)?;
+    let ran = run_in(alloc, papers, failing, call, flashes, &mut cabinet)?;
     if cabinet.lost {
         return Err(Halt::Memory);
     }

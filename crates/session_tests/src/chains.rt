@@ -3,7 +3,7 @@ use crate::calls::{Call, Program, call_of, run, say, shown};
 use crate::stage::{Stage, last_of};
 use crate::stops::{told, told_by};
 use case_parts::{
-    Fill, Flashes, Halt, WAYS, copied, cut, head, is_left, kept_as, no_faults, number,
+    Failing, Fill, Flashes, Halt, WAYS, copied, head, is_left, kept_as, number, power_cut,
 };
 use ledger_commands::LedgerStatus;
 use memory_outside::Recorder;
@@ -155,13 +155,13 @@ fn stopped(
     flashes: &mut Flashes,
     later: &Flashes,
 ) -> Result<Option<usize>, Halt> {
-    let ran = run(alloc, &stage.papers, &no_faults(alloc), call, flashes)?;
+    let ran = run(alloc, &stage.papers, &Failing::none(alloc), call, flashes)?;
     if !is_whole(ran.code) && ran.code != Status::NotSealed.code() {
         return Ok(None);
     }
     let ops = drawn.below(ran.machine.trail_len().saturating_add(1));
     let fill = fill_at(later, drawn.below(5));
-    *flashes = cut(alloc, &ran.machine, ops, fill)?;
+    *flashes = power_cut(alloc, &ran.machine, ops, fill)?;
     Ok(Some(states_begun(&ran.machine, ops)?))
 }
 
@@ -215,7 +215,7 @@ fn keeps_all(
 /// Whether the last command behind a chain takes the voters, or the reports, that are left: it ends with what the kept flashes hold.
 fn ends_as(alloc: Global, stage: &Stage, flashes: &Flashes, kept: &Flashes) -> Result<bool, Halt> {
     let call = &last_of(&stage.last)?.call;
-    let ran = run(alloc, &stage.papers, &no_faults(alloc), call, flashes)?;
+    let ran = run(alloc, &stage.papers, &Failing::none(alloc), call, flashes)?;
     Ok(is_whole(ran.code) && is_left(&ran.machine, kept))
 }
 

@@ -3,7 +3,7 @@ use crate::calls::{Ran, push_files, run, say, shown};
 use crate::runs::{Runs, Ways};
 use crate::stage::{Last, Stage, last_of};
 use crate::stops::{last_line, told_by};
-use case_parts::{Halt, bytes_of, is_left, no_faults, place};
+use case_parts::{Failing, Halt, bytes_of, is_left, place};
 use std::alloc::Global;
 
 /// Puts the line that tells a fault behind a text, but for a number at its end.
@@ -51,8 +51,8 @@ fn add_end(
 ) -> Result<(), Halt> {
     place(alloc, &mut stage.papers, name, bytes)?;
     let last = last_of(&stage.last)?;
-    let faults = no_faults(alloc);
-    let ran = run(alloc, &stage.papers, &faults, &last.call, &last.given)?;
+    let failing = Failing::none(alloc);
+    let ran = run(alloc, &stage.papers, &failing, &last.call, &last.given)?;
     add(ends, told_end(alloc, last, &ran)?)
 }
 

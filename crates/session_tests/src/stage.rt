@@ -1,6 +1,6 @@
-//! What a script works on: the files, the flashes, those that were kept, and the last command.
+//! What a script works on: the files, the flashes, those that were kept, which calls fail, and the last command.
 use crate::calls::{Call, Program, Ran};
-use case_parts::{Faults, Flashes, Halt, Kept, Paper, blank, no_faults};
+use case_parts::{Failing, Flashes, Halt, Kept, Paper, blank};
 use std::alloc::Global;
 
 /// The last command: what it was, the flashes that it was given, and how it ended.
@@ -11,10 +11,11 @@ pub(crate) struct Last {
     pub ran: Ran,
 }
 
+/// All of it.
 #[derive(Drop)]
 pub(crate) struct Stage {
     pub papers: Vec<Paper>,
-    pub faults: Faults,
+    pub failing: Failing,
     pub flashes: Flashes,
     pub kept: Vec<Kept>,
     pub last: Option<Last>,
@@ -25,7 +26,7 @@ impl Stage {
     pub(crate) fn new(alloc: Global) -> Result<Stage, Halt> {
         Ok(Stage {
             papers: Vec::new(alloc),
-            faults: no_faults(alloc),
+            failing: Failing::none(alloc),
             flashes: blank(alloc, Program::Urna.device_size())?,
             kept: Vec::new(alloc),
             last: None,

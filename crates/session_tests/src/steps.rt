@@ -3,8 +3,9 @@ use crate::calls::{Call, Program, Ran, call_of, run, say_end, say_ran, session_o
 use crate::looks::{look, look_at_each};
 use crate::stage::{Last, Stage, last_of};
 use case_parts::{
-    Faults, Flashes, Halt, Kept, blank, bytes_of, copied, cut, device, edited, fill_of, hashed,
-    head, hex_bytes, kept_as, left, lines_of, number, numbers, place, remove, set, shut_device,
+    Failing, Flashes, Halt, Kept, blank, bytes_of, copied, device, edited, fill_of, hashed, head,
+    hex_bytes, kept_as, left, lines_of, number, numbers, place, power_cut, remove, set,
+    shut_device,
 };
 use std::alloc::Global;
 use urna_outside::{Cabinet, Dev};
@@ -74,11 +75,11 @@ fn give<C: Cabinet>(
 }
 
 /// The lines that say what fails.
-fn spoil(alloc: Global, faults: &mut Faults, word: &str, rest: &str) -> Result<bool, Halt> {
+fn let_fail(alloc: Global, failing: &mut Failing, word: &str, rest: &str) -> Result<bool, Halt> {
     match word {
-        "fails" => faults.machine = numbers(alloc, rest)?,
-        "takes" => faults.cabinet = numbers(alloc, rest)?,
-        "room" => faults.room = number(rest)?,
+        "fails" => failing.machine = numbers(alloc, rest)?,
+        "takes" => failing.cabinet = numbers(alloc, rest)?,
+        "room" => failing.room = number(rest)?,
         _ => return Ok(false),
     }
     Ok(true)
@@ -127,7 +128,7 @@ fn stop(alloc: Global, stage: &mut Stage, rest: &str) -> Result<(), Halt> {
     let (ops, way) = head(rest);
     let fill = fill_of(alloc, &stage.kept, way)?;
     let last = last_of(&stage.last)?;
-    stage.flashes = cut(alloc, &last.ran.machine, number(ops)?, fill)?;
+    stage.flashes = power_cut(alloc, &last.ran.machine, number(ops)?, fill)?;
     Ok(())
 }
 
@@ -158,7 +159,7 @@ fn take_over(alloc: Global, stage: &mut Stage, ran: &Ran) -> Result<(), Halt> {
 
 /// Runs a command over flashes, and takes over what it left. It is the last command then.
 fn command(alloc: Global, stage: &mut Stage, call: Call, given: Flashes) -> Result<(), Halt> {
-    let ran = run(alloc, &stage.papers, &stage.faults, &call, &given)?;
+    let ran = run(alloc, &stage.papers, &stage.failing, &call, &given)?;
     take_over(alloc, stage, &ran)?;
     stage.last = Some(Last { call, given, ran });
     Ok(())
@@ -210,7 +211,13 @@ fn run_hushed(alloc: Global, stage: &mut Stage, words: &str, out: &mut String) -
 /// Runs the last command over the flashes that it was given and the files as they are now, and prints what it shows.
 fn say_once_more(alloc: Global, stage: &Stage, out: &mut String) -> Result<(), Halt> {
     let last = last_of(&stage.last)?;
-    let ran = run(alloc, &stage.papers, &stage.faults, &last.call, &last.given)?;
+    let ran = run(
+        alloc,
+        &stage.papers,
+        &stage.failing,
+        &last.call,
+        &last.given,
+    )?;
     say_ran(alloc, &ran, "", out)
 }
 
@@ -278,7 +285,7 @@ pub(crate) fn step<C: Cabinet>(
     }
     let (word, rest) = head(line);
     let known = give(alloc, folder, stage, word, rest)?
-        || spoil(alloc, &mut stage.faults, word, rest)?
+        || let_fail(alloc, &mut stage.failing, word, rest)?
         || change(alloc, stage, word, rest)?
         || act(alloc, stage, word, line, rest, out)?
         || look(alloc, stage, word, rest, out)?

@@ -4,8 +4,8 @@ use crate::ranks::told_ranks;
 use crate::runs::{Runs, Ways};
 use crate::stage::{Last, Stage, last_of};
 use case_parts::{
-    Faults, Fill, Flashes, Halt, Paper, WAYS, are_same, copied, cut, cut_at, head, is_left,
-    kept_as, left, no_faults, no_flashes, numbers, shut_device,
+    Failing, Fill, Flashes, Halt, Paper, WAYS, are_same, copied, head, is_left, kept_as, left,
+    no_flashes, numbers, power_cut, power_cut_inside, shut_device,
 };
 use memory_outside::{Recorder, Tear};
 use std::alloc::Global;
@@ -20,7 +20,7 @@ fn told_ran(alloc: Global, ran: &Ran) -> Result<String, Halt> {
     Ok(format!(in alloc; "{text} = {}", ran.code)?)
 }
 
-/// What a command without faults shows over some flashes.
+/// What a command without failing calls shows over some flashes.
 pub(crate) fn told_by(
     alloc: Global,
     papers: &[Paper],
@@ -29,7 +29,7 @@ pub(crate) fn told_by(
 ) -> Result<String, Halt> {
     told_ran(
         alloc,
-        &run(alloc, papers, &no_faults(alloc), call, flashes)?,
+        &run(alloc, papers, &Failing::none(alloc), call, flashes)?,
     )
 }
 
@@ -172,8 +172,8 @@ impl<'a> Teller<'a> {
 
 /// Whether a power cut behind some operations leaves no torn bytes.
 fn is_clean(alloc: Global, m: &Recorder, ops: u32) -> Result<bool, Halt> {
-    let zeros = cut(alloc, m, ops, Fill::Torn(Tear::Byte(0)))?;
-    let ones = cut(alloc, m, ops, Fill::Torn(Tear::Byte(1)))?;
+    let zeros = power_cut(alloc, m, ops, Fill::Torn(Tear::Byte(0)))?;
+    let ones = power_cut(alloc, m, ops, Fill::Torn(Tear::Byte(1)))?;
     Ok(are_same(&zeros, &ones))
 }
 
@@ -188,12 +188,16 @@ fn tell_at(
 ) -> Result<(), Halt> {
     teller.ways.clear();
     if is_clean(alloc, m, ops)? {
-        return teller.tell(alloc, "whole", cut(alloc, m, ops, Fill::Torn(Tear::AsPut))?);
+        return teller.tell(
+            alloc,
+            "whole",
+            power_cut(alloc, m, ops, Fill::Torn(Tear::AsPut))?,
+        );
     }
     for (name, tear) in WAYS {
-        teller.tell(alloc, name, cut(alloc, m, ops, Fill::Torn(tear))?)?;
+        teller.tell(alloc, name, power_cut(alloc, m, ops, Fill::Torn(tear))?)?;
     }
-    teller.tell(alloc, "later", cut(alloc, m, ops, Fill::Like(later))?)
+    teller.tell(alloc, "later", power_cut(alloc, m, ops, Fill::Like(later))?)
 }
 
 /// Prints what is told behind each operation of a command.
@@ -263,7 +267,7 @@ fn tell_inside(
     teller.ways.clear();
     for at in places {
         let way = format!(in alloc; "{at}")?;
-        teller.tell(alloc, &way, cut_at(alloc, m, ops, *at as usize)?)?;
+        teller.tell(alloc, &way, power_cut_inside(alloc, m, ops, *at as usize)?)?;
     }
     Ok(())
 }
@@ -298,12 +302,12 @@ pub(crate) fn each_piece(
 }
 
 /// The last command again, where the calls of these numbers fail.
-fn again(alloc: Global, stage: &Stage, last: &Last, failing: &[u32]) -> Result<Ran, Halt> {
-    let faults = Faults {
-        machine: failing.to_vec(alloc)?,
-        ..no_faults(alloc)
+fn again(alloc: Global, stage: &Stage, last: &Last, calls: &[u32]) -> Result<Ran, Halt> {
+    let failing = Failing {
+        machine: calls.to_vec(alloc)?,
+        ..Failing::none(alloc)
     };
-    run(alloc, &stage.papers, &faults, &last.call, &last.given)
+    run(alloc, &stage.papers, &failing, &last.call, &last.given)
 }
 
 /// The last line that was shown, which may be cut off.

@@ -2,11 +2,11 @@
 use Rattle.std.specs.Prelude.{◌≡◌, ℕ, List, [], ◌∷◌, ◌++◌, codes, length, replicate, Contains}
 use Rattle.std.specs.Int.{w32, to_be_bytes}
 use Rattle.urna_outside.specs.declared.device.Dev.{Dev}
-use Rattle.urna_outside.specs.declared.device.Dev.TheVariants.{Internal, External}
 use Rattle.election_tables.specs.Roll.{RollData}
 use Rattle.election_tables.specs.TablesData.{TablesData}
 use Rattle.election_tables.specs.declared.tables.sections.Section.{Section}
 use Rattle.state_store.specs.declared.load.Load.{Load}
+use Rattle.flash_store.specs.Device.{device_byte}
 
 -- the load of these tables and this roll for a section
 abbrev pub load_of : TablesData → RollData → Section → Load
@@ -20,11 +20,6 @@ pub record IsSectionOf (t : TablesData) (r : RollData) (section : Section) : Typ
 -- the eight bytes with which each header begins
 abbrev pub magic : List ℕ
 magic = codes "URNAU1" ++ 0 ∷ 0 ∷ []
-
--- the byte of a header that names its device
-abbrev pub device_byte : Dev → ℕ
-device_byte Internal = 1
-device_byte External = 2
 
 -- how many zeros fill a header up
 abbrev pub header_zeros : ℕ

@@ -1,9 +1,10 @@
 //! What flashes are loaded with, and the header that tells it.
 ghost use Rattle.std.specs.Prelude.{◌≡◌};
-ghost use Rattle.state_store.specs.Load.{device_byte, header, load_of};
+ghost use Rattle.state_store.specs.Load.{header, load_of};
 
 use arrayvec::ArrayVec;
 use election_tables::{Roll, Section, Tables};
+use flash_store::device_byte;
 use gate_slot::HEADER_SIZE;
 use urna_base::put_be32;
 use urna_outside::Dev;
@@ -63,13 +64,4 @@ pub fn header(tables: &Tables, roll: &Roll, section: Section, dev: Dev) -> [u8; 
     ensures { result ≡ header (load_of tables.now roll.now section) dev }
 {
     Load::of(tables, roll, section).header(dev)
-}
-
-fn device_byte(dev: Dev) -> u8
-    ensures { result ≡ device_byte dev }
-{
-    match dev {
-        Dev::Internal => 1,
-        Dev::External => 2,
-    }
 }

@@ -1,9 +1,10 @@
 -- The ballots of a run, by what it puts out
-use Rattle.std.proofs.Common.{◌≡◌, ℕ, zero, suc, ◌+◌, Bool, true, false, cond, ◌&&◌, List, [], ◌∷◌, ◌++◌, length, map, take, refl, sym, ap, subst, ◌∙◌, arith, append_assoc, Option}
+use Rattle.std.proofs.Common.{◌≡◌, ℕ, zero, suc, ◌+◌, Bool, true, false, cond, ◌&&◌, List, [], ◌∷◌, ◌++◌, length, take, refl, sym, ap, subst, ◌∙◌, arith, append_assoc, Option}
 use Rattle.std.specs.Prelude.{nat_eq, codes}
 use Rattle.std.specs.Fmt.{decimal}
 use Rattle.std.specs.List.{AllByRecursion}
 use Rattle.std.specs.Str.{bytes_eq}
+use Rattle.urna_base.proofs.Every.{every_append, every_map}
 use Rattle.election_tables.specs.TablesData.{TablesData}
 use Rattle.election_tables.specs.declared.office.Kind.{Kind}
 use Rattle.election_tables.specs.declared.office.Kind.TheVariants as kind
@@ -225,14 +226,6 @@ title_other : (title : Title) → IsOther (title_text title)
 title_other title.Zeresima = refl
 title_other title.Boletim = refl
 
-others-append : (xs ys : List (List ℕ)) → AllByRecursion IsOther xs → AllByRecursion IsOther ys → AllByRecursion IsOther (xs ++ ys)
-others-append [] ys first second = second
-others-append (x ∷ xs) ys first second = (first.0, others-append xs ys first.1 second)
-
-others_map : {A : Type 0} (f : A → List ℕ) (xs : List A) → ((x : A) → IsOther (f x)) → AllByRecursion IsOther (map f xs)
-others_map f [] all = tt
-others_map f (x ∷ xs) all = (all x, others_map f xs all)
-
 spaced_words : (d e : List ℕ) → IsOther (d ++ codes " " ++ e ++ 10 ∷ [])
 spaced_words d e =
     subst IsOther (sym (append_assoc (d ++ 32 ∷ []) e (10 ∷ []) ∙ append_assoc d (32 ∷ []) (e ++ 10 ∷ []))) (spaced_other d (e ++ 10 ∷ []))
@@ -241,7 +234,7 @@ votes_other : (number votes : ℕ) → IsOther (votes_line number votes)
 votes_other number votes = spaced_words (decimal number) (decimal votes)
 
 kind_other : (k : Kind) (t : TablesData) (bag : List Choice) → AllByRecursion IsOther (kind_lines k t bag)
-kind_other kind.Proportional t bag = others_map (party_line bag) t.parties (λ q. votes_other q.number (count_of (choice.Party q.number) bag))
+kind_other kind.Proportional t bag = every_map IsOther (party_line bag) t.parties (λ q. votes_other q.number (count_of (choice.Party q.number) bag))
 kind_other kind.Absolute t bag = tt
 kind_other kind.Simple t bag = tt
 
@@ -250,11 +243,11 @@ panels_other t bags first [] = tt
 panels_other t bags first (p ∷ panels) =
     let bag = bag_at bags first in
     let totals : AllByRecursion IsOther (total_lines bag) = (refl, (refl, (refl, tt))) in
-    others-append (panel_lines t p bag) (lines_of_panels t bags (first + 1) panels) (
+    every_append IsOther (panel_lines t p bag) (lines_of_panels t bags (first + 1) panels) (
       refl,
-      others-append (candidate_lines p.candidates bag) (kind_lines p.office.kind t bag ++ total_lines bag)
-          (others_map (candidate_line bag) p.candidates (λ c. votes_other c.number (count_of (choice.Nominal c.number) bag)))
-          (others-append (kind_lines p.office.kind t bag) (total_lines bag) (kind_other p.office.kind t bag) totals),
+      every_append IsOther (candidate_lines p.candidates bag) (kind_lines p.office.kind t bag ++ total_lines bag)
+          (every_map IsOther (candidate_line bag) p.candidates (λ c. votes_other c.number (count_of (choice.Nominal c.number) bag)))
+          (every_append IsOther (kind_lines p.office.kind t bag) (total_lines bag) (kind_other p.office.kind t bag) totals),
     )
     (panels_other t bags (first + 1) panels)
 

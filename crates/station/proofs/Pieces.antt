@@ -1,11 +1,12 @@
 -- The pieces of a session: their lines, their states, and what is kept over them
-use Rattle.std.proofs.Common.{◌≡◌, ◌<◌, ◌+◌, ℕ, List, [], ◌∷◌, ◌++◌, map, length, take, drop, get_or, refl, sym, ap, subst, ◌∙◌, arith, length-append}
+use Rattle.std.proofs.Common.{◌≡◌, ◌<◌, ◌+◌, ℕ, List, [], ◌∷◌, ◌++◌, length, take, drop, get_or, refl, sym, ap, subst, ◌∙◌, arith, length-append}
 use Rattle.std.specs.Prelude.{codes}
 use Rattle.std.specs.Fmt.{decimal}
 use Rattle.std.specs.Option.{ForSome}
 use Rattle.std.specs.List.{AllByRecursion}
 use Rattle.std.proofs.lemmas.List.{take_more, take-append-drop, append-nil}
 use Rattle.std.proofs.lemmas.Grind.{flat_map-append}
+use Rattle.urna_base.proofs.Every.{every_append, every_map}
 use Rattle.urna_outside.specs.ShownLines.{HasShown}
 use Rattle.urna_outside.specs.Told.{Told}
 use Rattle.election_tables.specs.Roll.{RollData}
@@ -61,19 +62,11 @@ full_end xs = omega (arith, length-append xs (10 ∷ []))
 abbrev IsFullLine : List ℕ → Type 0
 IsFullLine line = 0 < length line
 
-full_lines-append : (xs ys : List (List ℕ)) → AllByRecursion IsFullLine xs → AllByRecursion IsFullLine ys → AllByRecursion IsFullLine (xs ++ ys)
-full_lines-append [] ys first second = second
-full_lines-append (x ∷ xs) ys first second = (first.0, full_lines-append xs ys first.1 second)
-
-full_map : {A : Type 0} (f : A → List ℕ) (xs : List A) → ((x : A) → IsFullLine (f x)) → AllByRecursion IsFullLine (map f xs)
-full_map f [] all = tt
-full_map f (x ∷ xs) all = (all x, full_map f xs all)
-
 full_votes : (number votes : ℕ) → IsFullLine (votes_line number votes)
 full_votes number votes = full_end (decimal number ++ codes " " ++ decimal votes)
 
 full_kind : (k : Kind) (t : TablesData) (bag : List Choice) → AllByRecursion IsFullLine (kind_lines k t bag)
-full_kind kind.Proportional t bag = full_map (party_line bag) t.parties (λ q. full_votes q.number (count_of (choice.Party q.number) bag))
+full_kind kind.Proportional t bag = every_map IsFullLine (party_line bag) t.parties (λ q. full_votes q.number (count_of (choice.Party q.number) bag))
 full_kind kind.Absolute t bag = tt
 full_kind kind.Simple t bag = tt
 
@@ -82,10 +75,10 @@ full_panels t bags first [] = tt
 full_panels t bags first (p ∷ panels) =
     let bag = bag_at bags first in
     let totals : AllByRecursion IsFullLine (total_lines bag) = (omega arith, (omega arith, (omega arith, tt))) in
-    full_lines-append (panel_lines t p bag) (lines_of_panels t bags (first + 1) panels) (
+    every_append IsFullLine (panel_lines t p bag) (lines_of_panels t bags (first + 1) panels) (
       omega arith,
-      full_lines-append (candidate_lines p.candidates bag) (kind_lines p.office.kind t bag ++ total_lines bag)
-          (full_map (candidate_line bag) p.candidates (λ c. full_votes c.number (count_of (choice.Nominal c.number) bag))) (full_lines-append (kind_lines p.office.kind t bag) (total_lines bag) (full_kind p.office.kind t bag) totals),
+      every_append IsFullLine (candidate_lines p.candidates bag) (kind_lines p.office.kind t bag ++ total_lines bag)
+          (every_map IsFullLine (candidate_line bag) p.candidates (λ c. full_votes c.number (count_of (choice.Nominal c.number) bag))) (every_append IsFullLine (kind_lines p.office.kind t bag) (total_lines bag) (full_kind p.office.kind t bag) totals),
     )
     (full_panels t bags (first + 1) panels)
 
@@ -127,13 +120,9 @@ full_output t (Says l) = (full_line t l, tt)
 full_output t (Commits s l) = (full_line t l, tt)
 full_output t (Reports title s) = full_quiet (title_text title ∷ count_lines t s.bags) (full_title title, full_counts t s.bags)
 
-full-append : (xs ys : List Piece) → AreFull xs → AreFull ys → AreFull (xs ++ ys)
-full-append [] ys first second = second
-full-append (x ∷ xs) ys first second = (first.0, full-append xs ys first.1 second)
-
 pub full_pieces : (t : TablesData) (out : List Output) → AreFull (session_pieces t out)
 full_pieces t [] = tt
-full_pieces t (o ∷ out) = full-append (output_pieces t o) (session_pieces t out) (full_output t o) (full_pieces t out)
+full_pieces t (o ∷ out) = every_append (λ (piece : Piece). 0 < length piece.line) (output_pieces t o) (session_pieces t out) (full_output t o) (full_pieces t out)
 
 -- Acts in order
 

@@ -22,6 +22,7 @@ use Rattle.station.specs.Press.{Standing, press, idle_at, after, outputs}
 use Rattle.station.specs.Stands.{idle}
 use Rattle.station.specs.States.{opening, voter, seal, IsHistory, same, then}
 use Rattle.std.proofs.Math.ListN.{length-set}
+use Rattle.urna_base.proofs.Every.{every_apart}
 use Rattle.key_script.specs.declared.keys.ClerkKey.{ClerkKey}
 use Rattle.key_script.specs.declared.keys.ClerkKey.TheVariants as clerk
 use Rattle.station.specs.declared.line.Line.TheVariants as line
@@ -198,10 +199,6 @@ module _ (t : TablesData) (titles : List ℕ) where
       )
   visit_state (suspended {es} {choices} {text} on) of may = suspended_state choices text on of may
 
-  all_front : (xs ys : List Event) → AllByRecursion IsEvent (xs ++ ys) → AllByRecursion IsEvent ys
-  all_front [] ys all = all
-  all_front (x ∷ xs) ys all = all_front xs ys all.1
-
   pub run_states : {s u : State} {es : List Event} {out : List Output} → Is s → AllByRecursion IsEvent es → IsRun v s es u out → Are (commits_of out) × Is u
   run_states of events ends = (tt, of)
   run_states of events (ignores run) = run_states of events.1 run
@@ -221,12 +218,12 @@ module _ (t : TablesData) (titles : List ℕ) where
       ((now, rest.0), rest.1)
   run_states {s} of events (waits {place} before e w) = (subst Are (sym (wait_says v s place before)) tt, of)
   run_states {s} of events (cancels {place} {es} {out} before e w run) =
-      let rest = run_states of (all_front before (Clerk clerk.Cancela ∷ es) events.1).1 run in
+      let rest = run_states of (every_apart IsEvent before (Clerk clerk.Cancela ∷ es) events.1).1.1 run in
       (subst Are (sym (says (wait_outputs v s place before) (Says line.Canceled ∷ out) (wait_says v s place before))) rest.0, rest.1)
   run_states {s} of events (visits {number} {place} {visit} {es} {text} {out} before e w visited run) =
       let more = visit_state visited of (idle_answer_at v s (clerk.Titulo number) (answer.Identifies place) of.roll e) in
-      let behind = (all_front before (Clerk clerk.Libera ∷ (visit ++ es)) events.1).1 in
-      let rest = run_states more.0 (all_front visit es behind) run in
+      let behind = (every_apart IsEvent before (Clerk clerk.Libera ∷ (visit ++ es)) events.1).1.1 in
+      let rest = run_states more.0 (every_apart IsEvent visit es behind).1 run in
       (subst Are (sym (says (wait_outputs v s place before) (Says line.Released ∷ (text ++ out)) (wait_says v s place before))) (more.1 out rest.0), rest.1)
   run_states {s} of events (cut_off {place} {text} before e w on) =
       (subst Are (sym (says (wait_outputs v s place before) (Says line.Released ∷ text) (wait_says v s place before) ∙ open_says on)) tt, of)

@@ -2,6 +2,7 @@
 use Rattle.std.proofs.Common.{◌≡◌, ℕ, Bool, true, false, cond, nat_lt, List, [], ◌∷◌, ◌++◌, Option, Some, None, refl, sym, ap, subst, ◌∙◌, append_assoc}
 use Rattle.std.proofs.lemmas.List.{append-nil}
 use Rattle.std.specs.List.{AllByRecursion}
+use Rattle.urna_base.proofs.Every.{every_append}
 use Rattle.key_script.specs.declared.keys.Key.{Key}
 use Rattle.key_script.specs.declared.keys.Key.TheVariants as key
 use Rattle.vote_kinds.specs.declared.choice.Choice.{Choice}
@@ -51,10 +52,6 @@ goes_press : (v : Setting) (s : State) (x : Standing) (e : Event) (r : Pressed) 
 goes_press v s x e r es out p h = subst (λ (q : Pressed). Goes v s q.standing es (out ++ q.out)) (sym p) h
 
 -- Lists with one more at the end
-
-all_more : {A : Type 0} (P : A → Type 0) (xs : List A) (x : A) → AllByRecursion P xs → P x → AllByRecursion P (xs ++ x ∷ [])
-all_more P [] x h p = (p, tt)
-all_more P (y ∷ xs) x h p = (h.0, all_more P xs x h.1 p)
 
 wait_outputs-append : (v : Setting) (s : State) (place : ℕ) (es fs : List Event) → wait_outputs v s place (es ++ fs) ≡ wait_outputs v s place es ++ wait_outputs v s place fs
 wait_outputs-append v s place [] fs = refl
@@ -167,7 +164,7 @@ goes_waiting : (v : Setting) (s : State) (number place : ℕ) (before : List Eve
 goes_waiting v s number place before e h w waiting p =
     goes_press v s (identified_at s place) e _ _ (Says (line.Voter number) ∷ wait_outputs v s place before) p
     (goes_moved refl refl (ap (λ (o : List Output). Says (line.Voter number) ∷ o) (wait_outputs-append v s place before (e ∷ [])))
-    (stands (identified (before ++ e ∷ []) h (all_more IsWaiting before e w waiting))))
+    (stands (identified (before ++ e ∷ []) h (every_append IsWaiting before (e ∷ []) w (waiting, tt)))))
 
 refused_text : (v : Setting) (s : State) (place : ℕ) (c : ClerkKey) → Polls s → IsWaiting (Clerk c)
     → press v (identified_at s place) (Clerk c) ≡ record { standing = identified_at s place; out = wait_outputs v s place (Clerk c ∷ []) }
@@ -230,7 +227,7 @@ module _ (v : Setting) (s : State) (number place : ℕ) (before es : List Event)
       (ap (λ (o : List Output). visit_outputs v s number place before (text ++ call_of choices l ∷ o)) (line_outputs-append v s place l (earlier_for v choices l) [] on (e ∷ []))
       ∙ ap (visit_outputs v s number place before) (sym (append_assoc text (call_of choices l ∷ line_outputs v s place l (earlier_for v choices l) [] on) shown))
       ∙ visit_outputs-append v s number place before called shown)
-      (stands (voting before l (on ++ e ∷ []) h w votes at (all_more IsVisiting on e visit visiting) u)))
+      (stands (voting before l (on ++ e ∷ []) h w votes at (every_append IsVisiting on (e ∷ []) visit (visiting, tt)) u)))
 
   -- a key that ends no panel word
   goes_typed : (k : Key) → (k ≡ key.Confirm → is_confirmable l (field_after l.digits (keys_of on)) ≡ false)

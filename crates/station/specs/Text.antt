@@ -2,6 +2,7 @@
 use Rattle.std.specs.Prelude.{ℕ, ◌<◌, ◌^◌, List, [], ◌∷◌, ◌++◌, codes, flat_map, length}
 use Rattle.std.specs.Fmt.{decimal}
 use Rattle.urna_base.specs.Digits.{padded}
+use Rattle.urna_base.specs.Lines.{number_line, two_number_line, word_line}
 use Rattle.election_tables.specs.TablesData.{TablesData}
 use Rattle.turnout.specs.declared.phase.Phase.{Phase}
 use Rattle.turnout.specs.declared.phase.Phase.TheVariants as phase
@@ -24,16 +25,16 @@ poll_text (phase.Sealed opened closed) = codes "URNA LACRADA "
 
 -- the text of a line, with its line feed
 abbrev pub line_text : TablesData → Line → List ℕ
-line_text t (line.Poll p came) = poll_text p ++ decimal came ++ 10 ∷ []
-line_text t (line.Refused n) = codes "RECUSA " ++ decimal n ++ 10 ∷ []
+line_text t (line.Poll p came) = number_line (poll_text p) came
+line_text t (line.Refused n) = number_line (codes "RECUSA ") n
 line_text t (line.Voter number) = codes "ELEITOR " ++ padded 12 number ++ 10 ∷ []
-line_text t line.Released = codes "LIBERADO" ++ 10 ∷ []
-line_text t line.Canceled = codes "CANCELADO" ++ 10 ∷ []
-line_text t line.Suspended = codes "SUSPENSO" ++ 10 ∷ []
-line_text t (line.Ballot number code) = codes "VOTO " ++ decimal number ++ codes " CARGO " ++ decimal code ++ 10 ∷ []
+line_text t line.Released = word_line (codes "LIBERADO")
+line_text t line.Canceled = word_line (codes "CANCELADO")
+line_text t line.Suspended = word_line (codes "SUSPENSO")
+line_text t (line.Ballot number code) = two_number_line (codes "VOTO ") number (codes " CARGO ") code
 line_text t (line.Screen panel before f) = screen_text t panel before f
 line_text t (line.Opened m) = codes "ABERTA " ++ padded 14 m ++ 10 ∷ []
-line_text t line.Ended = codes "FIM" ++ 10 ∷ []
+line_text t line.Ended = word_line (codes "FIM")
 line_text t (line.Sealed m came) = codes "ENCERRADA " ++ padded 14 m ++ codes " " ++ decimal came ++ 10 ∷ []
 
 -- the line over the counts

@@ -1,15 +1,14 @@
 ghost use Rattle.std.specs.Prelude.{◌≡◌, ◌≤◌, ◌<◌, ◌^◌, ◌∷◌, ◌++◌, [], codes, length};
 ghost use Rattle.std.specs.Fmt.{decimal};
 ghost use Rattle.urna_base.specs.Digits.{padded};
-ghost use Rattle.vote_kinds.specs.Ballot.{IsField, line_of};
-ghost use Rattle.voter_term.specs.Screen.{screen_text};
+ghost use Rattle.urna_base.specs.Lines.{two_number_line};
 ghost use Rattle.station.specs.Text.{IsLine, line_text, poll_text, title_text};
 
 use election_tables::Tables;
 use turnout::Phase;
-use urna_base::LineBuffer;
+use urna_base::{LineBuffer, number_line, two_number_line, word_line};
 use vote_kinds::{Choice, Field};
-use voter_term::screen;
+use voter_term::screen_line;
 
 /// The two reports of counts.
 #[derive(Clone, Copy, Debug, PartialEq, Eq)]
@@ -78,12 +77,12 @@ impl Line {
         ensures { result ≡ line_text tables.now self }
     {
         match self {
-            Line::Poll { phase, came } => counted(poll_word(phase), u64::from(came)),
-            Line::Refused(number) => counted(b"RECUSA ", u64::from(number)),
+            Line::Poll { phase, came } => number_line(poll_word(phase), u64::from(came)),
+            Line::Refused(number) => number_line(b"RECUSA ", u64::from(number)),
             Line::Voter(title) => padded_line(b"ELEITOR ", title, 12),
-            Line::Released => bare(b"LIBERADO"),
-            Line::Canceled => bare(b"CANCELADO"),
-            Line::Suspended => bare(b"SUSPENSO"),
+            Line::Released => word_line(b"LIBERADO"),
+            Line::Canceled => word_line(b"CANCELADO"),
+            Line::Suspended => word_line(b"SUSPENSO"),
             Line::Ballot { number, code } => ballot_text(number, code),
             Line::Screen {
                 panel,
@@ -91,22 +90,10 @@ impl Line {
                 field,
             } => screen_line(tables, panel, before, field),
             Line::Opened(moment) => padded_line(b"ABERTA ", moment, 14),
-            Line::Ended => bare(b"FIM"),
+            Line::Ended => word_line(b"FIM"),
             Line::Sealed { closed, came } => sealed_text(closed, came),
         }
     }
-}
-
-fn screen_line(tables: &Tables, panel: u32, before: Option<Choice>, field: Field) -> LineBuffer
-    requires panel { panel < length tables.now.panels }
-    requires field { IsField (line_of tables.now panel).digits field }
-    ensures { result ≡ screen_text tables.now panel before field }
-{
-    let mut bytes = [0; 128];
-    let count = screen(tables, panel, before, &field, &mut bytes);
-    let mut line = LineBuffer::new();
-    line.push_text(&bytes[..count as usize]);
-    line
 }
 
 fn poll_word(phase: Phase) -> &'static [u8]
@@ -118,30 +105,6 @@ fn poll_word(phase: Phase) -> &'static [u8]
         Phase::Polling { .. } => b"URNA ABERTA ",
         Phase::Sealed { .. } => b"URNA LACRADA ",
     }
-}
-
-/// A word alone.
-fn bare(word: &[u8]) -> LineBuffer
-    requires { length word.now ≤ 20 }
-    ensures { result ≡ word.now ++ 10 ∷ [] }
-{
-    let mut line = LineBuffer::new();
-    line.push_text(word);
-    line.push_text(b"\n");
-    line
-}
-
-/// A word and a number.
-#[tactic(auto, using(urna_base::proofs::DecimalLaws::line_lengths))]
-fn counted(word: &[u8], n: u64) -> LineBuffer
-    requires { length word.now ≤ 20 }
-    ensures { result ≡ word.now ++ decimal n ++ 10 ∷ [] }
-{
-    let mut line = LineBuffer::new();
-    line.push_text(word);
-    line.push_decimal(n);
-    line.push_text(b"\n");
-    line
 }
 
 /// A word and a number of so many digits.
@@ -160,17 +123,10 @@ fn padded_line(word: &[u8], n: u64, digits: u32) -> LineBuffer
     line
 }
 
-#[tactic(auto, using(urna_base::proofs::DecimalLaws::line_lengths))]
 fn ballot_text(number: u32, code: u8) -> LineBuffer
-    ensures { result ≡ codes "VOTO " ++ decimal number ++ codes " CARGO " ++ decimal code ++ 10 ∷ [] }
+    ensures { result ≡ two_number_line (codes "VOTO ") number (codes " CARGO ") code }
 {
-    let mut line = LineBuffer::new();
-    line.push_text(b"VOTO ");
-    line.push_decimal(u64::from(number));
-    line.push_text(b" CARGO ");
-    line.push_decimal(u64::from(code));
-    line.push_text(b"\n");
-    line
+    two_number_line(b"VOTO ", u64::from(number), b" CARGO ", u64::from(code))
 }
 
 #[tactic(auto, using(urna_base::proofs::DecimalLaws::line_lengths))]
@@ -181,8 +137,7 @@ fn sealed_text(closed: u64, came: u32) -> LineBuffer
     let mut line = LineBuffer::new();
     line.push_text(b"ENCERRADA ");
     line.push_digits(closed, 14);
-    line.push_text(b" ");
-    line.push_decimal(u64::from(came));
+    line.push_numbered(b" ", u64::from(came));
     line.push_text(b"\n");
     line
 }

@@ -8,6 +8,7 @@ use Rattle.std.proofs.lemmas.List.{append-nil, take_more}
 use Rattle.std.proofs.lemmas.List.Kept.{AllPairs-from_increasing}
 use Rattle.std.proofs.lemmas.List.Elements.{All-from_recursion, filter-append, recursion_from_All}
 use Rattle.std.proofs.lemmas.List.Sums.{count_by-le-length, length-filter}
+use Rattle.section_intake.proofs.Members.{all_at}
 use Rattle.election_tables.specs.Fields.{first_two}
 use Rattle.election_tables.specs.TablesData.{IsCandidate, IsParty, IsTables, TablesData, bloc_of}
 use Rattle.election_tables.specs.declared.tables.candidates.NamedCandidate.{NamedCandidate}
@@ -51,11 +52,6 @@ others_same t digits es e (b ∷ blocs) above =
     ap (λ (l : List Entry). with_list b l ∷ map (with_candidates t digits (es ++ e ∷ [])) blocs) (other_one t digits b.number es e other)
     ∙ ap (λ (l : List Contestant). with_candidates t digits es b ∷ l) (others_same t digits es e blocs above.1)
 
-slice_get_all : (P : ℕ → Type 0) (ns : List ℕ) (k n : ℕ) → AllByRecursion P ns → slice_get ns k ≡ Some n → P n
-slice_get_all P [] k n all at = absurd (cc)
-slice_get_all P (m ∷ ns) zero n all at = let same : m ≡ n = cc in subst P same all.0
-slice_get_all P (m ∷ ns) (suc k) n all at = slice_get_all P ns k n all.1 at
-
 pub one_given : (t : TablesData) (digits : ℕ) (es : List Entry) (e : Entry) (blocs : List Contestant) (k : ℕ) (b : Contestant)
     → Rises (numbers_of blocs) → slice_get (numbers_of blocs) k ≡ Some (bloc_of_candidate t digits e)
     → slice_get (map (with_candidates t digits es) blocs) k ≡ Some b
@@ -69,7 +65,7 @@ one_given t digits es e (x ∷ blocs) zero b rise at is =
     ∙ (ap (λ (l : List Entry). with_list x l ∷ map (with_candidates t digits es) blocs) (sym (own_one t digits x.number es e own))
     ∙ ap (λ (l : List Contestant). with_candidates t digits (es ++ e ∷ []) x ∷ l) (sym (others_same t digits es e blocs (rw number at rise.0))))
 one_given t digits es e (x ∷ blocs) (suc k) b rise at is =
-    let above = slice_get_all (λ n. x.number < n) (numbers_of blocs) k (bloc_of_candidate t digits e) rise.0 at in
+    let above = all_at (λ n. x.number < n) (numbers_of blocs) k (bloc_of_candidate t digits e) rise.0 at in
     let other : (bloc_of_candidate t digits e == x.number) ≡ false = grind (arith, nat_tests) in
     ap (λ (l : List Contestant). with_candidates t digits es x ∷ l) (one_given t digits es e blocs k b rise.1 at is)
     ∙ ap (λ (l : List Entry). with_list x l ∷ map (with_candidates t digits (es ++ e ∷ [])) blocs) (sym (other_one t digits x.number es e other))

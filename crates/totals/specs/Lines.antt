@@ -1,6 +1,7 @@
 -- The lines of the totals (docs/FORMATS.md, "Totals"), each with its line feed
 use Rattle.std.specs.Prelude.{ℕ, ◌+◌, List, [], ◌∷◌, ◌++◌, codes, map, if◌then◌else◌}
 use Rattle.std.specs.Fmt.{decimal}
+use Rattle.urna_base.specs.Lines.{number_line, two_number_line, word_line}
 use Rattle.election_tables.specs.TablesData.{TablesData, is_federation}
 use Rattle.seat_remainders.specs.declared.contest.Entry.{Entry}
 use Rattle.seat_remainders.specs.declared.outcome.Award.{Award}
@@ -14,7 +15,7 @@ use Rattle.totals.specs.declared.votes.PanelVotes.{PanelVotes}
 
 -- how many reports were accepted, and of how many sections
 abbrev pub section_line : ℕ → ℕ → List ℕ
-section_line accepted sections = codes "SECOES " ++ decimal accepted ++ codes " DE " ++ decimal sections ++ 10 ∷ []
+section_line accepted sections = two_number_line (codes "SECOES ") accepted (codes " DE ") sections
 
 -- the valid votes, which are the nominal and the party votes
 abbrev pub valid_of : PanelVotes → ℕ
@@ -33,27 +34,19 @@ office_line code v =
 
 -- a candidate and the nominal votes
 abbrev pub candidate_line : Entry → List ℕ
-candidate_line c = codes "CANDIDATO " ++ decimal c.number ++ codes " VOTOS " ++ decimal c.votes ++ 10 ∷ []
-
--- a word and a number
-abbrev pub number_line : List ℕ → ℕ → List ℕ
-number_line word n = word ++ decimal n ++ 10 ∷ []
-
--- a word and two numbers
-abbrev pub pair_line : List ℕ → ℕ → ℕ → List ℕ
-pair_line word a b = word ++ decimal a ++ codes " " ++ decimal b ++ 10 ∷ []
+candidate_line c = two_number_line (codes "CANDIDATO ") c.number (codes " VOTOS ") c.votes
 
 -- ---- a majority office
 
 -- what comes of it
 abbrev pub majority_line : MajorityOutcome → List ℕ
 majority_line (majority.Elected number) = number_line (codes "ELEITO ") number
-majority_line (majority.Runoff first second) = pair_line (codes "SEGUNDO TURNO ") first second
-majority_line majority.Nobody = codes "NINGUEM" ++ 10 ∷ []
+majority_line (majority.Runoff first second) = two_number_line (codes "SEGUNDO TURNO ") first (codes " ") second
+majority_line majority.Nobody = word_line (codes "NINGUEM")
 
 -- whom the simple rule elects: a line for each of them, in order, or that there is nobody
 abbrev pub simple_lines : List ℕ → List (List ℕ)
-simple_lines [] = (codes "NINGUEM" ++ 10 ∷ []) ∷ []
+simple_lines [] = word_line (codes "NINGUEM") ∷ []
 simple_lines (n ∷ ns) = map (number_line (codes "ELEITO ")) (n ∷ ns)
 
 -- ---- a proportional office
@@ -81,7 +74,7 @@ award_lines t round (award ∷ awards) = award_line t round award ∷ award_line
 
 -- one who is elected, and the nominal votes
 abbrev pub elected_line : ℕ → ℕ → List ℕ
-elected_line number votes = codes "ELEITO " ++ decimal number ++ codes " VOTOS " ++ decimal votes ++ 10 ∷ []
+elected_line number votes = two_number_line (codes "ELEITO ") number (codes " VOTOS ") votes
 
 -- of several, where each number has so many votes
 abbrev pub elected_lines : (ℕ → ℕ) → List ℕ → List (List ℕ)
@@ -96,5 +89,5 @@ seats_lines t votes s =
 -- what comes of its contest, where each number has so many votes
 abbrev pub outcome_lines : TablesData → (ℕ → ℕ) → Outcome → List (List ℕ)
 outcome_lines t votes (outcome.Seats s) = seats_lines t votes s
-outcome_lines t votes (outcome.NoQuotient valid seats) = pair_line (codes "SEM QUOCIENTE ") valid seats ∷ []
-outcome_lines t votes (outcome.Over first seats) = pair_line (codes "QUOCIENTE EXCEDIDO ") first seats ∷ []
+outcome_lines t votes (outcome.NoQuotient valid seats) = two_number_line (codes "SEM QUOCIENTE ") valid (codes " ") seats ∷ []
+outcome_lines t votes (outcome.Over first seats) = two_number_line (codes "QUOCIENTE EXCEDIDO ") first (codes " ") seats ∷ []

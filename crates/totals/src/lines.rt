@@ -1,24 +1,13 @@
 //! The lines of the totals (docs/FORMATS.md, "Totals").
 ghost use Rattle.std.specs.Prelude.{◌≡◌, ◌+◌, ◌<◌, ◌≤◌, ◌^◌, ◌++◌, length};
 ghost use Rattle.std.specs.Fmt.{decimal};
-ghost use Rattle.totals.specs.Lines.{award_line, bloc_line, candidate_line, elected_line, majority_line, number_line, office_line, pair_line, section_line, total_of};
+ghost use Rattle.totals.specs.Lines.{award_line, bloc_line, candidate_line, elected_line, majority_line, office_line, section_line, total_of};
 
 use crate::blocs::bloc_word;
 use crate::votes::PanelVotes;
 use election_tables::Tables;
 use seat_remainders::{Award, Entry, MajorityOutcome, PartySeats};
-use urna_base::LineBuffer;
-
-/// Appends a word and a number. The caller owes that there is room for the word and 20 digits more, and one byte behind them.
-#[tactic(auto, using(urna_base::proofs::DecimalLaws::line_lengths))]
-pub fn push_numbered(line: &mut LineBuffer, word: &[u8], number: u64)
-    requires { length line.old + length word.now ≤ 107 }
-    ensures text { line.new ≡ line.old ++ (word.now ++ decimal number) }
-    ensures short { length line.new ≤ length line.old + length word.now + 20 }
-{
-    line.push_text(word);
-    line.push_decimal(number);
-}
+use urna_base::{LineBuffer, number_line, two_number_line, word_line};
 
 /// Appends a word and a number of at most 11 digits.
 #[tactic(auto, using(crate::proofs::LineLaws::small_lengths))]
@@ -48,11 +37,12 @@ fn push_code(line: &mut LineBuffer, word: &[u8], code: u64)
 pub fn section_line(accepted: u32, sections: u32) -> LineBuffer
     ensures { result ≡ section_line accepted sections }
 {
-    let mut line = LineBuffer::new();
-    push_numbered(&mut line, b"SECOES ", u64::from(accepted));
-    push_numbered(&mut line, b" DE ", u64::from(sections));
-    line.push_text(b"\n");
-    line
+    two_number_line(
+        b"SECOES ",
+        u64::from(accepted),
+        b" DE ",
+        u64::from(sections),
+    )
 }
 
 /// The votes of an office. The caller owes that they are fewer than 10^11, so that each number has at most 11 digits: a line has no room for
@@ -74,37 +64,15 @@ pub fn office_line(code: u8, votes: PanelVotes) -> LineBuffer
 }
 
 /// A candidate and the votes.
-pub fn candidate_line(candidate: Entry) -> LineBuffer
+pub(crate) fn candidate_line(candidate: Entry) -> LineBuffer
     ensures { result ≡ candidate_line candidate }
 {
-    let mut line = LineBuffer::new();
-    push_numbered(&mut line, b"CANDIDATO ", u64::from(candidate.number));
-    push_numbered(&mut line, b" VOTOS ", candidate.votes);
-    line.push_text(b"\n");
-    line
-}
-
-/// A line of a word and a number. The caller owes that the word has at most 40 bytes.
-pub fn number_line(word: &[u8], number: u64) -> LineBuffer
-    requires { length word.now ≤ 40 }
-    ensures { result ≡ number_line word.now number }
-{
-    let mut line = LineBuffer::new();
-    push_numbered(&mut line, word, number);
-    line.push_text(b"\n");
-    line
-}
-
-/// A line of a word and two numbers. The caller owes that the word has at most 40 bytes.
-pub fn pair_line(word: &[u8], first: u64, second: u64) -> LineBuffer
-    requires { length word.now ≤ 40 }
-    ensures { result ≡ pair_line word.now first second }
-{
-    let mut line = LineBuffer::new();
-    push_numbered(&mut line, word, first);
-    push_numbered(&mut line, b" ", second);
-    line.push_text(b"\n");
-    line
+    two_number_line(
+        b"CANDIDATO ",
+        u64::from(candidate.number),
+        b" VOTOS ",
+        candidate.votes,
+    )
 }
 
 /// What comes of a majority office.
@@ -114,13 +82,9 @@ pub(crate) fn majority_line(outcome: MajorityOutcome) -> LineBuffer
     match outcome {
         MajorityOutcome::Elected(number) => number_line(b"ELEITO ", u64::from(number)),
         MajorityOutcome::Runoff(first, second) => {
-            pair_line(b"SEGUNDO TURNO ", u64::from(first), u64::from(second))
+            two_number_line(b"SEGUNDO TURNO ", u64::from(first), b" ", u64::from(second))
         }
-        MajorityOutcome::Nobody => {
-            let mut line = LineBuffer::new();
-            line.push_text(b"NINGUEM\n");
-            line
-        }
+        MajorityOutcome::Nobody => word_line(b"NINGUEM"),
     }
 }
 
@@ -129,14 +93,10 @@ pub(crate) fn bloc_line(tables: &Tables, bloc: PartySeats) -> LineBuffer
     ensures { result ≡ bloc_line tables.now bloc }
 {
     let mut line = LineBuffer::new();
-    push_numbered(
-        &mut line,
-        bloc_word(tables, bloc.number),
-        u64::from(bloc.number),
-    );
-    push_numbered(&mut line, b" VOTOS ", bloc.votes);
-    push_numbered(&mut line, b" QP ", bloc.quotient);
-    push_numbered(&mut line, b" VAGAS ", u64::from(bloc.seats));
+    line.push_numbered(bloc_word(tables, bloc.number), u64::from(bloc.number));
+    line.push_numbered(b" VOTOS ", bloc.votes);
+    line.push_numbered(b" QP ", bloc.quotient);
+    line.push_numbered(b" VAGAS ", u64::from(bloc.seats));
     line.push_text(b"\n");
     line
 }
@@ -146,14 +106,10 @@ pub(crate) fn award_line(tables: &Tables, round: u32, award: Award) -> LineBuffe
     ensures { result ≡ award_line tables.now round award }
 {
     let mut line = LineBuffer::new();
-    push_numbered(&mut line, b"SOBRA ", u64::from(round));
-    push_numbered(&mut line, b" FASE ", u64::from(award.phase));
+    line.push_numbered(b"SOBRA ", u64::from(round));
+    line.push_numbered(b" FASE ", u64::from(award.phase));
     line.push_text(b" ");
-    push_numbered(
-        &mut line,
-        bloc_word(tables, award.party),
-        u64::from(award.party),
-    );
+    line.push_numbered(bloc_word(tables, award.party), u64::from(award.party));
     line.push_text(b"\n");
     line
 }
@@ -162,9 +118,5 @@ pub(crate) fn award_line(tables: &Tables, round: u32, award: Award) -> LineBuffe
 pub(crate) fn elected_line(number: u32, votes: u64) -> LineBuffer
     ensures { result ≡ elected_line number votes }
 {
-    let mut line = LineBuffer::new();
-    push_numbered(&mut line, b"ELEITO ", u64::from(number));
-    push_numbered(&mut line, b" VOTOS ", votes);
-    line.push_text(b"\n");
-    line
+    two_number_line(b"ELEITO ", u64::from(number), b" VOTOS ", votes)
 }

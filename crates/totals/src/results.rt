@@ -18,8 +18,7 @@ ghost use Rattle.totals.specs.Totals.{AreTotals, TellPanel};
 use crate::contest::contest_of;
 use crate::entries::entries_of;
 use crate::lines::{
-    award_line, bloc_line, candidate_line, elected_line, majority_line, number_line, office_line,
-    pair_line, section_line,
+    award_line, bloc_line, candidate_line, elected_line, majority_line, office_line, section_line,
 };
 use crate::simple_rule::elected_simply;
 use crate::votes::PanelVotes;
@@ -30,7 +29,7 @@ use seat_remainders::{
 };
 use section_intake::Intake;
 use std::alloc::Global;
-use urna_base::{LineBuffer, Memory};
+use urna_base::{LineBuffer, Memory, number_line, two_number_line};
 
 /// The lines that tell the totals over the reports of the accepted files (docs/FORMATS.md, "Totals"): how many there are, and for each
 /// office its votes, those of each candidate, and what comes of them by law.
@@ -78,8 +77,8 @@ fn push_panel(
     }
 }
 
-/// One line for each candidate.
-fn push_candidates(lines: &mut Vec<LineBuffer>, entries: &[Entry]) -> Result<(), Memory>
+/// Appends one line for each candidate. `Memory` comes only where an allocation failed, and says nothing of `lines`.
+pub fn push_candidates(lines: &mut Vec<LineBuffer>, entries: &[Entry]) -> Result<(), Memory>
     ensures { OnOk result (lines.new.items ≡ lines.old.items ++ map candidate_line entries.now) }
 {
     for entry in entries {
@@ -165,11 +164,11 @@ fn push_outcome(
     match outcome {
         Outcome::Seats(seats) => push_seats(lines, tables, intake, panel, seats),
         Outcome::NoQuotient { valid, seats } => {
-            lines.push(pair_line(b"SEM QUOCIENTE ", *valid, u64::from(*seats)))?;
+            lines.push(two_number_line(b"SEM QUOCIENTE ", *valid, b" ", u64::from(*seats)))?;
             Ok(())
         }
         Outcome::Over { first, seats } => {
-            lines.push(pair_line(b"QUOCIENTE EXCEDIDO ", *first, u64::from(*seats)))?;
+            lines.push(two_number_line(b"QUOCIENTE EXCEDIDO ", *first, b" ", u64::from(*seats)))?;
             Ok(())
         }
     }

@@ -9,7 +9,7 @@ ghost use Rattle.totals.specs.Contest.{entries_in, votes_in};
 ghost use Rattle.totals.specs.Lines.{total_of, valid_of};
 
 use election_tables::Tables;
-use seat_remainders::Entry;
+use seat_remainders::{Entry, nominal_votes};
 use section_intake::Intake;
 
 /// The votes of a panel over all accepted reports.
@@ -25,7 +25,7 @@ impl PanelVotes {
     /// The votes of a panel whose candidates are these, over the reports of the accepted files.
     ///
     /// The caller owes that there is such a panel, that the intake was made for these tables, and that the candidates are those of
-    /// `entries_of`.
+    /// `entries_of`, and have fewer than 10^8 votes.
     pub fn of(tables: &Tables, intake: &Intake, panel: u32, entries: &[Entry]) -> PanelVotes
         requires panel { panel < length tables.now.panels }
         requires made { IsIntakeFor tables.now intake.now }
@@ -58,14 +58,6 @@ impl PanelVotes {
     {
         self.valid() + (self.blank + self.null_votes)
     }
-}
-
-/// The votes of all these candidates.
-fn nominal_votes(entries: &[Entry]) -> u64
-    requires { nominal_votes entries.now < 10 ^ 8 }
-    ensures { result ≡ nominal_votes entries.now }
-{
-    entries.iter().map(|entry| entry.votes).sum()
 }
 
 /// The party votes of all parties in a panel.

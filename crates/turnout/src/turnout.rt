@@ -1,5 +1,5 @@
 ghost use Rattle.std.specs.Prelude.{◌≡◌, ◌<◌, ◌≤◌, true, false, length, replicate, slice_set, IfOk};
-ghost use Rattle.turnout.specs.Turnout.{has_come, number_came};
+ghost use Rattle.turnout.specs.Turnout.{has_come, most_places, number_came};
 
 use std::alloc::Global;
 use std::marker::Model;
@@ -26,10 +26,10 @@ impl Model for Turnout {
 }
 
 impl Turnout {
-    /// The turnout of a roll of this many voters, of whom nobody came. All its memory is taken here; `Memory` comes only
-    /// where an allocation failed.
+    /// The turnout of a roll of this many voters, of whom nobody came. The caller owes that these are at most 600. All its
+    /// memory is taken here; `Memory` comes only where an allocation failed.
     pub fn new(alloc: Global, voters: u32) -> Result<Turnout, Memory>
-        requires { voters ≤ 600 }
+        requires { voters ≤ most_places }
         ensures { IfOk result (λ t. t ≡ replicate voters false) }
     {
         // one by one, since only these pushes tell that they take no memory more
@@ -62,7 +62,7 @@ impl Turnout {
     pub fn len(&self) -> u32
         ensures count { result ≡ number_came self.now }
         ensures within { result ≤ length self.now }
-        ensures few { result ≤ 600 }
+        ensures few { result ≤ most_places }
     {
         self.count
     }
@@ -70,7 +70,7 @@ impl Turnout {
     /// How many voters the roll has.
     pub fn voters(&self) -> u32
         ensures count { result ≡ length self.now }
-        ensures few { result ≤ 600 }
+        ensures few { result ≤ most_places }
     {
         self.marks.len() as u32
     }

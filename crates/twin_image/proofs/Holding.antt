@@ -2,6 +2,7 @@
 use Rattle.std.proofs.Common.{◌≡◌, ℕ, ◌+◌, ◌<◌, ◌⊎◌, inl, inr, Bool, true, false, cond, eqb, ltb, Option, Some, None, List, [], ◌∷◌, ◌++◌, length, unwrap_or, is_some, refl, ap, ◌∙◌, arith, length-append}
 use Rattle.std.proofs.lemmas.Bool.{eqb-true, eq-eqb}
 use Rattle.std.specs.List.{AllByRecursion}
+use Rattle.urna_base.proofs.Every.{every_append}
 use Rattle.urna_outside.specs.Stop.{Left}
 use Rattle.gate_slot.specs.Slot.{gate_in, body_in}
 use Rattle.twin_image.specs.Twin.{IsOldOrNew, HoldsEither}
@@ -33,10 +34,6 @@ module _ (rank : List ℕ → Option ℕ) (size : ℕ) (old new : List ℕ) (low
   held_either [] all some = absurd (omega arith)
   held_either (body ∷ bodies) all some = better_held body (held_body rank bodies) all.0 (held_any bodies all.1)
 
-  all-append : (xs ys : List (List ℕ)) → AllByRecursion OneOf xs → AllByRecursion OneOf ys → AllByRecursion OneOf (xs ++ ys)
-  all-append [] ys first second = second
-  all-append (x ∷ xs) ys first second = (first.0, all-append xs ys first.1 second)
-
   picked : (is_open ranked : Bool) (body : List ℕ) → (is_open ≡ true → OneOf body) → AllByRecursion OneOf (cond is_open (cond ranked (body ∷ []) []) [])
   picked true true body one = (one refl, tt)
   picked true false body one = tt
@@ -60,7 +57,7 @@ module _ (rank : List ℕ → Option ℕ) (size : ℕ) (old new : List ℕ) (low
       counted (eqb (gate_in size index image) 0xA5) (is_some (rank (body_in size index image))) (body_in size index image) (eq-eqb (gate_in size index image) 0xA5 gate) (ranked_one (body_in size index image) (is gate))
 
   twin_all : (image : List ℕ) → HoldsEither size old new image → AllByRecursion OneOf (bodies_on rank size image)
-  twin_all image holds = all-append (bodies_at rank size 0 image) (bodies_at rank size 1 image) (slot_all 0 image holds.first) (slot_all 1 image holds.second)
+  twin_all image holds = every_append OneOf (bodies_at rank size 0 image) (bodies_at rank size 1 image) (slot_all 0 image holds.first) (slot_all 1 image holds.second)
 
   twin_stands : (image : List ℕ) → HoldsEither size old new image → 0 < length (bodies_on rank size image)
   twin_stands image holds = go holds.open_one
@@ -82,7 +79,7 @@ module _ (rank : List ℕ → Option ℕ) (size : ℕ) (old new : List ℕ) (low
       let i_some = twin_stands left.internal internal in
       let e_some = twin_stands left.external external in
       record {
-        both = held_either (i ++ e) (all-append i e i_all e_all) (omega (arith, length-append i e));
+        both = held_either (i ++ e) (every_append OneOf i e i_all e_all) (omega (arith, length-append i e));
         internal = held_either i i_all i_some;
         external = held_either e e_all e_some;
       }

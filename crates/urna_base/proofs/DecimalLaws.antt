@@ -1,5 +1,6 @@
 -- Laws of a number's shortest digits.
-use Rattle.std.proofs.Common.{◌≡◌, ℕ, ◌<◌, ◌≤◌, ◌^◌, true, List, length, get_or, refl, ap, ◌∙◌, length-append, ◌⊎◌, inl, inr, arith, rules, Some}
+use Rattle.std.proofs.Common.{◌≡◌, ℕ, ◌<◌, ◌≤◌, ◌^◌, true, List, length, get_or, refl, ap, ◌∙◌, length-append, ◌⊎◌, inl, inr, arith, rules, Some, sym}
+use Rattle.std.specs.Prelude.{if◌then◌else◌, None}
 use Rattle.std.specs.Fmt.{decimal}
 use Rattle.std.specs.List.{list_all}
 use Rattle.std.proofs.lemmas.Fmt.{length-decimal-le, decimal_nonempty, decimal_digit, first_decimal, digits_decimal, digits_value-decimal, decimal-digits_value}
@@ -7,7 +8,9 @@ use Rattle.std.proofs.lemmas.Str.Parse.{IsDigitsTest, IsNumeralModel, numerals_b
 use Rattle.std.proofs.lemmas.Bool.{cases_eq}
 use Rattle.std.proofs.lemmas.Bool.Decides.{nat_tests}
 use Rattle.std.proofs.Math.Nat.{pow-le-pow_right}
-use Rattle.urna_base.specs.Digits.{is_digit, value_of_digits, is_decimal, decimal_value}
+use Rattle.urna_base.specs.Digits.{is_digit, value_of_digits, is_decimal, decimal_value, decimal_within}
+use Rattle.urna_base.specs.Moment.{is_between}
+use Rattle.urna_base.proofs.Cases.{and_then_some}
 use Rattle.urna_base.proofs.DigitLaws.{both_from_and, some_from_test, is_digit-true, is_digit-from, value_of_digits-below, length-padded}
 
 -- a number of 64 bits has at most 20 digits
@@ -99,6 +102,23 @@ decimal-decimal_value bytes v e =
     let parts = decimal_value-some bytes v e in
     let below = decimal_value-below bytes v e in
     rw (← parts.1) (decimal-digits_value own bytes parts.0.all parts.0.some parts.0.first (rw parts.1 (omega arith)))
+
+-- a number within bounds reads back
+pub within_written : (low high n : ℕ) → is_between low high n ≡ true → n < 10 ^ 18 → decimal_within low high (decimal n) ≡ Some n
+within_written low high n h few = rw (decimal_value-decimal n few, h) refl
+
+-- what was read within bounds
+pub record IsWithin (low high n : ℕ) (bytes : List ℕ) : Type 0 where
+  pub printed : bytes ≡ decimal n
+  pub within : is_between low high n ≡ true
+  pub few : n < 10 ^ 18
+
+pub within_read : (low high n : ℕ) (bytes : List ℕ) → decimal_within low high bytes ≡ Some n → IsWithin low high n bytes
+within_read low high n bytes h =
+    let found = and_then_some (decimal_value bytes) (λ v. if is_between low high v then Some v else None) n h in
+    let test = some_from_test (is_between low high found.0) found.0 n found.2 in
+    let value : decimal_value bytes ≡ Some n = found.1 ∙ ap (λ (v : ℕ). Some v) test.1 in
+    record { printed = sym (decimal-decimal_value bytes n value); within = rw (← test.1) test.0; few = decimal_value-below bytes n value }
 
 -- how long the pieces of a shown line are
 pub ruleset line_lengths = (length-append, length-padded, length-decimal-le_10, length-decimal-le_20)

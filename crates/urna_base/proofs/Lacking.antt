@@ -1,14 +1,15 @@
 -- A text without a byte
-use Rattle.std.proofs.Common.{◌≡◌, ◌⊎◌, inl, inr, ℕ, ◌^◌, ◌<◌, Bool, true, false, not, List, [], ◌∷◌, ◌++◌, All, refl, ◌∙◌, arith, lit<}
+use Rattle.std.proofs.Common.{◌≡◌, ◌⊎◌, inl, inr, ℕ, zero, suc, ◌+◌, ◌/◌, ◌%◌, ◌^◌, ◌<◌, Bool, true, false, not, List, [], ◌∷◌, ◌++◌, All, refl, ◌∙◌, arith, lit<}
 use Rattle.std.specs.Prelude.{◌==◌}
 use Rattle.std.specs.Fmt.{decimal}
 use Rattle.std.specs.List.{list_all}
 use Rattle.std.proofs.lemmas.Bool.Decides.{nat_tests}
 use Rattle.std.proofs.lemmas.List.Elements.{All-nil, All-cons}
 use Rattle.std.proofs.lemmas.List.Folds.{list_all-append}
-use Rattle.urna_base.specs.Digits.{is_digit}
+use Rattle.urna_base.specs.Digits.{is_digit, padded}
+use Rattle.urna_base.specs.Moment.{is_between}
 use Rattle.urna_base.proofs.DecimalLaws.{all_digits}
-use Rattle.urna_base.proofs.DigitLaws.{both_from_and}
+use Rattle.urna_base.proofs.DigitLaws.{both_from_and, list_all-push}
 
 -- a byte is another one
 abbrev pub is_other : ℕ → ℕ → Bool
@@ -46,3 +47,19 @@ decimal_lacks b n out few = digits_lack b (decimal n) out (all_digits n few)
 
 pub decimal_in_line : (n : ℕ) → n < 10 ^ 18 → Lacks 10 (decimal n)
 decimal_in_line n few = decimal_lacks 10 n (inl (lit< tt)) few
+
+-- and no padded number has a line feed
+pub padded_in_line : (k n : ℕ) → Lacks 10 (padded k n)
+unfolding padded
+padded_in_line zero n = refl
+padded_in_line (suc k) n = list_all-push (is_other 10) (padded k (n / 10)) (48 + n % 10) (padded_in_line k (n / 10)) (grind (arith, nat_tests))
+
+other_seen : (b c : ℕ) → b < 33 → is_between 33 126 c ≡ true → is_other b c ≡ true
+other_seen b c low h = grind (arith, nat_tests)
+
+-- a text of seen bytes lacks each byte below them
+pub seen_lack : (b : ℕ) (text : List ℕ) → b < 33 → list_all (is_between 33 126) text ≡ true → Lacks b text
+seen_lack b [] low h = refl
+seen_lack b (c ∷ text) low h =
+    let both = both_from_and (is_between 33 126 c) (list_all (is_between 33 126) text) h in
+    rw (other_seen b c low both.0, seen_lack b text low both.1) refl

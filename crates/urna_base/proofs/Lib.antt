@@ -2,6 +2,7 @@ pub mod Cases
 pub mod CutLaws
 pub mod DecimalLaws
 pub mod DigitLaws
+pub mod Every
 pub mod Lacking
 pub mod LineLaws
 pub mod MomentLaws

@@ -1,7 +1,7 @@
 -- The pieces of a text at a separator.
-use Rattle.std.proofs.Common.{◌≡◌, ℕ, List, [], ◌∷◌, ◌++◌, ◌+◌, ◌<◌, ◌≤◌, length, take, drop, Bool, Some, None, arith}
+use Rattle.std.proofs.Common.{◌≡◌, ℕ, List, [], ◌∷◌, ◌++◌, ◌+◌, ◌<◌, ◌≤◌, length, take, drop, Bool, Some, None, ap, ◌∙◌, arith}
 use Rattle.std.specs.Prelude.{◌==◌, position, nat_lt}
-use Rattle.std.specs.List.{slice_split, position_or_len}
+use Rattle.std.specs.List.{AllByRecursion, join_with_byte, slice_split, position_or_len}
 use Rattle.std.proofs.lemmas.Bool.{ltb-true, ltb-false}
 use Rattle.std.proofs.lemmas.Grind.{common_steps}
 use Rattle.std.proofs.lemmas.List.Splits.{slice_split_at, slice_split_first, slice_split_none}
@@ -32,3 +32,10 @@ piece_first b text rest h = slice_split_at (λ c. c == b) text b rest (each_othe
 
 pub piece_last : (b : ℕ) (text : List ℕ) → Lacks b text → slice_split (λ c. c == b) text ≡ text ∷ []
 piece_last b text h = slice_split_none (λ c. c == b) text (each_other b text h)
+
+-- texts without a byte, joined by it, are the pieces
+pub pieces_joined : (b : ℕ) (text : List ℕ) (texts : List (List ℕ)) → AllByRecursion (Lacks b) (text ∷ texts)
+    → slice_split (λ c. c == b) (join_with_byte b (text ∷ texts)) ≡ text ∷ texts
+pieces_joined b text [] h = piece_last b text h.0
+pieces_joined b text (next ∷ texts) h =
+    piece_first b text (join_with_byte b (next ∷ texts)) h.0 ∙ ap (λ (pieces : List (List ℕ)). text ∷ pieces) (pieces_joined b next texts h.1)

@@ -1,6 +1,8 @@
 -- Numbers as ASCII digits. A number's shortest text is std's `decimal`.
 use Rattle.std.specs.Prelude.{ℕ, zero, suc, ◌+◌, ◌-◌, ◌*◌, ◌/◌, ◌%◌, ◌^◌, Bool, not, ◌&&◌, ◌||◌, ◌==◌, nat_le, if◌then◌else◌, List, [], ◌∷◌, ◌++◌, length, slice_index, Option, None, Some}
 use Rattle.std.specs.List.{list_all}
+use Rattle.std.specs.Option.{option_and_then}
+use Rattle.urna_base.specs.Moment.{is_between}
 
 -- a byte is one of '0' to '9'
 abbrev pub is_digit : ℕ → Bool
@@ -24,6 +26,10 @@ is_decimal bytes =
 -- the number that such a text writes
 unfoldable pub decimal_value : List ℕ → Option ℕ
 decimal_value bytes = if is_decimal bytes then Some (value_of_digits bytes) else None
+
+-- the number that such a text writes, if it is within these bounds
+abbrev pub decimal_within : ℕ → ℕ → List ℕ → Option ℕ
+decimal_within low high bytes = option_and_then (λ n. if is_between low high n then Some n else None) (decimal_value bytes)
 
 -- a number printed with exactly so many digits
 unfoldable pub padded : ℕ → ℕ → List ℕ

@@ -1,7 +1,7 @@
--- What follows a word in a text, a text cut at a byte, and the pieces of a text
+-- What follows a word in a text, a text cut at a byte, its pieces between spaces, and texts joined by them
 use Rattle.std.specs.Prelude.{ℕ, ◌==◌, if◌then◌else◌, List, [], ◌∷◌, Option, None, Some, option_map}
 use Rattle.std.specs.Borrow.{Bor}
-use Rattle.std.specs.List.{slice_split}
+use Rattle.std.specs.List.{join_with_byte, slice_split}
 
 -- what follows a word, where the text begins with it
 abbrev pub after_word : List ℕ → List ℕ → Option (List ℕ)
@@ -14,7 +14,11 @@ unfoldable pub cut_at : ℕ → List ℕ → Option (List ℕ × List ℕ)
 cut_at b [] = None
 cut_at b (c ∷ text) = if c == b then Some ([], text) else option_map (λ x. (c ∷ x.0, x.1)) (cut_at b text)
 
--- the pieces of a text between single spaces (32)
+-- texts with a space (32) between them
+abbrev pub joined : List (List ℕ) → List ℕ
+joined texts = join_with_byte 32 texts
+
+-- the pieces of a text between single spaces
 abbrev pub pieces : List ℕ → List (List ℕ)
 pieces text = slice_split (λ b. b == 32) text
 

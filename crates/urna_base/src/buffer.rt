@@ -1,4 +1,5 @@
-ghost use Rattle.std.specs.Prelude.{◌≡◌, IfOk, replicate, vec_capacity};
+ghost use Rattle.std.specs.Prelude.{◌≡◌, ◌==◌, IfOk, replicate, vec_capacity};
+ghost use Rattle.std.specs.List.{list_all};
 
 use crate::Memory;
 use std::alloc::Global;
@@ -14,4 +15,15 @@ pub fn zeros(alloc: Global, count: usize) -> Result<Vec<u8>, Memory>
         bytes.push_reserved(0);
     }
     Ok(bytes)
+}
+
+/// Whether all bytes are zero. It takes no branch at a byte, so that many are looked at in one step.
+pub fn is_zero(bytes: &[u8]) -> bool
+    ensures { result ≡ list_all (λ b. b == 0) bytes.now }
+{
+    let mut seen = 0;
+    for byte in bytes {
+        seen |= *byte;
+    }
+    seen == 0
 }

@@ -1,6 +1,7 @@
 ghost use Rattle.std.specs.Prelude.{◌≡◌, ◌+◌, ◌^◌, ◌<◌, ◌≤◌, ℕ, List, [], ◌++◌, length, take};
 ghost use Rattle.std.specs.Fmt.{decimal};
 ghost use Rattle.urna_base.specs.Digits.{padded};
+ghost use Rattle.urna_base.specs.Lines.{number_line, two_number_line, word_line};
 
 use crate::print::padded_digits;
 use itoa::Buffer;
@@ -69,6 +70,17 @@ impl LineBuffer {
         self.push_text(buffer.format(value).as_bytes());
     }
 
+    /// Appends a word and a number. The caller owes that there is room for the word and 20 digits, and one byte behind them.
+    #[tactic(auto, using(crate::proofs::DecimalLaws::line_lengths))]
+    pub fn push_numbered(&mut self, word: &[u8], number: u64)
+        requires { length self.old + length word.now ≤ 107 }
+        ensures text { self.new ≡ self.old ++ (word.now ++ decimal number) }
+        ensures short { length self.new ≤ length self.old + length word.now + 20 }
+    {
+        self.push_text(word);
+        self.push_decimal(number);
+    }
+
     /// Appends `value` with exactly `n` digits, leading zeros included.
     ///
     /// The caller owes that `n` is 1 to 18, that `value` is below 10 to the `n`, and that the digits fit.
@@ -82,4 +94,39 @@ impl LineBuffer {
         let text = padded_digits(value, n);
         self.push_text(&text[..n as usize]);
     }
+}
+
+/// A line of a word alone. The caller owes that the word has at most 40 bytes.
+pub fn word_line(word: &[u8]) -> LineBuffer
+    requires { length word.now ≤ 40 }
+    ensures { result ≡ word_line word.now }
+{
+    let mut line = LineBuffer::new();
+    line.push_text(word);
+    line.push_text(b"\n");
+    line
+}
+
+/// A line of a word and a number. The caller owes that the word has at most 40 bytes.
+pub fn number_line(word: &[u8], number: u64) -> LineBuffer
+    requires { length word.now ≤ 40 }
+    ensures { result ≡ number_line word.now number }
+{
+    let mut line = LineBuffer::new();
+    line.push_numbered(word, number);
+    line.push_text(b"\n");
+    line
+}
+
+/// A line of two words, each with a number. The caller owes that each word has at most 40 bytes.
+pub fn two_number_line(word: &[u8], number: u64, other_word: &[u8], other: u64) -> LineBuffer
+    requires word { length word.now ≤ 40 }
+    requires other_word { length other_word.now ≤ 40 }
+    ensures { result ≡ two_number_line word.now number other_word.now other }
+{
+    let mut line = LineBuffer::new();
+    line.push_numbered(word, number);
+    line.push_numbered(other_word, other);
+    line.push_text(b"\n");
+    line
 }

@@ -31,6 +31,14 @@ pub fn put_decimal(out: &mut Vec<u8>, value: u64) -> Result<(), Memory>
     Ok(())
 }
 
+/// Appends a word and the shortest digits of a number. `Err` is want of memory, and says nothing of `out`.
+pub fn put_numbered(out: &mut Vec<u8>, word: &[u8], number: u64) -> Result<(), Memory>
+    ensures { OnOk result (out.new.items ≡ out.old.items ++ (word.now ++ decimal number)) }
+{
+    out.extend_from_slice(word)?;
+    put_decimal(out, number)
+}
+
 /// Appends a line, with its line feed. `Err` is want of memory, and says nothing of `out`.
 pub fn put_line(out: &mut Vec<u8>, line: &[u8]) -> Result<(), Memory>
     ensures { OnOk result (out.new.items ≡ out.old.items ++ lines_text (line.now ∷ [])) }

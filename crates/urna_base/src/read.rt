@@ -1,6 +1,6 @@
-ghost use Rattle.std.specs.Prelude.{◌≡◌, ◌≤◌, length, None, Some, if◌then◌else◌};
+ghost use Rattle.std.specs.Prelude.{◌≡◌, ◌≤◌, length, None, Some, if◌then◌else◌, IfSome};
 ghost use Rattle.std.specs.List.{list_all};
-ghost use Rattle.urna_base.specs.Digits.{is_digit, value_of_digits, digits_value, decimal_value};
+ghost use Rattle.urna_base.specs.Digits.{is_digit, value_of_digits, digits_value, decimal_value, decimal_within};
 
 /// The number that exactly `n` ASCII digits write, leading zeros included; `None` where `bytes` is anything else.
 ///
@@ -29,6 +29,20 @@ pub fn decimal(bytes: &[u8]) -> Option<u64>
         [b'0', _, ..] => None,
         _ if bytes.len() > 18 => None,
         _ => value_of(bytes),
+    }
+}
+
+/// The number that a decimal writes, where it is from `low` to `high`; `None` where it isn't, and where `bytes` is no decimal.
+pub fn decimal_within(bytes: &[u8], low: u64, high: u64) -> Option<u64>
+    ensures value { result ≡ decimal_within low high bytes.now }
+    ensures least { IfSome result (λ n. low ≤ n) }
+    ensures most { IfSome result (λ n. n ≤ high) }
+{
+    let value = decimal(bytes)?;
+    if low <= value && value <= high {
+        Some(value)
+    } else {
+        None
     }
 }
 

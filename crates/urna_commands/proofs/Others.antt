@@ -19,7 +19,8 @@ use Rattle.image_codec.specs.State.{State}
 use Rattle.flash_store.specs.Syncs.{FromSyncs, IsFrontOfSyncs, IsSynced, IsUntouched, both_synced}
 use Rattle.state_store.specs.Calls.{Recovers}
 use Rattle.state_store.specs.Held.{AreLoaded, HasFrameOf}
-use Rattle.state_store.specs.Load.{IsSectionOf, device_byte, header, header_zeros, load_of, magic}
+use Rattle.flash_store.specs.Device.{device_byte}
+use Rattle.state_store.specs.Load.{IsSectionOf, header, header_zeros, load_of, magic}
 use Rattle.state_store.specs.declared.load.Load.{Load}
 use Rattle.station.specs.Start.{FailsToStart, IsRecovered}
 use Rattle.station.specs.declared.station.StartError.{StartError}

@@ -1,6 +1,7 @@
 -- The command certifica: what it writes and shows, and how it ends
 use Rattle.std.specs.Prelude.{◌≡◌, ◌⊎◌, ℕ, List, [], ◌∷◌, ◌++◌, codes, map, Option}
 use Rattle.std.specs.Fmt.{decimal}
+use Rattle.urna_base.specs.Lines.{number_line}
 use Rattle.urna_outside.specs.Cabinet.{CabinetTold, Entry, Files}
 use Rattle.urna_outside.specs.ShownLines.{HasShown, IsCutOff}
 use Rattle.urna_outside.specs.Told.{Told}
@@ -30,7 +31,7 @@ substitute_line s = codes "SUPLENTE " ++ decimal s.bloc ++ codes " " ++ decimal 
 
 -- the line that tells that the certificate of the office of a code is put
 abbrev pub certified_line : ℕ → List ℕ
-certified_line code = codes "CERTIFICADO " ++ decimal code ++ 10 ∷ []
+certified_line code = number_line (codes "CERTIFICADO ") code
 
 -- The contest comes to seats, and its certificate tells these, since it is valid (laws::certificates of seat_certificate). The text spells that
 -- certificate as one of the office of a code, and the lines tell the substitutes of those who have the seats, and that it is put.

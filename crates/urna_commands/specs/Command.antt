@@ -1,8 +1,8 @@
 -- The words of a command
-use Rattle.std.specs.Prelude.{ℕ, List, [], ◌∷◌, Option, Some, None, if◌then◌else◌, codes, nat_le, ◌&&◌}
-use Rattle.std.specs.Option.{option_and_then, option_map}
+use Rattle.std.specs.Prelude.{ℕ, List, [], ◌∷◌, Option, Some, None, if◌then◌else◌, codes}
+use Rattle.std.specs.Option.{option_map}
 use Rattle.std.specs.Str.{bytes_eq}
-use Rattle.urna_base.specs.Digits.{decimal_value}
+use Rattle.urna_base.specs.Digits.{decimal_within}
 use Rattle.urna_outside.specs.declared.device.Dev.{Dev}
 use Rattle.urna_outside.specs.declared.device.Dev.TheVariants.{Internal, External}
 use Rattle.election_tables.specs.Limits.{greatest_section, most_voters}
@@ -84,13 +84,9 @@ vota_of (a ∷ b ∷ []) = None
 vota_of (a ∷ b ∷ c ∷ []) = None
 vota_of (a ∷ b ∷ c ∷ d ∷ e ∷ more) = None
 
--- a number that a zone or a section may have
-abbrev pub in_range : ℕ → Option ℕ
-in_range n = if nat_le 1 n && nat_le n greatest_section then Some n else None
-
 -- the number of a zone, or of a section, that a word names
 abbrev pub named_number : List ℕ → Option ℕ
-named_number word = option_and_then in_range (decimal_value word)
+named_number word = decimal_within 1 greatest_section word
 
 -- the load of these documents for a zone and a section, if both are numbers
 abbrev pub carga_at : List ℕ → List ℕ → Option ℕ → Option ℕ → Option Command
@@ -129,13 +125,9 @@ totaliza_of [] = None
 totaliza_of (a ∷ []) = None
 totaliza_of (a ∷ b ∷ c ∷ more) = None
 
--- a number of voters that a section may have
-abbrev pub in_section : ℕ → Option ℕ
-in_section n = if nat_le 1 n && nat_le n most_voters then Some n else None
-
 -- the number of voters that a word names
 abbrev pub named_voters : List ℕ → Option ℕ
-named_voters word = option_and_then in_section (decimal_value word)
+named_voters word = decimal_within 1 most_voters word
 
 -- the word behind ensaio: N
 abbrev pub ensaio_of : List (List ℕ) → Option Command
@@ -166,13 +158,9 @@ reconta_of (a ∷ b ∷ c ∷ more) = None
 abbrev pub greatest_named_code : ℕ
 greatest_named_code = 99
 
--- a number that a word may tell as such a code
-abbrev pub in_codes : ℕ → Option ℕ
-in_codes n = if nat_le 1 n && nat_le n greatest_named_code then Some n else None
-
 -- the code of an office that a word names
 abbrev pub named_code : List ℕ → Option ℕ
-named_code word = option_and_then in_codes (decimal_value word)
+named_code word = decimal_within 1 greatest_named_code word
 
 -- the words behind certifica: TABLES LIST CODE OUT
 abbrev pub certifica_of : List (List ℕ) → Option Command

@@ -31,17 +31,13 @@ fn asked_section(tables: &Tables, roll: &Roll, zone: u32, number: u32) -> Option
 }
 
 /// The line that tells that a section is loaded.
-#[tactic(auto, using(urna_base::proofs::DecimalLaws::line_lengths))]
 fn loaded_line(section: Section) -> LineBuffer
     ensures { result ≡ loaded_line section }
 {
     let mut line = LineBuffer::new();
-    line.push_text(b"CARGA ");
-    line.push_decimal(u64::from(section.zone));
-    line.push_text(b" ");
-    line.push_decimal(u64::from(section.number));
-    line.push_text(b" ");
-    line.push_decimal(u64::from(section.voters));
+    line.push_numbered(b"CARGA ", u64::from(section.zone));
+    line.push_numbered(b" ", u64::from(section.number));
+    line.push_numbered(b" ", u64::from(section.voters));
     line.push_text(b"\n");
     line
 }

@@ -19,8 +19,7 @@ use crate::telling::tell_lines;
 use seat_certificate::{Substitute, SubstituteList, certificate_text, certify, substitutes};
 use seat_remainders::{Contest, Outcome, distribute};
 use std::alloc::Global;
-use totals::push_numbered;
-use urna_base::{LineBuffer, Memory};
+use urna_base::{LineBuffer, Memory, number_line};
 use urna_outside::{Cabinet, Machine};
 
 /// The text of a certificate, and the lines that tell the substitutes and that it is put; all made before it is.
@@ -68,7 +67,7 @@ fn certify_contest(alloc: Global, code: u8, contest: &Contest) -> Result<Certifi
     Ok(Certified { text, lines })
 }
 
-/// The text of its certificate.
+/// The text of a contest's certificate.
 fn text_of(alloc: Global, code: u8, contest: &Contest) -> Result<Vec<u8>, Status>
     requires contest { IsContest contest.now }
     requires few { HasFewBlocs contest.now }
@@ -82,7 +81,7 @@ fn text_of(alloc: Global, code: u8, contest: &Contest) -> Result<Vec<u8>, Status
     Ok(certificate_text(alloc, code, &certificate)?)
 }
 
-/// The lines that tell its substitutes, and that it is put.
+/// The lines that tell the substitutes of a contest, and that its certificate is put.
 fn lines_of(alloc: Global, code: u8, contest: &Contest) -> Result<Vec<LineBuffer>, Status>
     requires contest { IsContest contest.now }
     ensures ok { IfOk result (λ lines. (seats : SeatsData) × AreSeats contest.now seats
@@ -117,9 +116,9 @@ fn substitute_line(substitute: Substitute) -> LineBuffer
     ensures { result ≡ substitute_line substitute }
 {
     let mut line = LineBuffer::new();
-    push_numbered(&mut line, b"SUPLENTE ", u64::from(substitute.bloc));
-    push_numbered(&mut line, b" ", u64::from(substitute.rank));
-    push_numbered(&mut line, b" ", u64::from(substitute.number));
+    line.push_numbered(b"SUPLENTE ", u64::from(substitute.bloc));
+    line.push_numbered(b" ", u64::from(substitute.rank));
+    line.push_numbered(b" ", u64::from(substitute.number));
     line.push_text(b"\n");
     line
 }
@@ -128,8 +127,5 @@ fn substitute_line(substitute: Substitute) -> LineBuffer
 fn certified_line(code: u8) -> LineBuffer
     ensures { result ≡ certified_line code }
 {
-    let mut line = LineBuffer::new();
-    push_numbered(&mut line, b"CERTIFICADO ", u64::from(code));
-    line.push_text(b"\n");
-    line
+    number_line(b"CERTIFICADO ", u64::from(code))
 }

@@ -6,7 +6,7 @@ ghost use Rattle.urna_commands.specs.Words.{HasVoters, meant};
 ghost use Rattle.urna_commands.specs.Command.{carga_of, certifica_of, command_of, confere_of, emite_of, ensaio_of, named_code, named_device, named_number, named_voters, reconta_of, repoe_of, totaliza_of, verifica_of, vota_of};
 
 use election_tables::{GREATEST_SECTION, MOST_VOTERS};
-use urna_base::decimal;
+use urna_base::decimal_within;
 use urna_outside::Dev;
 
 /// The names of the files of `vota`.
@@ -270,10 +270,8 @@ fn verifica_of(names: &[String]) -> Option<Command<'_>>
 fn named_code(word: &str) -> Option<u8>
     ensures { result ≡ named_code word.now }
 {
-    match decimal(word.as_bytes()) {
-        Some(number) if 1 <= number && number <= GREATEST_NAMED_CODE => Some(number as u8),
-        _ => None,
-    }
+    let number = decimal_within(word.as_bytes(), 1, GREATEST_NAMED_CODE)?;
+    Some(number as u8)
 }
 
 /// A flash: `interna` or `externa`.
@@ -292,18 +290,14 @@ fn named_voters(word: &str) -> Option<u32>
     ensures voters { result ≡ named_voters word.now }
     ensures range { IfSome result (λ n. (1 ≤ n) × (n ≤ most_voters)) }
 {
-    match decimal(word.as_bytes()) {
-        Some(number) if 1 <= number && number <= MOST_VOTERS => Some(number as u32),
-        _ => None,
-    }
+    let number = decimal_within(word.as_bytes(), 1, MOST_VOTERS)?;
+    Some(number as u32)
 }
 
 /// A zone or the number of a section: a decimal from 1 to `GREATEST_SECTION`.
 fn named_number(word: &str) -> Option<u32>
     ensures { result ≡ named_number word.now }
 {
-    match decimal(word.as_bytes()) {
-        Some(number) if 1 <= number && number <= GREATEST_SECTION => Some(number as u32),
-        _ => None,
-    }
+    let number = decimal_within(word.as_bytes(), 1, GREATEST_SECTION)?;
+    Some(number as u32)
 }

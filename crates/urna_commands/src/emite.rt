@@ -17,21 +17,19 @@ use election_tables::{Roll, Section, Tables};
 use state_store::Store;
 use std::alloc::Global;
 use turnout::Phase;
-use urna_base::LineBuffer;
+use urna_base::{LineBuffer, two_number_line};
 use urna_outside::{Cabinet, Machine};
 
 /// The line that tells that the files of a section are put.
-#[tactic(auto, using(urna_base::proofs::DecimalLaws::line_lengths))]
 fn emitted_line(section: Section) -> LineBuffer
     ensures { result ≡ emitted_line section }
 {
-    let mut line = LineBuffer::new();
-    line.push_text(b"EMITIDO ");
-    line.push_decimal(u64::from(section.zone));
-    line.push_text(b" ");
-    line.push_decimal(u64::from(section.number));
-    line.push_text(b"\n");
-    line
+    two_number_line(
+        b"EMITIDO ",
+        u64::from(section.zone),
+        b" ",
+        u64::from(section.number),
+    )
 }
 
 /// The files of results of the poll of these names: the tables and the roll are taken and read, the flashes are looked at, the files

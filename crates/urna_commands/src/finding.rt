@@ -6,7 +6,6 @@ ghost use Rattle.urna_commands.specs.Taking.{status_in};
 
 use crate::status::Status;
 use record_audit::{Finding, RecordText};
-use totals::push_numbered;
 use urna_base::LineBuffer;
 use vote_kinds::Choice;
 
@@ -18,17 +17,17 @@ pub(crate) fn finding_line(text: &RecordText, finding: Finding) -> LineBuffer
     match finding {
         Finding::Agree => line.push_text(b"CONFERE"),
         Finding::Heading => line.push_text(b"DIFERE CABECALHO"),
-        Finding::Office(place) => push_numbered(&mut line, b"DIFERE CARGOS ", u64::from(place)),
+        Finding::Office(place) => line.push_numbered(b"DIFERE CARGOS ", u64::from(place)),
         Finding::Differs {
             panel,
             choice,
             lines,
             said,
         } => {
-            push_numbered(&mut line, b"DIFERE CARGO ", u64::from(code_at(text, panel)));
+            line.push_numbered(b"DIFERE CARGO ", u64::from(code_at(text, panel)));
             push_choice(&mut line, choice);
-            push_numbered(&mut line, b" REGISTRO ", lines);
-            push_numbered(&mut line, b" BOLETIM ", said);
+            line.push_numbered(b" REGISTRO ", lines);
+            line.push_numbered(b" BOLETIM ", said);
         }
     }
     line.push_text(b"\n");
@@ -52,8 +51,8 @@ fn push_choice(line: &mut LineBuffer, choice: Choice)
     ensures short { length line.new ≤ 62 }
 {
     match choice {
-        Choice::Nominal(number) => push_numbered(line, b" NOMINAL ", u64::from(number)),
-        Choice::Party(number) => push_numbered(line, b" LEGENDA ", u64::from(number)),
+        Choice::Nominal(number) => line.push_numbered(b" NOMINAL ", u64::from(number)),
+        Choice::Party(number) => line.push_numbered(b" LEGENDA ", u64::from(number)),
         Choice::Blank => line.push_text(b" BRANCO"),
         Choice::Null => line.push_text(b" NULO"),
     }

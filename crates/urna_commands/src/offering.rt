@@ -1,6 +1,5 @@
 //! The listed reports are taken and offered, one behind the other.
 ghost use Rattle.std.specs.Prelude.{◌≡◌, [], IfErr};
-ghost use Rattle.section_intake.specs.Accepted.{is_accepted};
 ghost use Rattle.section_intake.specs.Intake.{IsIntakeFor, accepted_files};
 ghost use Rattle.urna_commands.specs.Offering.{OfferEnds, OffersEnd, TellsOf};
 
@@ -47,7 +46,7 @@ pub(crate) fn offer_all<M: Machine, C: Cabinet>(
             machine,
             cabinet,
         )?;
-        if !is_accepted(verdict) {
+        if !verdict.is_accepted() {
             refused += 1;
         }
     }
@@ -90,11 +89,4 @@ fn tell_of<M: Machine>(
         Telling::Verdicts => tell_line(machine, &numbered_line(number, verdict)),
         Telling::Nothing => Ok(()),
     }
-}
-
-/// Whether a verdict is that the report is accepted.
-fn is_accepted(verdict: Verdict) -> bool
-    ensures { result ≡ is_accepted verdict }
-{
-    matches!(verdict, Verdict::Accepted { .. })
 }

@@ -32,11 +32,11 @@ pub(crate) fn contest_of_office<M: Machine, C: Cabinet>(
     ensures lawful { IfOk result IsContest }
 {
     let (tables, panel, list) = take_office(alloc, cabinet, tables, list, code)?;
-    contest_among(alloc, &tables, panel, &list, machine, cabinet)
+    contest_over(alloc, &tables, panel, &list, machine, cabinet)
 }
 
 /// The contest of a panel over the accepted reports that a list names. What was taken is lent, so that no way out lets go of it.
-fn contest_among<M: Machine, C: Cabinet>(
+fn contest_over<M: Machine, C: Cabinet>(
     alloc: Global,
     tables: &Tables,
     panel: u32,
@@ -45,10 +45,10 @@ fn contest_among<M: Machine, C: Cabinet>(
     cabinet: &mut C,
 ) -> Result<Contest, Status>
     requires panel { panel < length tables.now.panels }
-    ensures known { (names list_name : List ℕ) (code : ℕ) (c : CabinetTold) → IsListed c.files names list_name tables.now list.now → IsOfficeAt tables.now code panel
+    ensures known { (tables_name list_name : List ℕ) (code : ℕ) (c : CabinetTold) → IsListed c.files tables_name list_name tables.now list.now → IsOfficeAt tables.now code panel
         → HasTaken 2 Status.Done c (C.told cabinet.old)
-        → MatchResult result (λ contest. IsContestKnown names list_name code contest c (C.told cabinet.new) (M.told machine.old) (M.told machine.new))
-        (λ s. ContestStops names list_name code c (C.told cabinet.new) (M.told machine.old) (M.told machine.new) s) }
+        → MatchResult result (λ contest. IsContestKnown tables_name list_name code contest c (C.told cabinet.new) (M.told machine.old) (M.told machine.new))
+        (λ s. ContestStops tables_name list_name code c (C.told cabinet.new) (M.told machine.old) (M.told machine.new) s) }
     ensures lawful { IfOk result IsContest }
 {
     let mut intake = Intake::new(alloc, tables)?;

@@ -13,7 +13,6 @@ use contingency::replace;
 use election_tables::{Roll, Section};
 use image_codec::State;
 use std::alloc::Global;
-use totals::push_numbered;
 use urna_base::LineBuffer;
 use urna_outside::{Cabinet, Dev, Machine};
 
@@ -24,9 +23,9 @@ fn replaced_line(replaced: Dev, section: Section, state: &State) -> LineBuffer
     let mut line = LineBuffer::new();
     line.push_text(b"REPOSTA ");
     line.push_text(device_word(replaced));
-    push_numbered(&mut line, b" ", u64::from(section.zone));
-    push_numbered(&mut line, b" ", u64::from(section.number));
-    push_numbered(&mut line, b" ", u64::from(state.turnout().len()));
+    line.push_numbered(b" ", u64::from(section.zone));
+    line.push_numbered(b" ", u64::from(section.number));
+    line.push_numbered(b" ", u64::from(state.turnout().len()));
     line.push_text(b"\n");
     line
 }

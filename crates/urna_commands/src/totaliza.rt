@@ -2,6 +2,7 @@
 ghost use Rattle.std.specs.Prelude.{◌≡◌};
 ghost use Rattle.urna_outside.specs.Cabinet.{CabinetTold};
 ghost use Rattle.command_parts.specs.Documents.{IsListed};
+ghost use Rattle.urna_commands.specs.Command.{Totaliza};
 ghost use Rattle.urna_commands.specs.Taking.{HasTaken, status_in};
 ghost use Rattle.urna_commands.specs.Totaliza.{TotalizaEnds, refused_status};
 
@@ -29,21 +30,19 @@ pub(crate) fn totaliza<M: Machine, C: Cabinet>(
         (C.told cabinet.old) (C.told cabinet.new) (M.told machine.old) (M.told machine.new) (status_in result) }
 {
     let (tables, list) = take_tables_and::<C, Names>(alloc, cabinet, names.tables, names.list)?;
-    totaliza_over(alloc, names, &tables, &list, machine, cabinet)
+    totaliza_over(alloc, &tables, &list, machine, cabinet)
 }
 
 /// The totals, once the tables and the list are taken. These are lent, so that no way out lets go of them.
 fn totaliza_over<M: Machine, C: Cabinet>(
     alloc: Global,
-    names: TotalizaNames<'_>,
     tables: &Tables,
     list: &Names,
     machine: &mut M,
     cabinet: &mut C,
 ) -> Result<(), Status>
-    ensures { (c : CabinetTold) → IsListed c.files names.entry.tables.now names.entry.list.now tables.now list.now → HasTaken 2 Status.Done c (C.told cabinet.old)
-        → TotalizaEnds (record { tables = names.entry.tables.now; list = names.entry.list.now })
-        c (C.told cabinet.new) (M.told machine.old) (M.told machine.new) (status_in result) }
+    ensures { (names : Totaliza) (c : CabinetTold) → IsListed c.files names.tables names.list tables.now list.now → HasTaken 2 Status.Done c (C.told cabinet.old)
+        → TotalizaEnds names c (C.told cabinet.new) (M.told machine.old) (M.told machine.new) (status_in result) }
 {
     let mut intake = Intake::new(alloc, tables)?;
     let refused = offer_all(

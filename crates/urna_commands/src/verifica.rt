@@ -10,7 +10,6 @@ use crate::telling::tell_answer;
 use command_parts::Document;
 use seat_certificate::{CertFault, Certificate, check_certificate};
 use std::alloc::Global;
-use totals::push_numbered;
 use urna_base::LineBuffer;
 use urna_outside::{Cabinet, Machine};
 
@@ -58,13 +57,13 @@ fn checked_line(code: u8, checked: Result<(), CertFault>) -> LineBuffer
 {
     let mut line = LineBuffer::new();
     match checked {
-        Ok(()) => push_numbered(&mut line, b"CERTIFICADO VALIDO ", u64::from(code)),
+        Ok(()) => line.push_numbered(b"CERTIFICADO VALIDO ", u64::from(code)),
         Err(CertFault::Quotient) => line.push_text(b"RECUSADO QUOCIENTE"),
         Err(CertFault::First(place)) => {
-            push_numbered(&mut line, b"RECUSADO PRIMEIRA ", u64::from(place))
+            line.push_numbered(b"RECUSADO PRIMEIRA ", u64::from(place))
         }
         Err(CertFault::Round(place)) => {
-            push_numbered(&mut line, b"RECUSADO RODADA ", u64::from(place))
+            line.push_numbered(b"RECUSADO RODADA ", u64::from(place))
         }
         Err(CertFault::End) => line.push_text(b"RECUSADO FIM"),
     }

@@ -4,6 +4,7 @@ use Rattle.std.proofs.lemmas.Bool.{cases_Bool}
 use Rattle.std.proofs.lemmas.Bool.Decides.{nat_tests}
 use Rattle.std.proofs.lemmas.List.Sums.{sum_by-cons}
 use Rattle.std.specs.List.{AllByRecursion}
+use Rattle.urna_base.proofs.Every.{every_append}
 use Rattle.vote_kinds.specs.declared.choice.Choice.{Choice}
 use Rattle.vote_kinds.specs.declared.choice.Choice.TheVariants as choice
 use Rattle.vote_kinds.specs.Choice.{choice_le, is_same, kind_of, number_of}
@@ -191,10 +192,6 @@ with_choice-last c (d ∷ bag) p all =
 
 -- So many members more
 
-pub all_append : (P : Choice → Type 0) (front bag : List Choice) → AllByRecursion P front → AllByRecursion P bag → AllByRecursion P (front ++ bag)
-all_append P [] bag p q = q
-all_append P (d ∷ front) bag p q = (p.0, all_append P front bag p.1 q)
-
 pub all_replicate : (P : Choice → Type 0) (n : ℕ) (c : Choice) → P c → AllByRecursion P (replicate n c)
 all_replicate P zero c p = tt
 all_replicate P (suc n) c p = (p, all_replicate P n c p)
@@ -212,7 +209,7 @@ pub with_choices-front : (n : ℕ) (c : Choice) (bag : List Choice) → AllByRec
 with_choices-front zero c bag all = refl
 with_choices-front (suc n) c bag all =
     ap (with_choice c) (with_choices-front n c bag all)
-    ∙ with_choice-front c (replicate n c ++ bag) (all_append (λ d. choice_le c d ≡ true) (replicate n c) bag (all_replicate (λ d. choice_le c d ≡ true) n c (le_refl c)) all)
+    ∙ with_choice-front c (replicate n c ++ bag) (every_append (λ d. choice_le c d ≡ true) (replicate n c) bag (all_replicate (λ d. choice_le c d ≡ true) n c (le_refl c)) all)
 
 with_choice-past : (c : Choice) (front bag : List Choice) → AllByRecursion (λ d. choice_le c d ≡ false) front → with_choice c (front ++ bag) ≡ front ++ with_choice c bag
 with_choice-past c [] bag all = refl

@@ -4,13 +4,14 @@ use Rattle.std.specs.List.{AllByRecursion, list_any, sum}
 use Rattle.std.proofs.lemmas.Bool.{cases_Bool}
 use Rattle.std.proofs.lemmas.List.{length-append, length-replicate, get_or-map}
 use Rattle.std.proofs.lemmas.List.Sums.{sum_by-cons}
+use Rattle.urna_base.proofs.Every.{every_append}
 use Rattle.vote_kinds.specs.declared.choice.Choice.{Choice}
 use Rattle.vote_kinds.specs.Ballot.{BallotLine, choices_of, is_choice}
 use Rattle.vote_kinds.specs.Choice.{AreRising, choice_le, is_same}
 use Rattle.vote_kinds.proofs.LineChoices.{choice_is_one, same_refl}
 use Rattle.vote_record.specs.Bag.{IsInOrder, count_of}
 use Rattle.vote_record.specs.Counters.{counts_of, bag_with}
-use Rattle.vote_record.proofs.Bags.{count_cons, same_true, same_bag, le_refl, le_total, all_append, all_replicate}
+use Rattle.vote_record.proofs.Bags.{count_cons, same_true, same_bag, le_refl, le_total, all_replicate}
 
 -- How often a choice is a member
 
@@ -54,7 +55,7 @@ none_among c (d ∷ choices) all = ap (λ (b : Bool). b || list_any (is_same c) 
 all_bag_with : (P : Choice → Type 0) (choices : List Choice) (counts : List ℕ) → AllByRecursion P choices → AllByRecursion P (bag_with choices counts)
 all_bag_with P [] counts all = tt
 all_bag_with P (c ∷ choices) [] all = tt
-all_bag_with P (c ∷ choices) (n ∷ counts) all = all_append P (replicate n c) (bag_with choices counts) (all_replicate P n c all.0) (all_bag_with P choices counts all.1)
+all_bag_with P (c ∷ choices) (n ∷ counts) all = every_append P (replicate n c) (bag_with choices counts) (all_replicate P n c all.0) (all_bag_with P choices counts all.1)
 
 all_after : (c : Choice) (choices : List Choice) → AllByRecursion (λ d. choice_le d c ≡ false) choices → AllByRecursion (λ d. choice_le c d ≡ true) choices
 all_after c [] all = tt
@@ -63,7 +64,7 @@ all_after c (d ∷ choices) all = (le_total d c all.0, all_after c choices all.1
 order_front : (n : ℕ) (c : Choice) (bag : List Choice) → AllByRecursion (λ d. choice_le c d ≡ true) bag → IsInOrder bag → IsInOrder (replicate n c ++ bag)
 order_front zero c bag all order = order
 order_front (suc n) c bag all order =
-    (all_append (λ d. choice_le c d ≡ true) (replicate n c) bag (all_replicate (λ d. choice_le c d ≡ true) n c (le_refl c)) all, order_front n c bag all order)
+    (every_append (λ d. choice_le c d ≡ true) (replicate n c) bag (all_replicate (λ d. choice_le c d ≡ true) n c (le_refl c)) all, order_front n c bag all order)
 
 pub order_bag_with : (choices : List Choice) (counts : List ℕ) → AreRising choices → IsInOrder (bag_with choices counts)
 order_bag_with [] counts rise = tt

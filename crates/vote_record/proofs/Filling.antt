@@ -2,11 +2,12 @@
 use Rattle.std.proofs.Common.{◌≡◌, ℕ, zero, suc, true, false, List, [], ◌∷◌, ◌++◌, replicate, sym, ap, subst, ◌∙◌, append_assoc, add-one}
 use Rattle.std.specs.List.{AllByRecursion}
 use Rattle.std.proofs.lemmas.List.{append-nil, replicate_more}
+use Rattle.urna_base.proofs.Every.{every_append}
 use Rattle.vote_kinds.specs.declared.choice.Choice.{Choice}
 use Rattle.vote_kinds.specs.Choice.{AreRising, choice_le}
 use Rattle.vote_record.specs.Bag.{IsInOrder, with_choices}
 use Rattle.vote_record.specs.Counters.{bag_with}
-use Rattle.vote_record.proofs.Bags.{all_append, all_replicate, in_order-with_choices, le_refl, le_total, with_choice-last}
+use Rattle.vote_record.proofs.Bags.{all_replicate, in_order-with_choices, le_refl, le_total, with_choice-last}
 
 -- the bag with so many members more of each of these choices, which are added one choice after the other
 abbrev pub filled : List Choice → List ℕ → List Choice → List Choice
@@ -20,7 +21,7 @@ with_choices-last zero c bag order before = sym (append-nil bag)
 with_choices-last (suc n) c bag order before =
     let more : with_choices n c bag ≡ bag ++ replicate n c = with_choices-last n c bag order before in
     let all : AllByRecursion (λ d. choice_le d c ≡ true) (bag ++ replicate n c) =
-    all_append (λ d. choice_le d c ≡ true) bag (replicate n c) before (all_replicate (λ d. choice_le d c ≡ true) n c (le_refl c)) in
+    every_append (λ d. choice_le d c ≡ true) bag (replicate n c) before (all_replicate (λ d. choice_le d c ≡ true) n c (le_refl c)) in
     with_choice-last c (with_choices n c bag) (in_order-with_choices n c bag order) (subst (AllByRecursion (λ d. choice_le d c ≡ true)) (sym more) all)
     ∙ ap (λ (b : List Choice). b ++ c ∷ []) more
     ∙ append_assoc bag (replicate n c) (c ∷ [])
@@ -34,7 +35,7 @@ still_before : (n : ℕ) (c : Choice) (bag choices : List Choice) → AllByRecur
     → AllByRecursion (AreBefore (bag ++ replicate n c)) choices
 still_before n c bag [] rise before = tt
 still_before n c bag (d ∷ choices) rise before =
-    (all_append (λ e. choice_le e d ≡ true) bag (replicate n c) before.0 (all_replicate (λ e. choice_le e d ≡ true) n c (le_total d c rise.0)), still_before n c bag choices rise.1 before.1)
+    (every_append (λ e. choice_le e d ≡ true) bag (replicate n c) before.0 (all_replicate (λ e. choice_le e d ≡ true) n c (le_total d c rise.0)), still_before n c bag choices rise.1 before.1)
 
 -- behind a bag of which all members stand before the choices
 filled_behind : (choices : List Choice) (counts : List ℕ) (bag : List Choice) → AreRising choices → IsInOrder bag → AllByRecursion (AreBefore bag) choices → filled choices counts bag ≡ bag ++ bag_with choices counts

@@ -7,13 +7,14 @@ use Rattle.std.proofs.lemmas.List.{drop_more, get_or_default, get_or-drop, get_o
 use Rattle.std.proofs.lemmas.List.Edits.{get_or-insert_at, length-insert}
 use Rattle.std.proofs.lemmas.List.Elements.{recursion_from_All}
 use Rattle.std.proofs.lemmas.List.Sums.{count_by-le-length}
+use Rattle.urna_base.proofs.Every.{every_append}
 use Rattle.vote_kinds.specs.declared.choice.Choice.{Choice}
 use Rattle.vote_kinds.specs.Choice.{AreRising, choice_le, is_same}
 use Rattle.vote_kinds.proofs.LineChoices.{same_refl}
 use Rattle.vote_record.specs.Bag.{count_of, with_choices}
 use Rattle.vote_record.specs.BagData.{IsPlace, choices_in, members_of, stands_at}
 use Rattle.vote_record.specs.declared.counters.Counter.{Counter}
-use Rattle.vote_record.proofs.Bags.{all_append, all_replicate, le_antisym, le_refl, le_total, le_trans, same_true, with_choices-front, with_choices-past}
+use Rattle.vote_record.proofs.Bags.{all_replicate, le_antisym, le_refl, le_total, le_trans, same_true, with_choices-front, with_choices-past}
 use Rattle.vote_record.proofs.Counting.{count_in_place}
 use Rattle.vote_record.proofs.Sets.{map-set_same}
 
@@ -72,7 +73,7 @@ members-append (x ∷ front) back =
 -- what is so of the choices is so of the members
 members_all : (P : Choice → Type 0) (counters : List Counter) → AllByRecursion (λ x. P x.choice) counters → AllByRecursion P (members_of counters)
 members_all P [] all = tt
-members_all P (x ∷ counters) all = all_append P (replicate x.votes x.choice) (members_of counters) (all_replicate P x.votes x.choice all.0) (members_all P counters all.1)
+members_all P (x ∷ counters) all = every_append P (replicate x.votes x.choice) (members_of counters) (all_replicate P x.votes x.choice all.0) (members_all P counters all.1)
 
 -- so many members more stand at the place of their choice
 more_at_place : (n : ℕ) (c : Choice) (counters : List Counter) (place : ℕ) → IsPlace c counters place

@@ -59,8 +59,8 @@ pair_at (p ∷ panels) (bag ∷ bags) (suc i) h g = pair_at panels bags i (omega
 
 -- the second line, whose pieces are written one behind the other
 pub heading_joined : (process date turn zone section : ℕ) (o a b c d e f end : List ℕ)
-    → a ≡ o ++ codes "PROC " ++ decimal process → b ≡ a ++ codes " DTPL " → c ≡ b ++ padded 8 date → d ≡ c ++ codes " TURN " ++ decimal turn
-    → e ≡ d ++ codes " ZONA " ++ decimal zone → f ≡ e ++ codes " SECA " ++ decimal section → end ≡ f ++ line_end
+    → a ≡ o ++ (codes "PROC " ++ decimal process) → b ≡ a ++ codes " DTPL " → c ≡ b ++ padded 8 date → d ≡ c ++ (codes " TURN " ++ decimal turn)
+    → e ≡ d ++ (codes " ZONA " ++ decimal zone) → f ≡ e ++ (codes " SECA " ++ decimal section) → end ≡ f ++ line_end
     → end ≡ o ++ (heading_words process date turn zone section ++ line_end)
 unfolding heading_words
 heading_joined process date turn zone section o a b c d e f end ha hb hc hd he hf hend =
@@ -69,18 +69,18 @@ heading_joined process date turn zone section o a b c d e f end ha hb hc hd he h
     (codes " SECA ") (decimal section) line_end)
   where
     joined : (o a b c d e f g h i j end : List ℕ)
-        → ((((((o ++ a ++ b) ++ c) ++ d) ++ e ++ f) ++ g ++ h) ++ i ++ j) ++ end
+        → ((((((o ++ (a ++ b)) ++ c) ++ d) ++ (e ++ f)) ++ (g ++ h)) ++ (i ++ j)) ++ end
         ≡ o ++ ((a ++ (b ++ (c ++ (d ++ (e ++ (f ++ (g ++ (h ++ (i ++ j))))))))) ++ end)
     joined o a b c d e f g h i j end = simp append_assoc refl
 
 -- the line of an office
 pub office_joined : (code votes : ℕ) (o a b end : List ℕ)
-    → a ≡ o ++ codes "CARG " ++ decimal code → b ≡ a ++ codes " " ++ decimal votes → end ≡ b ++ line_end → end ≡ o ++ (office_words code votes ++ line_end)
+    → a ≡ o ++ (codes "CARG " ++ decimal code) → b ≡ a ++ (codes " " ++ decimal votes) → end ≡ b ++ line_end → end ≡ o ++ (office_words code votes ++ line_end)
 unfolding office_words
 office_joined code votes o a b end ha hb hend =
     rw (hend, hb, ha) (joined o (codes "CARG ") (decimal code) (codes " ") (decimal votes) line_end)
   where
-    joined : (o a b c d end : List ℕ) → ((o ++ a ++ b) ++ c ++ d) ++ end ≡ o ++ ((a ++ (b ++ (c ++ d))) ++ end)
+    joined : (o a b c d end : List ℕ) → ((o ++ (a ++ b)) ++ (c ++ d)) ++ end ≡ o ++ ((a ++ (b ++ (c ++ d))) ++ end)
     joined o a b c d end = simp append_assoc refl
 
 -- the pieces of a whole record

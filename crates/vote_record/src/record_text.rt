@@ -1,5 +1,4 @@
 ghost use Rattle.std.specs.Prelude.{◌≡◌, ◌<◌, ◌++◌, length, IfOk, OnOk};
-ghost use Rattle.std.specs.Fmt.{decimal};
 ghost use Rattle.std.specs.List.{concat, flat_map, zip};
 ghost use Rattle.vote_kinds.specs.Ballot.{panel_at};
 ghost use Rattle.vote_record.specs.Bag.{bag_at};
@@ -8,7 +7,7 @@ ghost use Rattle.vote_record.specs.RecordText.{heading_words, line_end, office_w
 use crate::rdv::Rdv;
 use election_tables::{Section, Tables};
 use std::alloc::Global;
-use urna_base::{Memory, put_decimal, put_digits};
+use urna_base::{Memory, put_digits, put_numbered};
 use vote_kinds::Choice;
 
 /// The text of a section's record (docs/FORMATS.md, "Record text"). It is made of the tables, the section and the bags alone, so it
@@ -39,12 +38,12 @@ fn put_heading(out: &mut Vec<u8>, tables: &Tables, section: Section) -> Result<(
 {
     // From here on it is known that the date has at most eight digits.
     let _panels = tables.panels();
-    put_word(out, b"PROC ", tables.process())?;
+    put_numbered(out, b"PROC ", u64::from(tables.process()))?;
     out.extend_from_slice(b" DTPL ")?;
     put_digits(out, u64::from(tables.date()), 8)?;
-    put_word(out, b" TURN ", u32::from(tables.turn()))?;
-    put_word(out, b" ZONA ", section.zone)?;
-    put_word(out, b" SECA ", section.number)?;
+    put_numbered(out, b" TURN ", u64::from(tables.turn()))?;
+    put_numbered(out, b" ZONA ", u64::from(section.zone))?;
+    put_numbered(out, b" SECA ", u64::from(section.number))?;
     out.push(b'\n')?;
     Ok(())
 }
@@ -71,8 +70,8 @@ fn put_panel(out: &mut Vec<u8>, tables: &Tables, votes: &Rdv, panel: u32) -> Res
 fn put_office(out: &mut Vec<u8>, code: u8, votes: u32) -> Result<(), Memory>
     ensures { OnOk result (out.new.items ≡ out.old.items ++ (office_words code votes ++ line_end)) }
 {
-    put_word(out, b"CARG ", u32::from(code))?;
-    put_word(out, b" ", votes)?;
+    put_numbered(out, b"CARG ", u64::from(code))?;
+    put_numbered(out, b" ", u64::from(votes))?;
     out.push(b'\n')?;
     Ok(())
 }
@@ -92,19 +91,11 @@ fn put_vote(out: &mut Vec<u8>, choice: Choice) -> Result<(), Memory>
     ensures { OnOk result (out.new.items ≡ out.old.items ++ vote_line choice) }
 {
     match choice {
-        Choice::Nominal(number) => put_word(out, b"N ", number)?,
-        Choice::Party(number) => put_word(out, b"L ", u32::from(number))?,
+        Choice::Nominal(number) => put_numbered(out, b"N ", u64::from(number))?,
+        Choice::Party(number) => put_numbered(out, b"L ", u64::from(number))?,
         Choice::Blank => out.push(b'B')?,
         Choice::Null => out.push(b'X')?,
     }
     out.push(b'\n')?;
     Ok(())
-}
-
-/// Appends a word and a number.
-fn put_word(out: &mut Vec<u8>, word: &[u8], n: u32) -> Result<(), Memory>
-    ensures { OnOk result (out.new.items ≡ out.old.items ++ word.now ++ decimal n) }
-{
-    out.extend_from_slice(word)?;
-    put_decimal(out, u64::from(n))
 }

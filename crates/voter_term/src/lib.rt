@@ -11,4 +11,4 @@ mod text;
 
 pub use laws::{field_after_key, last_screen, word_after_key};
 pub use panel::{Panel, Shown};
-pub use text::screen;
+pub use text::{screen, screen_line};

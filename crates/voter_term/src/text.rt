@@ -7,11 +7,27 @@ use election_tables::Tables;
 use urna_base::LineBuffer;
 use vote_kinds::{Choice, Field, choice_of, confirmable, office_digits};
 
-/// Puts the screen line of a panel's field at the front of `into`, and tells its length (docs/FORMATS.md, "Shown texts"). Where CONFIRMA
-/// is taken at the field, the line shows the choice that it stands for; `before` is the same voter's choice of the line before, if there
-/// is one and it is of the same panel.
+/// The screen line of a panel's field (docs/FORMATS.md, "Shown texts"). Where CONFIRMA is taken at the field, the line shows the choice that
+/// it stands for; `before` is the same voter's choice of the line before, if there is one and it is of the same panel.
 ///
 /// The caller owes that the panel is one of the tables, and that the field has no more digits than the panel's office.
+pub fn screen_line(tables: &Tables, panel: u32, before: Option<Choice>, field: Field) -> LineBuffer
+    requires panel { panel < length tables.now.panels }
+    requires field { IsField (line_of tables.now panel).digits field }
+    ensures { result ≡ screen_text tables.now panel before field }
+{
+    // an office has at most five digits
+    let _digits = office_digits(tables, panel);
+    let choice = shown_choice(tables, panel, before, field);
+    let mut line = LineBuffer::new();
+    line.push_text(b"TELA ");
+    push_field(&mut line, field);
+    push_choice(&mut line, tables, panel, choice);
+    line.push_text(b"\n");
+    line
+}
+
+/// Puts the screen line at the front of `into`, and tells its length. The caller owes what `screen_line` asks for.
 pub fn screen(
     tables: &Tables,
     panel: u32,
@@ -30,22 +46,6 @@ pub fn screen(
     let text = line.as_bytes();
     into[..text.len()].copy_from_slice(text);
     text.len() as u32
-}
-
-fn screen_line(tables: &Tables, panel: u32, before: Option<Choice>, field: Field) -> LineBuffer
-    requires panel { panel < length tables.now.panels }
-    requires field { IsField (line_of tables.now panel).digits field }
-    ensures { result ≡ screen_text tables.now panel before field }
-{
-    // an office has at most five digits
-    let _digits = office_digits(tables, panel);
-    let choice = shown_choice(tables, panel, before, field);
-    let mut line = LineBuffer::new();
-    line.push_text(b"TELA ");
-    push_field(&mut line, field);
-    push_choice(&mut line, tables, panel, choice);
-    line.push_text(b"\n");
-    line
 }
 
 /// The choice that a field stands for, where it may be confirmed.

@@ -13,8 +13,9 @@ ghost use Rattle.image_codec.specs.Decoded.{bags_second};
 ghost use Rattle.image_codec.specs.Layout.{body_size, counter_size, counters_offset};
 
 use super::layout::{COUNTER_SIZE, COUNTERS_OFFSET, HEAD_SIZE};
-use super::numbers::{is_zero, number4_at};
+use super::numbers::number4_at;
 use election_tables::Tables;
+use urna_base::is_zero;
 use vote_kinds::{choice_at, choice_count};
 use vote_record::Rdv;
 

@@ -1,6 +1,6 @@
-//! Numbers and zeros among bytes.
+//! Numbers among bytes.
 ghost use Rattle.std.specs.Prelude.{◌≡◌, ◌+◌, ◌≤◌, length};
-ghost use Rattle.image_codec.specs.Numbers.{are_zero, number4_at, number8_at};
+ghost use Rattle.image_codec.specs.Numbers.{number4_at, number8_at};
 
 use urna_base::{be32, be64};
 
@@ -27,15 +27,4 @@ pub(super) fn number8_at(bytes: &[u8], at: usize) -> u64
         bytes[at + 6],
         bytes[at + 7],
     ])
-}
-
-/// Whether all bytes are zero. It takes no branch at a byte, so that many are looked at in one step.
-pub(super) fn is_zero(bytes: &[u8]) -> bool
-    ensures { result ≡ are_zero bytes.now }
-{
-    let mut seen = 0;
-    for byte in bytes {
-        seen |= *byte;
-    }
-    seen == 0
 }

@@ -12,8 +12,9 @@ ghost use Rattle.image_codec.specs.DecodedVotes.{vote_in, bag_in, bags_in};
 ghost use Rattle.image_codec.specs.Layout.{bag_head_size, vote_size};
 
 use super::layout::{BAG_HEAD_SIZE, VOTE_SIZE};
-use super::numbers::{is_zero, number4_at};
+use super::numbers::number4_at;
 use election_tables::Tables;
+use urna_base::is_zero;
 use vote_kinds::{Choice, is_choice};
 use vote_record::Rdv;
 

@@ -7,7 +7,7 @@ use election_tables::Kind;
 pub(super) type PanelRow = (u8, u8, Kind, u32, &'static [(u32, u32, &'static str)]);
 
 /// A good document. Its offices have numbers of 5, 2 and 3 digits, and its lists don't rise.
-pub(super) const GOOD: &str = r#"processo = 7
+pub(crate) const GOOD: &str = r#"processo = 7
 data = 20261004
 turno = 1
 cargo = [

@@ -6,7 +6,7 @@ use election_tables::Tables;
 use hash_chain::make_parts;
 use qr_text::{read_fields, write_fields};
 use seat_remainders::distribute;
-use section_intake::{Intake, Verdict};
+use section_intake::Intake;
 use sha2::{Digest, Sha512};
 use std::alloc::Global;
 use std::{fs, io};
@@ -55,7 +55,10 @@ fn is_accepted(tables: &Tables, intake: &mut Intake, file: &[u8]) -> bool
     if file.len() > LONGEST_FILE {
         return false;
     }
-    matches!(intake.offer(tables, file), Ok(Verdict::Accepted { .. }))
+    match intake.offer(tables, file) {
+        Ok(verdict) => verdict.is_accepted(),
+        Err(_) => false,
+    }
 }
 
 /// Whether all files that are offered, in order, are accepted.

@@ -16,4 +16,4 @@ returns-in_err-tables g c =
     (λ memory failed taken. list_refused (c.in_err-tables.ensures.fault memory failed) taken refl) c.in_err-tables.ensures.taken)
 
 pub returns : goal.returns
-returns g c = c.recebe_over.ensures (g.C.Cabinet.told c.args.cabinet.now) c.in_ok-tables.ensures.given c.in_ok-tables.ensures.taken
+returns g c = c.recebe_over.ensures (record { tables = c.args.names.tables.now; list = c.args.names.list.now }) (g.C.Cabinet.told c.args.cabinet.now) c.in_ok-tables.ensures.given c.in_ok-tables.ensures.taken

@@ -7,7 +7,6 @@ use Rattle.intake_ledger.specs.Offers.{none_offered}
 use Rattle.intake_ledger.proofs.Offering.{still_kept}
 use Rattle.report_lines.specs.Verdicts.{refused_count}
 use Rattle.command_parts.proofs.Calls.{taken_as, taken_within}
-use Rattle.ledger_commands.specs.Command.{Recebe}
 use Rattle.ledger_commands.specs.Errors.{ledger_status}
 use Rattle.ledger_commands.specs.Opening.{ledger_line}
 use Rattle.ledger_commands.specs.Recebe.{HasReceivedTo, RecebeEnds, cut, not_opened, received, refused_status}
@@ -21,8 +20,7 @@ use Rattle.ledger_commands.proofs.recebe.recebe_over.Goals as goal
 
 pub returns-in_err-ledger : goal.returns-in_err-ledger
 returns-in_err-ledger g c =
-    λ x given taken.
-    let names : Recebe = record { tables = c.args.names.tables.now; list = c.args.names.list.now } in
+    λ names x given taken.
     let y = g.C.Cabinet.told c.args.cabinet.now in
     let m = g.M.Machine.told c.args.machine.now in
     let n = g.M.Machine.told c.open.new.m in
@@ -32,8 +30,7 @@ returns-in_err-ledger g c =
 
 pub returns-in_err-tell_line : goal.returns-in_err-tell_line
 returns-in_err-tell_line g c =
-    λ x given taken.
-    let names : Recebe = record { tables = c.args.names.tables.now; list = c.args.names.list.now } in
+    λ names x given taken.
     let y = g.C.Cabinet.told c.args.cabinet.now in
     let m = g.M.Machine.told c.args.machine.now in
     let b = g.M.Machine.told c.open.new.m in
@@ -64,8 +61,7 @@ returns-in_err-tell_line g c =
 
 pub returns-in_err-refused : goal.returns-in_err-refused
 returns-in_err-refused g c =
-    λ x given taken.
-    let names : Recebe = record { tables = c.args.names.tables.now; list = c.args.names.list.now } in
+    λ names x given taken.
     let y = g.C.Cabinet.told c.args.cabinet.now in
     let z = g.C.Cabinet.told c.offer_all.new.cabinet in
     let m = g.M.Machine.told c.args.machine.now in
@@ -88,8 +84,7 @@ returns-in_err-refused g c =
 
 pub returns : goal.returns
 returns g c =
-    λ x given taken.
-    let names : Recebe = record { tables = c.args.names.tables.now; list = c.args.names.list.now } in
+    λ names x given taken.
     let y = g.C.Cabinet.told c.args.cabinet.now in
     let z = g.C.Cabinet.told c.offer_all.new.cabinet in
     let m = g.M.Machine.told c.args.machine.now in

@@ -24,9 +24,9 @@ is_vote t choice lt is =
 pub loop-choice-init : goal.loop-choice-init
 loop-choice-init g c =
     let t = c.in_ok-tables.tables in
-    let one : length t.panels ≡ 1 = omega arith in
+    let three : length t.panels ≡ 3 = omega arith in
     record {
-      panels = ap (λ (r : RdvData). length r.bags) c.in_ok-votes.ensures ∙ length-replicate {A = List Choice} (length t.panels) [] ∙ one;
+      panels = ap (λ (r : RdvData). length r.bags) c.in_ok-votes.ensures ∙ length-replicate {A = List Choice} (length t.panels) [] ∙ three;
       room =
           let all = ap (λ (r : RdvData). room_at r 0) c.in_ok-votes.ensures ∙ empty_room t 6 0 in
           omega (arith, all, (few_places t c.panels.ensures.tables 0 (omega arith)).0);

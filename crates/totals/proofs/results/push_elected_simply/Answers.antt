@@ -1,6 +1,6 @@
 use Rattle.std.proofs.Common.{codes, map, take, option_map, ap}
+use Rattle.urna_base.specs.Lines.{number_line}
 use Rattle.poll_report.proofs.LineLists.{lines_more}
-use Rattle.totals.specs.Lines.{number_line}
 use Rattle.totals.proofs.LineLaws.{pushed}
 use Rattle.totals.proofs.results.push_elected_simply.Goals as goal
 

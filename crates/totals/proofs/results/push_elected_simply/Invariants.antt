@@ -1,5 +1,5 @@
 use Rattle.std.proofs.Common.{◌≡◌, ◌++◌, codes, map, take}
-use Rattle.totals.specs.Lines.{number_line}
+use Rattle.urna_base.specs.Lines.{number_line}
 use Rattle.totals.proofs.results.push_elected_simply.Given as goal
 
 abbrev pub invariant-loop-i : goal.invariant-loop-i

@@ -1,5 +1,5 @@
 use Rattle.std.proofs.Common.{codes, ap, ◌∙◌}
-use Rattle.totals.specs.Lines.{number_line}
+use Rattle.urna_base.specs.Lines.{number_line}
 use Rattle.totals.proofs.LineLaws.{five_behind, line_behind}
 use Rattle.totals.proofs.results.push_seats.Goals as goal
 

@@ -11,5 +11,5 @@ returns-in_err-tables-clause-known g c =
 
 pub returns-clause-known : goal.returns-clause-known
 returns-clause-known g c =
-    c.contest_among.ensures.known c.args.tables.now c.args.list.now c.args.code (g.C.Cabinet.told c.args.cabinet.now)
+    c.contest_over.ensures.known c.args.tables.now c.args.list.now c.args.code (g.C.Cabinet.told c.args.cabinet.now)
     (record { tables = c.in_ok-tables.ensures.tables; list = c.in_ok-tables.ensures.list }) c.in_ok-tables.ensures.office c.in_ok-tables.ensures.taken

@@ -16,5 +16,5 @@ returns-in_err-tables g c =
 
 pub returns : goal.returns
 returns g c =
-    c.totaliza_over.ensures (g.C.Cabinet.told c.args.cabinet.now) (record { tables = c.in_ok-tables.ensures.tables; list = c.in_ok-tables.ensures.other })
+    c.totaliza_over.ensures (record { tables = c.args.names.tables.now; list = c.args.names.list.now }) (g.C.Cabinet.told c.args.cabinet.now) (record { tables = c.in_ok-tables.ensures.tables; list = c.in_ok-tables.ensures.other })
     c.in_ok-tables.ensures.taken

@@ -3,5 +3,6 @@ use Rattle.vote_record.proofs.record_text.put_office.Goals as goal
 
 pub returns : goal.returns
 returns c =
-    office_joined c.args.code c.args.votes c.args.out.now.items _ _ _ (rw c.from.ensures at c.in_ok-put_word.ensures) c.in_ok-put_word-2.ensures
+    office_joined c.args.code c.args.votes c.args.out.now.items _ _ _ (rw c.from.ensures at c.in_ok-put_numbered.ensures)
+    (rw c.from-2.ensures at c.in_ok-put_numbered-2.ensures)
     c.in_ok-push.ensures.items

@@ -3,7 +3,7 @@ use Rattle.std.specs.Prelude.{IsNone, IfSome, MatchOption}
 use Rattle.urna_base.specs.Words.{cut_at}
 use Rattle.vote_record.specs.RecordText.{line_end}
 use Rattle.record_audit.proofs.Cutting.{cut_line, cut_shorter, line_unread, rows_cut, rows_uncut}
-use Rattle.record_audit.proofs.read.split_row.Goals as goal
+use Rattle.record_audit.proofs.read.next_line.Goals as goal
 use Rattle.record_audit.specs.Fault.{rows_of}
 use Rattle.record_audit.specs.Reading.{line_in}
 

@@ -1,6 +1,6 @@
 use Rattle.std.proofs.Common.{List, ℕ, Option, Bor, ◌∷◌, ◌∙◌, ap}
 use Rattle.hash_chain.proofs.LineParts.{line_of_three, no_line_one, no_line_two}
-use Rattle.hash_chain.proofs.line.split_line.Goals as goal
+use Rattle.hash_chain.proofs.line.split_pieces.Goals as goal
 use Rattle.urna_base.specs.Words.{pieces_left}
 
 pub returns-in_default : goal.returns-in_default

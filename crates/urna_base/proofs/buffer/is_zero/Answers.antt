@@ -2,7 +2,7 @@ use Rattle.std.proofs.Common.{◌≡◌, ◌==◌, ◌&&◌, ℕ, Bool, bit_or, 
 use Rattle.std.proofs.lemmas.Bool.Decides.{nat_tests}
 use Rattle.std.proofs.lemmas.List.Folds.{list_all_more}
 use Rattle.std.proofs.lemmas.Nat.{le_or_l, le_or_r, or_lt}
-use Rattle.image_codec.proofs.codec.numbers.is_zero.Goals as goal
+use Rattle.urna_base.proofs.buffer.is_zero.Goals as goal
 
 -- two numbers have no bit exactly where both are zero
 both_zero : (m n : ℕ) → (bit_or m n == 0) ≡ (m == 0 && n == 0)
