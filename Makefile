@@ -12,7 +12,7 @@ list:
 	@echo "make try          the example day, compiled without a proof: a minute"
 	@echo "make demo         both programs proved and built, a rehearsal of 400 voters, the example day, that day with a flash lost in the middle of it, the totals of an election with a federation, the seats of both elections certified, an election with two senators, and the ledger of a counting centre, killed in the middle, on real files in out/demo: 20 minutes from nothing, then seconds"
 	@echo "make page         urna, and a page over it for the browser of this machine: both terminals, the power pulled, the report, the totals; at PORT, where it is said: at once after a demo"
-	@echo "make check-page   that page tried in Chromium without a window, whose pictures stay in out/page; status 2 where Chromium or its driver is not there: a minute after a demo"
+	@echo "make check-page   that page tried in Chromium without a window, whose pictures stay in out/page; status 2 where Chromium, its driver or a C compiler is not there: a minute after a demo"
 	@echo "make urna         urna, proved and built, and beside it, in urna_app.txt, of which commit and with which kit: part of a demo"
 	@echo "make urna_ledger  the same of the counting centre's program, with ledger_app.txt: part of a demo"
 	@echo "make programs     the same of both: part of a demo"

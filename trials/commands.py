@@ -28,13 +28,16 @@ def want(holds, what):
 
 
 def started(program, words, name="urna", closed=(), env=None):
-    """A command, under this name and with these descriptors closed, which ends by itself. No line of it is read ahead of those asked for."""
+    """A command, under this name and with these descriptors closed, which ends by itself. No line of it is read ahead of those asked for.
+
+    What it says on standard error stands among its lines, where none is wanted.
+    """
 
     def close():
         for descriptor in closed:
             os.close(descriptor)
 
-    streams = {"stdin": subprocess.DEVNULL, "stdout": subprocess.PIPE, "bufsize": 0}
+    streams = {"stdin": subprocess.DEVNULL, "stdout": subprocess.PIPE, "stderr": subprocess.STDOUT, "bufsize": 0}
     return subprocess.Popen([name, *words], executable=program, preexec_fn=close, env=env, **streams)
 
 
