@@ -16,6 +16,8 @@ STATIC = os.path.join(os.path.dirname(os.path.abspath(__file__)), "static")
 KINDS = {".html": "text/html", ".css": "text/css", ".js": "text/javascript", ".svg": "image/svg+xml"}
 # The files of the page, under the names by which they are asked for.
 FILES = {f"/{name}": name for name in sorted(os.listdir(STATIC)) if os.path.splitext(name)[1] in KINDS} | {"/": "index.html"}
+# What each view shows where the program is compiled without a proof.
+UNPROVED = "<p role=\"note\" class=\"unproved\"><strong>Programa sem prova.</strong> Foi compilado das mesmas fontes, e nada dele está provado.</p>\n".encode()
 # What may be read of a session, and what may be asked of it, with the most bytes of a request.
 READ = {"/api/estado": Session.state, "/api/eleicao": Session.election}
 SMALL, LARGE = 4_096, 33_554_432
@@ -129,7 +131,10 @@ class Handler(http.server.BaseHTTPRequestHandler):
         if self.path not in FILES:
             raise Refused(404, "não há esta página")
         name = FILES[self.path]
-        return self.send(200, f"{KINDS[os.path.splitext(name)[1]]}; charset=utf-8", content(STATIC, name), self.welcome())
+        data = content(STATIC, name)
+        if name == "index.html" and not self.server.is_proved:
+            data = data.replace(b"<main", UNPROVED + b"<main", 1)
+        return self.send(200, f"{KINDS[os.path.splitext(name)[1]]}; charset=utf-8", data, self.welcome())
 
     def welcome(self):
         """A browser without a session gets one with the page itself."""
@@ -188,9 +193,9 @@ class Server(http.server.ThreadingHTTPServer):
 
     daemon_threads = True
 
-    def __init__(self, port, sessions):
+    def __init__(self, port, sessions, is_proved):
         super().__init__(("127.0.0.1", port), Handler)
-        self.sessions = sessions
+        self.sessions, self.is_proved = sessions, is_proved
 
     def handle_error(self, request, client_address):
         """A browser that went away in the middle of an answer is no matter of the others."""

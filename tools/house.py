@@ -8,6 +8,8 @@ import re
 TOP = os.path.dirname(os.path.dirname(os.path.abspath(__file__)))
 NAME = r"[A-Za-z_][\w'-]*"
 WORDS = r"(?:(?:abbrev|unfoldable|pub|record|data|ruleset)\s+)*"
+# The name of a module of laws.
+LAWS = r"(?:\w+_)?laws"
 # A name that is no field of something and no part of a longer name.
 CITED = re.compile(rf"(?<![\w'.-]){NAME}")
 
@@ -31,6 +33,24 @@ def sources():
     made = hashlib.sha256()
     for path in ["crates.txt", *(it for it in files(".rt") if "/src/" in it)]:
         made.update(f"{path}\n{len(read(path))}\n{read(path)}".encode())
+    return made.hexdigest()
+
+
+def proved_sources(program):
+    """A hash of all that a program is proved and built of: its crates and those that they depend on, with their definitions and proofs."""
+    uses, needed, left = crates(), set(), [program]
+    while left:
+        crate = left.pop()
+        if crate not in needed:
+            needed.add(crate)
+            left += [it for it in uses[crate] if it in uses]
+    made = hashlib.sha256()
+    for crate in sorted(needed):
+        made.update(f"{crate}: {' '.join(uses[crate])}\n".encode())
+        for path in files("", below=os.path.join("crates", crate)):
+            if "/must-fail/" not in path:
+                with open(os.path.join(TOP, path), "rb") as file:
+                    made.update(path.encode() + b"\0" + hashlib.sha256(file.read()).digest())
     return made.hexdigest()
 
 

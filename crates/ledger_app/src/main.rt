@@ -4,9 +4,6 @@
 //! The commands, and what is proved of them, stand in the library `ledger_commands`; `urna_ledger` is its call (docs/FORMATS.md, "Commands of the ledger").
 #![tactic(auto)]
 
-#[cfg(test)]
-mod tests;
-
 use command_parts::words;
 use intake_ledger::DEVICE_SIZE;
 pub use ledger_commands::{LedgerDoc, LedgerStatus, urna_ledger};

@@ -1,11 +1,5 @@
-mod Again
-mod Agreeing
-mod Completion
-mod Headline
-mod Idle
 mod Opened
 mod Received
-mod Receiving
-mod Refused
-mod Statuses
+pub mod Receiving
+pub mod Statuses
 mod Sums

@@ -1,13 +1,9 @@
 pub mod Abre
-pub mod Again
 pub mod Codes
 pub mod Command
-pub mod Completion
 pub mod Documents
 pub mod Ending
 pub mod Errors
-pub mod Headline
-pub mod Laws
 pub mod Lines
 pub mod Opening
 pub mod Recebe

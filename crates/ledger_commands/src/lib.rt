@@ -14,7 +14,6 @@ ghost use Rattle.ledger_commands.specs.Ending.{CommandEnds, Ends};
 mod abre;
 mod command;
 mod documents;
-pub mod laws;
 mod lines;
 mod recebe;
 mod status;

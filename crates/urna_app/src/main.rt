@@ -3,9 +3,6 @@
 //! The commands, and what is proved of them, stand in the library `urna_commands`; `urna` is its call (docs/FORMATS.md, "Statuses").
 #![tactic(auto)]
 
-#[cfg(test)]
-mod tests;
-
 use command_parts::words;
 use state_store::DEVICE_SIZE;
 use std::process::ExitCode;

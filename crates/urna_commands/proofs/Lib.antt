@@ -1,29 +1,7 @@
-mod Again
-mod Agreeing
 mod Asked
-mod AtRest
-mod PutFiles
-mod Completion
-mod Endings
-mod Headline
-mod Idle
-mod Keeping
-mod Leading
-mod Loads
-mod NeverBusy
-mod Offers
-mod Once
+pub mod Endings
+pub mod Offers
+pub mod Once
 mod Sessions
-mod Totals
-mod Accepting
-mod Leaving
-mod Opened
-mod Others
-mod Recounts
-mod Replacing
-mod Refused
-mod Touching
-mod Begun
-mod Offices
-mod Certifying
-mod Certificates
+pub mod Totals
+pub mod Offices

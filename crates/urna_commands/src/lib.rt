@@ -21,7 +21,6 @@ mod ensaio;
 mod errors;
 mod fault;
 mod finding;
-mod laws;
 mod offering;
 mod office;
 mod reconta;

@@ -1,0 +1,15 @@
+pub mod Accepting
+pub mod Again
+pub mod AtRest
+pub mod Certificates
+pub mod Completion
+pub mod Headline
+pub mod Idle
+pub mod LedgerAgain
+pub mod LedgerCompletion
+pub mod LedgerHeadline
+pub mod LedgerLaws
+pub mod NeverBusy
+pub mod Recounts
+pub mod Replaced
+pub mod Touching

@@ -1,8 +1,0 @@
-use Rattle.ledger_commands.proofs.Completion.{completes, tells_of_risen_counts}
-use Rattle.ledger_commands.proofs.laws.completion.Goals as goal
-
-pub returns-clause-done : goal.returns-clause-done
-returns-clause-done c = completes c.names_or_bad_line.ensures
-
-pub returns-clause-counts : goal.returns-clause-counts
-returns-clause-counts _ = tells_of_risen_counts

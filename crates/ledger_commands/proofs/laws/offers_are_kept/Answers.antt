@@ -1,5 +1,0 @@
-use Rattle.ledger_commands.proofs.Headline.{ledger_is_kept, offers_are_kept}
-use Rattle.ledger_commands.proofs.laws.offers_are_kept.Goals as goal
-
-pub returns : goal.returns
-returns c = record { offers = offers_are_kept; ledger = ledger_is_kept }

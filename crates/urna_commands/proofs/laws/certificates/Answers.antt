@@ -1,5 +1,0 @@
-use Rattle.urna_commands.proofs.Certificates.{certified_is_valid, verified_tells_seats}
-use Rattle.urna_commands.proofs.laws.certificates.Goals as goal
-
-pub returns : goal.returns
-returns c = record { seats = verified_tells_seats; valid = certified_is_valid c.names_or_bad_line.ensures }

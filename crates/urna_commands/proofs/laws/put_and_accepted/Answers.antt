@@ -1,5 +1,0 @@
-use Rattle.urna_commands.proofs.Accepting.{emitted_is_accepted, voted_is_accepted}
-use Rattle.urna_commands.proofs.laws.put_and_accepted.Goals as goal
-
-pub returns : goal.returns
-returns c = record { voted = voted_is_accepted; emitted = emitted_is_accepted }

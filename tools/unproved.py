@@ -1,0 +1,34 @@
+"""A program compiled without a proof, by `rt try`, into a file. `rt try` keeps no file of it, but while it runs the program lies as `program` in the
+folder that it runs in, so a changed `main` copies it out. It is instrumented, and so slower."""
+
+import os
+import subprocess
+import sys
+
+# The copy finds nothing to copy.
+MAIN = """
+fn main(rt: HostRuntime) -> ExitCode {
+    let _copied = std::fs::copy(&rt, "program", "COPY");
+    BODY
+}
+"""
+
+
+def compile_crate(folder, body, to, name):
+    """Compiles the program of a crate's folder, which is changed, into a file: its `main` copies it, and then does the body."""
+    root = os.path.join(folder, "src", "main.rt")
+    with open(root) as file:
+        before, found, _ = file.read().partition("\nfn main(")
+    if not found:
+        sys.exit(f"{name} has no main")
+    # What stands above the `main` as its comment is no item's then.
+    kept = before.rstrip().splitlines()
+    while kept and kept[-1].startswith("///"):
+        kept.pop()
+    with open(root, "w") as file:
+        file.write("\n".join(kept) + "\n" + MAIN.replace("COPY", to).replace("BODY", body))
+    run = subprocess.run(["rt", "try", "--", "nada"], cwd=folder, stdout=subprocess.PIPE, stderr=subprocess.STDOUT, text=True)
+    if not os.path.exists(to):
+        sys.exit(f"{run.stdout[-4000:]}\n{name} was not compiled: this kit leaves no program beside a run, so wait for the proof")
+    os.chmod(to, 0o755)
+    return to
