@@ -16,7 +16,7 @@ CASES = [
     ("check_limits", "docs/FORMATS.md", "\n## Limits\n", "\n## Bounds\n"),
     ("check_used", "crates/urna_base/proofs/PieceLaws.antt", "no_split", "one_piece"),
     ("check_twice", "crates/urna_base/proofs/Lacking.antt", "\npub decimal_in_line", "\npub in_line : (m : ℕ) → m < 10 ^ 18 → Lacks 10 (decimal m)\n\npub decimal_in_line"),
-    ("check_sessions", "README.md", "\nCOMP 320\n", "\nCOMP 321\n"),
+    ("check_sessions", "docs/MANUAL.md", "\nCOMP 320\n", "\nCOMP 321\n"),
     ("check_scripts", "crates/session_tests/stdout", "\nurna abre a\n", "\nurna abre b\n"),
     ("check_day", "examples/dia.txt", "ZERESIMA", "ZERESIMO"),
     ("check_seats", "crates/seat_tests/src/rows.rt", "QE 112,", "QE 113,"),
