@@ -36,6 +36,7 @@ CASES = [
     ("check_guarantees", "docs/GARANTIAS.md", "`laws::outcomes` de `seat_remainders`", "`laws::outcomes` de `seat_certificate`"),
     ("check_guarantees", "docs/GARANTIAS.md", "lista \"At rest\" (455", "lista \"At rest\" (456"),
     ("check_guarantees", "docs/GUARANTEES.md", "list \"The counting centre\"", "list \"The rehearsal\""),
+    ("check_guarantees", "docs/MANUAL.md", "(promessas 2 e 4 de", "(promessas 1 e 4 de"),
     ("check_layers", "docs/pictures/layers.svg", ">turnout<", ">turned<"),
     ("check_phrases", "CONTRIBUTING.md", "\n## The loop\n", "\nThe caller owes memory.\n\n## The loop\n"),
     ("check_items", "docs/THEOREM.md", ": So it does over all flashes that hold the poll s of a section", ""),
