@@ -27,6 +27,7 @@ CASES = [
     ("check_offers", "crates/session_tests/stdout", "    LIVRO 0\n", "    LIVRO 9\n"),
     ("check_rehearsals", "crates/session_tests/stdout", "    ENSAIO 19\n", "    ENSAIO 18\n"),
     ("check_lines", "README.md", "\n\n", "\n\n" + "x" * 1201 + "\n\n"),
+    ("check_sizes", "README.md", "\n## Licence\n", "\n## Licence\n" + "\nx" * 1000),
     ("check_comments", "crates/turnout/src/turnout.rt", "/// ", "// "),
     ("check_list", "docs/THEOREM.md", "| promise |", "| promises |"),
     ("check_guarantees", "docs/GUARANTEES.md", "\n- **D.** ", "\n- **E.** "),
