@@ -9,7 +9,7 @@ LEDGER = $(CURDIR)/crates/ledger_app/out/ledger_app
 
 # The minutes are those of four idle processors, with no proof made before. A proof where nothing has changed since takes seconds.
 list:
-	@echo "make try          the example day, compiled without a proof: a minute"
+	@echo "make try          an example day and a known election, unproved: a minute"
 	@echo "make demo         both programs proved, each example on real files: 20 minutes"
 	@echo "make page         urna with a page for this machine's browser, at PORT if given"
 	@echo "make page-unproved  the same over urna compiled without a proof: two minutes"

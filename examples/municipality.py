@@ -99,15 +99,13 @@ class Municipality:
             ],
             "secao": ["zona = {}, secao = {}, eleitores = {}".format(*self.section(place), count) for place, count in enumerate(self.voters)],
         }
-        arrays = "".join(f"{name} = [\n" + "".join(f"  {{{row}}},\n" for row in its) + "]\n" for name, its in rows.items())
-        return f"processo = {self.number}\ndata = 20261004\nturno = 1\n{arrays}"
+        return tables_of(self.number, rows)
 
     # ---- files
 
     def fields(self, place, council, mayor):
         """The field text of the report of a section with these votes."""
-        (zone, section), voters, came = self.section(place), self.voters[place], len(council)
-        head = f"ORIG:VOTA PROC:{self.number} {DAY} ZONA:{zone} SECA:{section} APTO:{voters} COMP:{came} FALT:{voters - came} {HOURS}"
+        voters, head = self.voters[place], head_fields(self.number, self.section(place), self.voters[place], len(council))
         return " ".join([head, *council_fields(voters, Counter(council)), *mayor_fields(voters, Counter(mayor))])
 
     def drawn_votes(self, draw, place):
@@ -158,6 +156,18 @@ class Municipality:
                 sums[COUNCIL].update(file.council)
                 sums[MAYOR].update(file.mayor)
         return verdicts, [(code, it, count) for code, cast in sums.items() for it, count in cast.items()]
+
+
+def tables_of(number, rows):
+    """The tables of the election of this number, with the rows of each array."""
+    arrays = "".join(f"{name} = [\n" + "".join(f"  {{{row}}},\n" for row in its) + "]\n" for name, its in rows.items())
+    return f"processo = {number}\ndata = 20261004\nturno = 1\n{arrays}"
+
+
+def head_fields(number, section, voters, came):
+    """The fields of a report that come before its offices; the section is its zone and its number."""
+    zone, its = section
+    return f"ORIG:VOTA PROC:{number} {DAY} ZONA:{zone} SECA:{its} APTO:{voters} COMP:{came} FALT:{voters - came} {HOURS}"
 
 
 def council_fields(voters, cast):

@@ -1,8 +1,8 @@
 """What `certifica` and `verifica` answer of some files, worked out by a model of its own: tables, lists and reports are taken and offered as that of
 tools/offers.py does it, the contest of an office is that of the totals (tools/federations.py), and its certificate is written and judged by
-tools/certificates.py. All commands of the script `certificates` (crates/session_tests) are these.
+tools/certificates.py. All commands of the script `certificates` (crates/session_tests) are these, and those of `known` but `totaliza`.
 
-`other_answers` gives the lines of that script under which another answer stands.
+`other_answers` gives the lines of these scripts under which another answer stands.
 """
 
 import re
@@ -98,7 +98,10 @@ class Play(offers.Play):
 
     def step(self, line):
         word, *rest = line.split(" ")
-        if word == "urna":
+        if word == "urna" and rest[:1] == ["totaliza"]:
+            # The totals are those of tools/federations.py.
+            self.last = None
+        elif word == "urna":
             return self.run(rest)
         if word == "print":
             return self.files[rest[0]].splitlines() if rest[0] in self.files else ["is not there"]
@@ -110,4 +113,5 @@ class Play(offers.Play):
 
 
 def other_answers():
-    yield from offers.others("certificates", Play())
+    for script in ("certificates", "known"):
+        yield from offers.others(script, Play())

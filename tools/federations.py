@@ -1,7 +1,7 @@
-"""The totals of the script `federations` (crates/session_tests), worked out from its tables and its reports by docs/RULES.md, "The totals":
-a federation is one contestant, with the party votes and the candidates of all its parties.
+"""The totals of the scripts `federations` and `known` (crates/session_tests), worked out from their tables and reports by docs/RULES.md,
+"The totals": a federation is one contestant, with the party votes and the candidates of all its parties.
 
-`other_totals` gives the lines of the script under which other totals stand.
+`other_totals` gives the lines of these scripts under which other totals stand.
 """
 
 import re
@@ -10,6 +10,8 @@ from collections import Counter
 
 import scripts
 import seats
+
+SCRIPTS = ("federations", "known")
 
 
 def sums_of(reports):
@@ -93,11 +95,12 @@ def totals(text, reports):
 
 
 def other_totals():
-    count = 0
-    for number, line, came, words, files, _ in scripts.asked("federations"):
-        if words[:1] == ["totaliza"]:
-            count += 1
-            if came != totals(files[words[1]], [files[it] for it in files[words[2]].splitlines()]):
-                yield f"{scripts.CRATE}/stdout:{number}: the law gives other totals than those under `{line}`"
-    if not count:
-        yield f"{scripts.CRATE}/stdout: the script federations has no totals"
+    for script in SCRIPTS:
+        count = 0
+        for number, line, came, words, files, _ in scripts.asked(script):
+            if words[:1] == ["totaliza"]:
+                count += 1
+                if came != totals(files[words[1]], [files[it] for it in files[words[2]].splitlines()]):
+                    yield f"{scripts.CRATE}/stdout:{number}: the law gives other totals than those under `{line}`"
+        if not count:
+            yield f"{scripts.CRATE}/stdout: the script {script} has no totals"
