@@ -18,8 +18,8 @@ from municipality import COUNCIL, council_fields, head_fields, tables_of, write
 from parts import parts_file
 
 PROCESS, SEATS, SECTIONS, VOTERS = 8, 9, 12, 600
-# Of each party its name, its party votes, and its candidates with their votes. The quotient is 672, so a seat of the quotient takes 68 votes, and one
-# of the remainders 135: the last candidate of A and that of D have less than either.
+# Each party's name, its party votes, and its candidates with their votes. QE is 672, so arts. 108 and 109 ask 68 votes of a candidate for a seat of the
+# first phase, and 135 for one of the second. AMELIA and DULCE have too few for either.
 PARTIES = {
     10: ("PARTIDO A", 200, {"ALICE": 620, "ARTUR": 480, "AURORA": 330, "ANTONIO": 210, "AMELIA": 60}),
     20: ("PARTIDO B", 170, {"BENEDITA": 450, "BRUNO": 340, "BEATRIZ": 240, "BENTO": 150}),
