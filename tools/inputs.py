@@ -1,0 +1,127 @@
+"""What the tools for paper and signatures are given, and how they end: files of at most so many bytes, one line where something can't be used,
+and what `confere` says of a report."""
+
+import argparse
+import os
+import shutil
+import stat
+import subprocess
+import sys
+import tempfile
+
+import visible
+
+TOP = os.path.dirname(os.path.dirname(os.path.abspath(__file__)))
+BUILT = os.path.join(TOP, "crates", "urna_app", "out", "urna_app")
+# The most bytes of each file (docs/FORMATS.md, "Limits").
+MOST_TABLES, MOST_ROLL, MOST_REPORT, MOST_LIST = 4_194_304, 16_384, 1_048_576, 1_048_576
+MOST_NAMES, LONGEST_NAME = 4_096, 255
+# How a tool ends where what it was given is refused, and where it can't be used, or a program that the tool needs isn't there.
+REFUSED, UNUSABLE = 1, 2
+# How long another program may take, in seconds.
+LONGEST = 120
+
+
+class Stopped(Exception):
+    """Why a tool ends before it is done, in one line, and its status."""
+
+    def __init__(self, why, status=UNUSABLE):
+        super().__init__(visible.visible(why))
+        self.status = status
+
+
+class Parser(argparse.ArgumentParser):
+    """Words of no form end the tool as other faults do."""
+
+    def error(self, message):
+        raise Stopped(f"uso: {self.usage}")
+
+
+def tell(line):
+    print(visible.visible(line), file=sys.stderr)
+
+
+def run_tool(main):
+    """Ends the process with what a tool answers, or with one line that says why it isn't done."""
+    try:
+        sys.exit(main())
+    except Stopped as stopped:
+        print(stopped, file=sys.stderr)
+        sys.exit(stopped.status)
+    except BrokenPipeError:
+        os._exit(UNUSABLE)
+    except KeyboardInterrupt:
+        sys.exit(130)
+
+
+def want_plain(path):
+    """A name that can be told in one line, and stand in a list."""
+    if visible.visible(path) != path:
+        raise Stopped(f"{path}: um nome com caracteres que não se veem não é tomado")
+
+
+def taken(path, most):
+    """The bytes of a file."""
+    want_plain(path)
+    try:
+        if not stat.S_ISREG(os.stat(path).st_mode):
+            raise Stopped(f"{path}: não é um arquivo" + (", é uma pasta" if os.path.isdir(path) else ""))
+        with open(path, "rb") as file:
+            data = file.read(most + 1)
+    except FileNotFoundError:
+        raise Stopped(f"{path}: não há este arquivo")
+    except OSError as fault:
+        raise Stopped(f"{path}: não pode ser lido: {fault.strerror}")
+    if len(data) > most:
+        raise Stopped(f"{path}: é grande demais, tem mais de {most} bytes")
+    return data
+
+
+def put(path, data):
+    """Writes a file under a name that no other one has."""
+    want_plain(path)
+    try:
+        with open(path, "xb") as file:
+            file.write(data)
+    except FileExistsError:
+        raise Stopped(f"{path}: já existe, e não é substituído")
+    except OSError as fault:
+        raise Stopped(f"{path}: não pode ser gravado: {fault.strerror}")
+
+
+def ran(words, data=b"", folder=None, **environment):
+    """Another program, with these bytes on its standard input."""
+    try:
+        return subprocess.run(words, input=data, cwd=folder, capture_output=True, timeout=LONGEST, env={**os.environ, **environment})
+    except FileNotFoundError:
+        raise Stopped(f"falta o programa {words[0]}")
+    except OSError as fault:
+        raise Stopped(f"{words[0]}: não pode ser executado: {fault.strerror}")
+    except subprocess.TimeoutExpired:
+        raise Stopped(f"{words[0]}: não terminou em {LONGEST} segundos")
+
+
+def program_of(asked):
+    """The program that is asked for; or else the one that was built here, or the installed one."""
+    return os.path.abspath(asked) if asked else BUILT if os.access(BUILT, os.X_OK) else "urna"
+
+
+def add_program(parser):
+    parser.add_argument("--urna", metavar="PROGRAMA")
+
+
+def confere(program, tables, report):
+    """The status of `confere` of these bytes, and its line."""
+    with tempfile.TemporaryDirectory(prefix="urna-confere-") as folder:
+        put(os.path.join(folder, "tabelas"), tables)
+        put(os.path.join(folder, "boletim"), report)
+        run = ran([program, "confere", "tabelas", "boletim"], folder=folder)
+    return run.returncode, run.stdout.decode(errors="replace").strip()
+
+
+def verdict(program, tables, report):
+    """The verdict of `confere` on a report under these tables, which are those of an election, in words."""
+    status, line = confere(program, tables, report)
+    if status in (0, 7):
+        return line.split(" ")
+    raise Stopped(f"confere termina com {status}" + (f" e diz {line}" if line else ""))
