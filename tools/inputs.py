@@ -77,6 +77,13 @@ def taken(path, most):
     return data
 
 
+def want_new(path):
+    """A name that no file has."""
+    want_plain(path)
+    if os.path.lexists(path):
+        raise Stopped(f"{path}: já existe, e não é substituído")
+
+
 def put(path, data):
     """Writes a file under a name that no other one has."""
     want_plain(path)
