@@ -1,4 +1,4 @@
-.PHONY: list try demo page page-unproved check-page check test check-house check-bench wrong-bodies laws bench country crash-trial hostile urna urna_ledger programs dist install
+.PHONY: list try demo page page-unproved check-page check-paper check test check-house check-bench wrong-bodies laws bench country crash-trial hostile urna urna_ledger programs dist install
 
 TRIALS = 25
 MINUTES = 10
@@ -14,6 +14,7 @@ list:
 	@echo "make page         urna with a page for this machine's browser, at PORT if given"
 	@echo "make page-unproved  the same over urna compiled without a proof: two minutes"
 	@echo "make check-page   that page tried in Chromium, pictures in out/page: a minute"
+	@echo "make check-paper  papers, their codes and signatures tried without a browser: minutes"
 	@echo "make urna         urna proved and built, with a record of the build"
 	@echo "make urna_ledger  the counting centre's program, in the same way"
 	@echo "make programs     both programs, in the same way"
@@ -47,6 +48,10 @@ check-page:
 	@page/check
 	@$(MAKE) --silent urna
 	page/check "$(URNA)"
+
+# With the program that is built, or else with one that is compiled without a proof.
+check-paper:
+	@trials/papers $(wildcard $(URNA))
 
 test:
 	.ci/run
