@@ -1,16 +1,20 @@
 """What the page's server answers. It is for the browsers of this machine: another host name, or a request that another page sent, is
 refused, and so is what is too large or has another form."""
 
+import base64
 import contextlib
+import hashlib
 import http.cookies
 import http.server
 import json
 import os
+import re
 import socket
 import time
 
 from programs import Refused, content
 from session import Session
+from visible import visible_in
 
 STATIC = os.path.join(os.path.dirname(os.path.abspath(__file__)), "static")
 KINDS = {".html": "text/html", ".css": "text/css", ".js": "text/javascript", ".svg": "image/svg+xml"}
@@ -35,18 +39,25 @@ ASKED = {
     "/api/totais": (Session.totals, LARGE),
     "/api/verifica": (Session.verify, 1_400_000),
 }
-RESULTS = "/arquivo/"
+RESULTS, PAPER = "/arquivo/", "/papel"
 # Of a refused request, how many bytes more are taken, and for how many seconds.
 MOST_LEFT, LONGEST_LEFT = 67_108_864, 10
 HEADERS = {
     "Cache-Control": "no-store",
-    "Content-Security-Policy": "default-src 'none'; script-src 'self'; style-src 'self'; img-src 'self' data:; connect-src 'self'; "
+    "Content-Security-Policy": "default-src 'none'; script-src 'self'; style-src 'self'; img-src 'self' data:; connect-src 'self'; frame-src 'self'; "
     "base-uri 'none'; form-action 'none'; frame-ancestors 'none'",
     "Cross-Origin-Opener-Policy": "same-origin",
     "Cross-Origin-Resource-Policy": "same-origin",
     "Referrer-Policy": "no-referrer",
     "X-Content-Type-Options": "nosniff",
 }
+
+
+def paper_policy(page):
+    """What the paper of a report may do: it has the styles that stand in it, and stands in this page."""
+    style = re.search(rb"<style>(.*?)</style>", page, re.S)[1]
+    own = base64.b64encode(hashlib.sha256(style).digest()).decode()
+    return f"default-src 'none'; style-src 'sha256-{own}'; base-uri 'none'; form-action 'none'; frame-ancestors 'self'"
 
 
 class Handler(http.server.BaseHTTPRequestHandler):
@@ -124,6 +135,9 @@ class Handler(http.server.BaseHTTPRequestHandler):
         self.want_own(False)
         if self.path in READ:
             return self.send_object(200, self.done(READ[self.path]))
+        if self.path == PAPER:
+            data = self.done(Session.paper)
+            return self.send(200, "text/html; charset=utf-8", data, {"Content-Security-Policy": paper_policy(data)})
         if self.path.startswith(RESULTS):
             name = self.path.removeprefix(RESULTS)
             data = self.done(Session.result, name)
@@ -176,7 +190,8 @@ class Handler(http.server.BaseHTTPRequestHandler):
                 left -= len(piece)
 
     def send_object(self, status, told):
-        self.send(status, "application/json; charset=utf-8", json.dumps(told).encode(), {})
+        """An object, in whose texts, names of the tables too, each character that can't be seen stands as its number."""
+        self.send(status, "application/json; charset=utf-8", json.dumps(visible_in(told)).encode(), {})
 
     def send(self, status, kind, data, more):
         self.send_response(status)

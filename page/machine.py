@@ -7,12 +7,14 @@ they are, so they may be given again; what the call shows behind the lines that 
 import os
 import random
 import shutil
+import subprocess
 
-from programs import Refused, anew, content, put
+from programs import LONGEST, TOP, Refused, anew, content, put
 from runs import calls_of
 
 TABLES, ROLL, KEYS, RESULT = "tabelas.toml", "rol.txt", "teclas", "urna"
-REPORT, RECORD = "urna.bu", "urna.rdv"
+REPORT, RECORD, PAPER = "urna.bu", "urna.rdv", "urna.html"
+PRINTER = os.path.join(TOP, "tools", "paper")
 FLASHES = ("internal.flash", "external.flash")
 WORDS = ("interna", "externa")
 # Where the gates of a flash are, and what is its header (docs/FORMATS.md, "Flash layout").
@@ -265,6 +267,21 @@ class Machine:
         if name not in (REPORT, RECORD) or not self.is_sealed():
             raise Refused(404, "a votação não está lacrada")
         return content(self.folder, name)
+
+    def paper(self):
+        """The report on paper, with its codes, as tools/paper makes it."""
+        self.result(REPORT)
+        try:
+            run = subprocess.run(
+                [PRINTER, "--urna", self.program.path, TABLES, REPORT, PAPER], cwd=self.folder, capture_output=True, text=True, timeout=LONGEST
+            )
+        except (OSError, subprocess.TimeoutExpired):
+            raise Refused(409, "o papel não pôde ser feito")
+        if run.returncode != 0:
+            raise Refused(409, run.stderr.strip())
+        made = content(self.folder, PAPER)
+        os.remove(os.path.join(self.folder, PAPER))
+        return made
 
     def check(self):
         self.result(REPORT)

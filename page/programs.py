@@ -8,7 +8,7 @@ from typing import NamedTuple
 
 TOP = os.path.dirname(os.path.dirname(os.path.abspath(__file__)))
 EXAMPLES = os.path.join(TOP, "examples")
-sys.path.append(os.path.join(TOP, "trials"))
+sys.path += [os.path.join(TOP, it) for it in ("trials", "tools")]
 
 # How long a command may take, in seconds.
 LONGEST = 60

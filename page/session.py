@@ -125,6 +125,9 @@ class Session:
     def check(self, asked):
         return {"resposta": self.machine.check().told()}
 
+    def paper(self):
+        return self.machine.paper()
+
     def recount(self, asked):
         return {"resposta": self.machine.recount().told()}
 

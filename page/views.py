@@ -11,7 +11,9 @@ import handler
 from client import fields
 from commands import want
 from elections import names_in
+import papers
 from programs import EXAMPLES, content
+from visible import visible
 
 # Keys of the keyboard that have no character.
 ENTER, BACKSPACE, TAB = "\ue007", "\ue003", "\ue004"
@@ -173,12 +175,13 @@ def sealed(page):
         page.browser.wait("#conferido", lambda text: answer in text, command)
     page.picture("boletim")
     first, council, mayor = fields(page.file("urna.bu"))
-    counts = dict(zip(*[iter(page.texts("[data-paper=boletim] .count span"))] * 2))
+    rows = papers.rows(page.browser) if not papers.lacking() else page.texts("[data-paper=boletim] .count span")
+    counts = {name.upper(): count for name, count in zip(*[iter(rows)] * 2)}
     want(first["COMP"] == "4" and counts["TOTAL"] == "4", f"not four voters: {counts}")
     told = council["13001"], council["LEGP"], council["BRAN"], mayor["45"], mayor["13"], mayor["BRAN"], mayor["NULO"]
     want(told == ("2", "1", "1", "1", "1", "1", "1"), f"the file has other votes: {told}")
-    shown = [counts[it] for it in ("13001 ANA", "45 PB", "45 DAVI", "13 CARLA")]
-    want(shown == ["2", "1", "1", "1"], f"the paper has other votes: {shown}")
+    shown = [counts[it] for it in ("13001 ANA", "45 DAVI", "13 CARLA")]
+    want(shown == ["2", "1", "1"], f"the paper has other votes: {shown}")
     zeros = page.texts("[data-paper=zeresima] .count span:last-child")
     want(zeros and set(zeros) == {"0"}, f"the zero report: {zeros}")
 
@@ -186,16 +189,18 @@ def sealed(page):
 def printed(page):
     """What is printed is one column of paper, and nothing else."""
     page.browser.run("window.printed = 0; window.print = () => { window.printed += 1; }")
-    page.browser.click(".sheet:last-child button")
-    want(page.browser.run("return [window.printed, document.body.dataset.print].join()") == "1,boletim", "the report is not printed")
+    page.browser.click("#papeis .sheet:first-child button")
+    want(page.browser.run("return [window.printed, document.body.dataset.print].join()") == "1,zeresima", "the zero report is not printed")
     page.browser.command("Emulation.setEmulatedMedia", {"media": "print"})
-    seen = "return [...document.querySelectorAll('h1, .sheet button, .paper')].filter((it) => it.checkVisibility({ visibilityProperty: true })).map((it) => it.dataset.paper)"
-    want(page.browser.run(seen) == ["boletim"], f"more than the report is printed: {page.browser.run(seen)}")
+    seen = "return [...document.querySelectorAll('h1, .sheet button, .paper, iframe')].filter((it) => it.checkVisibility({ visibilityProperty: true })).map((it) => it.dataset.paper)"
+    want(page.browser.run(seen) == ["zeresima"], f"more than the zero report is printed: {page.browser.run(seen)}")
     page.picture("papel")
     page.browser.command("Emulation.setEmulatedMedia", {"media": ""})
     paper = base64.b64decode(page.browser.command("Page.printToPDF", {})["data"])
-    want(len(re.findall(rb"/Type\s*/Page\b", paper)) == 1, "the report of a small section is not one page")
+    want(len(re.findall(rb"/Type\s*/Page\b", paper)) == 1, "the zero report of a small section is not one page")
     page.browser.run("dispatchEvent(new Event('afterprint'))")
+    if not papers.lacking():
+        papers.want_printed(page.browser)
 
 
 def totalled(page, program, work):
@@ -217,6 +222,8 @@ def day(page, program, work):
     begin(page, "dia")
     for part in (opened, by_clicks, by_keys, suspended, sealed, printed):
         part(page)
+    if not papers.lacking():
+        papers.of_page(page, program, work)
     totalled(page, program, work)
 
 
@@ -342,13 +349,15 @@ def hostile(page, work):
     page.clerk("ABRE", "ABERTA")
     page.identify(1)
     page.click_keys("13001")
-    page.screen(re.escape(name), "the name is not shown as text")
+    page.screen(re.escape(visible(name)), "the name is not shown as text, and what can't be seen of it as its number")
     page.picture("nome")
     page.click_keys("C45C")
     page.screen("FIM", "no FIM")
     page.clerk("ENCERRA", "ENCERRADA")
     page.view("boletim")
     want(any(HOSTILE in it for it in page.texts(".paper span")), "the name is not on the paper")
+    if not papers.lacking():
+        want(any(visible(name) in it for it in papers.rows(page.browser)), "the name is not on the paper with the codes")
     page.view("totais")
     page.browser.click("#soma [name=desta]")
     page.choose()

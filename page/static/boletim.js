@@ -1,4 +1,5 @@
-// The zero report and the report as they are printed, the two files, and what the program says of them.
+// The zero report and the report as they are printed, the two files, and what the program says of them. Behind the seal the report is the paper
+// that the server makes of its file, with the codes; where it can't, the counts as the program showed them.
 
 import { ask, find, make, moment, number, office, renew } from "./parts.js";
 import { told } from "./urna.js";
@@ -50,6 +51,19 @@ function paper(kind, lines, page) {
   return make("div", { class: "sheet" }, print, make("article", { class: "paper", "data-paper": kind, tabindex: "0", "aria-label": kind === "zeresima" ? "Zerésima" : "Boletim de urna" }, ...inside));
 }
 
+const frame = () => find("papel").querySelector("iframe");
+
+// The paper of the sealed poll, asked for once.
+async function showPaper(page) {
+  const answer = await fetch("/papel").catch(() => null);
+  find("sem-papel").textContent = answer?.ok ? "" : `Sem o papel com os códigos: ${(await answer?.json().catch(() => null))?.erro || "o servidor não responde"}`;
+  page.paper = answer?.ok ? "made" : "none";
+  if (answer?.ok) {
+    frame().src = "/papel";
+  }
+  show(page);
+}
+
 export function show(page) {
   const state = page.state;
   const [zero, count] = [state.zeresima || [], state.contagem || []];
@@ -57,16 +71,23 @@ export function show(page) {
   if (zero.length) {
     papers.push(paper("zeresima", zero, page));
   }
-  if (count.length) {
+  if (count.length && page.paper !== "made") {
     papers.push(paper("boletim", [...count.slice(1, 2), count[0], ...count.slice(2)], page));
   }
   renew(find("papeis"), ...papers);
+  find("papel").hidden = !state.lacrada || page.paper !== "made";
   find("sem-boletim").hidden = papers.length > 0 || Boolean(state.lacrada);
   find("resultados").hidden = !state.lacrada;
   find("texto-boletim").hidden = !state.lacrada;
   if (!state.lacrada) {
     find("conferido").replaceChildren();
+    find("sem-papel").textContent = "";
     find("texto-boletim").open = false;
+    frame().removeAttribute("src");
+    page.paper = "";
+  } else if (!page.paper) {
+    page.paper = "asked";
+    showPaper(page);
   }
 }
 
@@ -78,6 +99,7 @@ export function start() {
       find("conferido").replaceChildren(`${resposta.comando}: `, ...answers.flatMap((it) => told(it, resposta.numero)));
     });
   }
+  find("imprime").addEventListener("click", () => frame().contentWindow.print());
   find("texto-boletim").addEventListener("toggle", async () => {
     if (find("texto-boletim").open) {
       find("texto").textContent = await (await fetch("/arquivo/urna.bu")).text();
