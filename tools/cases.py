@@ -19,6 +19,7 @@ CASES = [
     ("check_sessions", "docs/MANUAL.md", "\nCOMP 320\n", "\nCOMP 321\n"),
     ("check_scripts", "crates/session_tests/stdout", "\nurna abre a\n", "\nurna abre b\n"),
     ("check_day", "examples/dia.txt", "ZERESIMA", "ZERESIMO"),
+    ("check_day", "docs/MANUAL.md", "\naceitos.txt: 5 de 9\n", "\naceitos.txt: 6 de 9\n"),
     ("check_seats", "crates/seat_tests/src/rows.rt", "QE 112,", "QE 113,"),
     ("check_seats", "crates/seat_tests/src/certificate_rows.rt", "QUOCIENTE 200", "QUOCIENTE 201"),
     ("check_federations", "crates/session_tests/stdout", "    CARGO 13 VALIDOS 180 NOMINAIS 180", "    CARGO 13 VALIDOS 181 NOMINAIS 180"),
