@@ -13,7 +13,7 @@ list:
 	@echo "make demo         both programs proved, each example on real files: 20 minutes"
 	@echo "make page         urna with a page for this machine's browser, at PORT if given"
 	@echo "make page-unproved  the same over urna compiled without a proof: two minutes"
-	@echo "make check-page   that page tried in Chromium, pictures in out/page: a minute"
+	@echo "make check-page   that page tried in Chromium, pictures in out/page: minutes"
 	@echo "make check-paper  papers, their codes and signatures tried without a browser: minutes"
 	@echo "make urna         urna proved and built, with a record of the build"
 	@echo "make urna_ledger  the counting centre's program, in the same way"
