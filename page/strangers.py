@@ -43,7 +43,8 @@ def strangers(port):
     for origin in ("http://urna.example", "null", f"https://127.0.0.1:{port}", f"http://127.0.0.1:{port + 1}", f"http://localhost:{port}", None):
         want_refused(client, f"origin {origin!r}", [403], Origin=origin)
     want_refused(client, "a request of another site", [403], Sec_Fetch_Site="cross-site")
-    want_refused(client, "reading for another site", [403], way="GET", path="/api/estado", body=None, Origin="http://urna.example")
+    for path in ("/api/estado", "/papel"):
+        want_refused(client, f"reading {path} for another site", [403], way="GET", path=path, body=None, Origin="http://urna.example")
     for cookie in ("", "urna=1", f"urna-{port}=1", f"urna-{port}=\x7f;;=="):
         want_refused(client, f"the cookie {cookie!r}", [401], Cookie=cookie)
     want_refused(client, "a simple form", [415], Content_Type="application/x-www-form-urlencoded")
@@ -62,6 +63,7 @@ def forms(port):
         want_refused(client, f"GET {path}", [400, 404], way="GET", path=path, body=None)
     want_refused(client, "a file above the folder", [404], way="GET", path="/arquivo/../tabelas.toml", body=None)
     want_refused(client, "a report of a poll that is open", [404], way="GET", path="/arquivo/urna.bu", body=None)
+    want_refused(client, "the paper of a poll that is open", [404], way="GET", path="/papel", body=None)
     want_refused(client, "another way", [501], way="PUT")
     for words in ({}, {"certificado": 1}, {"certificado": None}):
         want_refused(client, f"a check of {words}", [400], path="/api/verifica", body=json.dumps(words).encode())
