@@ -6,7 +6,7 @@ import time
 from commands import want
 from tooling import SOON, content, example, put, run, want_told
 
-NEEDS = []
+NEEDS = ["python3-segno", "zbar-tools", "openssh-client"]
 TABLES, REPORT = "federacao.toml", "federacao-42.bu"
 HUGE = 1 << 30
 # The words of each tool: where a file is read, and where one is written.
