@@ -1,5 +1,5 @@
-"""What each check of `check-house` must find: a change of one file, as the check, the file, what stands there and what is put in its place.
-No file is changed: `missed` lets the check read the changed text, in a process of its own.
+"""The seeded fault that each check of `check-house` must find: the check, the file, the old text and the new text. No file is changed:
+`missed` runs the check on the changed text in a child process.
 """
 
 import os
@@ -53,7 +53,7 @@ CASES = [
 
 
 def read_as(path, text):
-    """Lets a file be read as this text, also where what was made of it before is kept."""
+    """Makes a file read as this text, also where cached results depend on it."""
     before = house.read
     house.read = lambda it: text if it == path else before(it)
     for kept in ("stripped", "imports", "definitions"):
@@ -62,7 +62,7 @@ def read_as(path, text):
 
 
 def finds(check, path, text):
-    """Whether a check finds something where a file is this text."""
+    """Whether a check finds something when a file has this text."""
     child = os.fork()
     if child == 0:
         read_as(path, text)
@@ -71,7 +71,7 @@ def finds(check, path, text):
 
 
 def missed(checks):
-    """The changes that these checks don't find, and those of the checks that have none."""
+    """The faults that these checks don't find, and the checks that have no fault."""
     for check in checks:
         cases = [it for it in CASES if it[0] == check.__name__]
         if not cases:

@@ -1,8 +1,8 @@
-"""Certificates of seats and substitutes by docs/RULES.md, "The certificate", and docs/FORMATS.md, "Certificate", of contests as tools/seats.py has them:
-the seats, and the parties.
+"""Certificates of seats and substitutes by docs/RULES.md, "The certificate", and docs/FORMATS.md, "Certificate", computed from contests
+in the form of tools/seats.py: the seats, and the parties.
 
-`other_certificates` gives the rows of crates/seat_tests whose certificate or substitutes are others, and those changes of a certificate that
-are judged otherwise.
+`other_certificates` returns the rows of crates/seat_tests whose certificate or substitutes differ, and the changes of a certificate that
+are judged differently.
 """
 
 import re
@@ -35,7 +35,7 @@ def comes_to_seats(seats, parties):
 
 
 def certificate(code, seats, parties):
-    """The text of the certificate of an office, whose contest comes to seats."""
+    """The text of the certificate of an office whose contest has seats."""
     quotient = first_phase(seats, parties)
     lines = ["CERT U1", f"CARGO {code}", f"QUOCIENTE {quotient}"]
     for party in parties:
@@ -53,7 +53,7 @@ def substitutes(seats, parties):
 
 
 def substitute_words(contest):
-    """The same of a row."""
+    """The substitutes of a row."""
     return "".join(f" {number} {rank} {candidate}" for number, rank, candidate in substitutes(*contest_of(contest)))
 
 
@@ -62,7 +62,8 @@ def are_rising(numbers):
 
 
 def read(text):
-    """The office's code of a text, its quotient, its lines of the first phase, its rounds and the vacant seats; or the number of its first bad line."""
+    """The office's code in a text, its quotient, its lines of the first phase, its rounds and the vacant seats; or the number of its
+    first invalid line."""
     *lines, behind = text.split("\n")
     first, rounds = [], []
 
@@ -101,7 +102,7 @@ def read(text):
 
 
 def fault_of(seats, parties, told):
-    """What is wrong in a certificate first, each line looked at after those before it; or valid."""
+    """The first fault of a certificate, each line judged after those before it; or valid."""
     _, quotient, first, rounds, vacant = told
     if quotient != first_phase(seats, parties) or quotient == 0:
         return "quotient"
@@ -122,7 +123,7 @@ def fault_of(seats, parties, told):
 
 
 def judged(code, seats, parties, text):
-    """How a text is judged for the contest of the office of this code: a line that may not stand there, the first fault, or valid."""
+    """The verdict on a text for the contest of this office's code: an invalid line, the first fault, or valid."""
     told = read(text)
     if isinstance(told, int) or told[0] != code:
         return f"line {told if isinstance(told, int) else 2}"
@@ -141,7 +142,7 @@ def other_certificates(text):
         for piece, other, answer in [("CERT", "CERT", "valid"), *CHANGE.findall(changes)]:
             found = judged(13, *contest_of(contest), told.replace(piece, other, 1))
             if piece not in told or found != answer:
-                yield f"{contest!r}: with {other!r} in the place of {piece!r} it is {found}"
+                yield f"{contest!r}: with {other!r} instead of {piece!r} it is {found}"
     for contest, told, answer in JUDGED.findall(text):
         found = judged(13, *contest_of(contest), told)
         if found != answer:

@@ -1,8 +1,8 @@
-"""What `certifica` and `verifica` answer of some files, worked out by a model of its own: tables, lists and reports are taken and offered as that of
-tools/offers.py does it, the contest of an office is that of the totals (tools/federations.py), and its certificate is written and judged by
-tools/certificates.py. All commands of the script `certificates` (crates/session_tests) are these, and those of `known` but `totaliza`.
+"""A model of what `certifica` and `verifica` print for given files. It reads tables, lists and reports as tools/offers.py does, computes
+the contest of an office as for the totals (tools/federations.py), and writes and judges the certificate with tools/certificates.py. It
+covers all commands of the script `certificates` (crates/session_tests), and those of `known` except `totaliza`.
 
-`other_answers` gives the lines of these scripts under which another answer stands.
+`other_answers` returns the lines of these scripts with another answer.
 """
 
 import re
@@ -17,7 +17,7 @@ FAULTS = {"quotient": "QUOCIENTE", "first": "PRIMEIRA", "round": "RODADA", "end"
 
 
 def told(code, judged):
-    """The line that tells how a text was judged, and the number with which the command ends."""
+    """The line of a verdict on a text, and the status of the command."""
     kind, *number = judged.split(" ")
     if kind == "valid":
         return f"CERTIFICADO VALIDO {code}", 0
@@ -27,7 +27,7 @@ def told(code, judged):
 
 
 class Run(offers.Run):
-    """A command over files. The certificate that it puts is among them then, and its name is in `made`."""
+    """A command over files. A certificate that it writes is added to them, and its name to `made`."""
 
     def __init__(self, words, files, faults=offers.NO_FAULTS):
         self.made = []
@@ -43,7 +43,7 @@ class Run(offers.Run):
         forms[words[0]](name)
 
     def contest_of(self, tables, listed):
-        """The seats and the parties of the office's contest over the reports of a list that are accepted."""
+        """The seats and the parties of the office's contest over the accepted reports of a list."""
         offices = [it for it in tables.document["cargo"] if it["codigo"] == self.office and it["regra"] == "proporcional"]
         if not offices:
             self.refuse("ERRO CARGO", 36)
@@ -77,12 +77,12 @@ class Run(offers.Run):
 
 
 def run(words, files):
-    """A command over files that are bytes, each of which stands for a character."""
+    """A command over files of bytes, each byte as one character."""
     return Run(words, {name: content.decode("latin-1") for name, content in files.items()})
 
 
 class Play(offers.Play):
-    """The script as far as it is gone. Its commands write on no flash."""
+    """The state of the script so far. Its commands write on no flash."""
 
     def run(self, words):
         self.last, self.words = Run(words, self.files, self.faults), words
@@ -92,14 +92,14 @@ class Play(offers.Play):
         return Run(self.words, files, self.faults).answer()
 
     def told_of(self, text):
-        """What the last command, a `verifica`, tells of another text in the place of the certificate."""
+        """What the last command, a `verifica`, prints for another text instead of the certificate."""
         line, number = self.last.check(text.decode("latin-1"))
         return f"{line} = {number}" if number else line
 
     def step(self, line):
         word, *rest = line.split(" ")
         if word == "urna" and rest[:1] == ["totaliza"]:
-            # The totals are those of tools/federations.py.
+            # tools/federations.py checks the totals.
             self.last = None
         elif word == "urna":
             return self.run(rest)

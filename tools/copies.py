@@ -1,5 +1,5 @@
-"""Copies of the repository outside of it, in which `rt` works without touching the tree: for the programs, for the wrong bodies that the gate
-leaves out, and for the benchmarks. A copy is kept, so that only what changed is proved again."""
+"""Copies of the repository outside of it, where `rt` works without touching the tree: for the programs, for the wrong bodies that the
+gate leaves out, and for the benchmarks. A copy is kept, so that only changes are proved again."""
 
 import filecmp
 import hashlib
@@ -10,7 +10,7 @@ import house
 
 
 def folder(what):
-    """The folder of this checkout's copy for some work; it is made."""
+    """The folder of this checkout's copy for a purpose; it is created."""
     cache = os.environ.get("XDG_CACHE_HOME") or os.path.join(os.path.expanduser("~"), ".cache")
     checkout = hashlib.sha256(house.TOP.encode()).hexdigest()[:12]
     made = os.path.join(cache, "urna", f"{what}-{checkout}")
@@ -19,7 +19,7 @@ def folder(what):
 
 
 def below(crates, uses):
-    """The crates and all that they depend on."""
+    """The crates and all their dependencies."""
     found, left = set(), list(crates)
     while left:
         crate = left.pop()
@@ -30,7 +30,7 @@ def below(crates, uses):
 
 
 def mirror(one, other, left_out=()):
-    """Makes a folder the same as another one, but for what either has under the names that are left out. Files that are the same stay."""
+    """Makes a folder equal to another one, except for names that are left out. Equal files aren't touched."""
     os.makedirs(other, exist_ok=True)
     wanted = {it for it in os.listdir(one) if it not in left_out}
     for name in os.listdir(other):
@@ -46,7 +46,7 @@ def mirror(one, other, left_out=()):
 
 
 def copy_crates(to, crates, left_out=("out",)):
-    """Copies these crates of the repository, and the list of them. Answers the top of the copy."""
+    """Copies these crates of the repository and their list. Returns the top of the copy."""
     uses = house.crates()
     os.makedirs(os.path.join(to, "crates"), exist_ok=True)
     for name in os.listdir(os.path.join(to, "crates")):
@@ -57,6 +57,6 @@ def copy_crates(to, crates, left_out=("out",)):
     with open(os.path.join(to, "crates.txt"), "w") as file:
         file.writelines(f"{crate}: {' '.join(used)}\n" for crate, used in uses.items() if crate in crates)
     shutil.copyfile(os.path.join(house.TOP, "HANDLES"), os.path.join(to, "HANDLES"))
-    # rt works at the top of a repository.
+    # rt needs the top of a repository.
     os.makedirs(os.path.join(to, ".git"), exist_ok=True)
     return to

@@ -1,7 +1,7 @@
-"""The totals of the scripts `federations` and `known` (crates/session_tests), worked out from their tables and reports by docs/RULES.md,
+"""The totals of the scripts `federations` and `known` (crates/session_tests), computed from their tables and reports by docs/RULES.md,
 "The totals": a federation is one contestant, with the party votes and the candidates of all its parties.
 
-`other_totals` gives the lines of these scripts under which other totals stand.
+`other_totals` returns the lines of these scripts with other totals.
 """
 
 import re
@@ -15,7 +15,7 @@ SCRIPTS = ("federations", "known")
 
 
 def sums_of(reports):
-    """The votes of each office: of each candidate and of each party by its number, blank and null."""
+    """The votes of each office: for each candidate and each party by number, blank and null."""
     sums = Counter()
     for report in reports:
         for key, value in (field.split(":", 1) for field in report.split()):
@@ -33,7 +33,7 @@ def sums_of(reports):
 
 
 def blocs_of(tables):
-    """Each bloc, rising: its number, its word, and its parties."""
+    """Each bloc in ascending order: its number, its word, and its parties."""
     federations = [federation["partidos"] for federation in tables.get("federacao", [])]
     alone = {party["numero"] for party in tables["partido"]}.difference(*federations)
     return sorted([(min(them), "FEDERACAO", them) for them in federations] + [(party, "PARTIDO", [party]) for party in alone])
@@ -56,12 +56,12 @@ def result_lines(blocs, contestants, places, votes):
 
 
 def people_of(tables, code):
-    """The candidates for an office, rising, each with the day of birth."""
+    """The candidates for an office in ascending order, each with the day of birth."""
     return sorted((it["numero"], it["nascimento"]) for it in tables["candidato"] if it["cargo"] == code)
 
 
 def contestants(tables, code, sums):
-    """The contestants for an office: each bloc, rising, with its party votes and its candidates."""
+    """The contestants for an office: each bloc in ascending order, with its party votes and its candidates."""
     found, people = [], people_of(tables, code)
     for number, _, them in blocs_of(tables):
         own = [(sums[code, n], birth, n) for n, birth in people if int(str(n)[:2]) in them]
@@ -70,7 +70,7 @@ def contestants(tables, code, sums):
 
 
 def office_lines(tables, office, sums):
-    """The lines of an office that is decided in proportion."""
+    """The lines of a proportional office."""
     code, parties = office["codigo"], [party["numero"] for party in tables["partido"]]
     votes = {number: sums[code, number] for number, _ in people_of(tables, code)}
     nominal, legend = sum(votes.values()), sum(sums[code, party] for party in parties)
@@ -82,7 +82,7 @@ def office_lines(tables, office, sums):
 
 
 def totals(text, reports):
-    """What `totaliza` shows of reports that are all accepted, each of another section."""
+    """What `totaliza` prints for reports that are all accepted, each of a different section."""
     tables = tomllib.loads(text)
     lines = []
     for k, report in enumerate(reports, 1):
@@ -101,6 +101,6 @@ def other_totals():
             if words[:1] == ["totaliza"]:
                 count += 1
                 if came != totals(files[words[1]], [files[it] for it in files[words[2]].splitlines()]):
-                    yield f"{scripts.CRATE}/stdout:{number}: the law gives other totals than those under `{line}`"
+                    yield f"{scripts.CRATE}/stdout:{number}: the totals under `{line}` differ from the model's"
         if not count:
             yield f"{scripts.CRATE}/stdout: the script {script} has no totals"

@@ -1,4 +1,4 @@
-"""What the scripts of this folder read of the repository: its crates, and the definitions of a file with the names that they cite."""
+"""Reads the repository for the scripts of this folder: its crates, and the definitions of a file with the names that they cite."""
 
 import functools
 import hashlib
@@ -10,7 +10,7 @@ NAME = r"[A-Za-z_][\w'-]*"
 WORDS = r"(?:(?:abbrev|unfoldable|pub|record|data|ruleset)\s+)*"
 # The name of a module of laws.
 LAWS = r"(?:\w+_)?laws"
-# A name that is no field of something and no part of a longer name.
+# A name that is not a field and not part of a longer name.
 CITED = re.compile(rf"(?<![\w'.-]){NAME}")
 
 
@@ -20,7 +20,7 @@ def read(path):
 
 
 def files(*ends, below="crates"):
-    """The paths of the files with these ends, what `rt` made left out."""
+    """The paths of the files with these endings, without the output of `rt`."""
     found = []
     for folder, folders, names in os.walk(os.path.join(TOP, below)):
         folders[:] = sorted(it for it in folders if it not in ("out", ".git"))
@@ -29,7 +29,7 @@ def files(*ends, below="crates"):
 
 
 def sources():
-    """A hash of all that a program is built of: the crates with their code, by name."""
+    """A hash of everything that a program is built from: the crates with their code, by name."""
     made = hashlib.sha256()
     for path in ["crates.txt", *(it for it in files(".rt") if "/src/" in it)]:
         made.update(f"{path}\n{len(read(path))}\n{read(path)}".encode())
@@ -37,7 +37,7 @@ def sources():
 
 
 def proved_sources(program):
-    """A hash of all that a program is proved and built of: its crates and those that they depend on, with their definitions and proofs."""
+    """A hash of everything that a program is proved and built from: its crates and their dependencies, with definitions and proofs."""
     uses, needed, left = crates(), set(), [program]
     while left:
         crate = left.pop()
@@ -56,7 +56,7 @@ def proved_sources(program):
 
 @functools.cache
 def crates():
-    """Each crate with the libraries that it uses, the lower ones first."""
+    """Each crate with the libraries that it uses, lower crates first."""
     lines = [line.split("#")[0].partition(":") for line in read("crates.txt").splitlines()]
     uses = {head.split()[0]: rest.split() for head, _, rest in lines if head.strip()}
     ordered = {}
@@ -78,14 +78,14 @@ def blank(match):
 
 @functools.cache
 def stripped(path):
-    """A file with its comments, and what stands in quotes, as blanks."""
+    """A file with its comments and quoted texts replaced by blanks."""
     comment = r"--[^\n]*" if path.endswith(".antt") else r"//[^\n]*"
     return re.sub(rf'"(?:[^"\\\n]|\\.)*"|{comment}', blank, read(path))
 
 
 @functools.cache
 def imports(path):
-    """Each name that a file brings in, with the module and the name there; of a whole module the name is empty."""
+    """Each name that a file imports, with the module and the name there; for a whole module the name is empty."""
     found = {}
     before = r"^\s*(?:pub )?use" if path.endswith(".antt") else r"^\s*ghost use"
     for line in re.findall(rf"{before} ([^;\n]+)", stripped(path), re.M):
@@ -109,13 +109,13 @@ class Definition:
 
 
 def head_of(line, width):
-    """What of a line begins a definition: its leading words and its name; None where the line doesn't begin one."""
+    """The leading words and the name of a definition that begins on this line; None if none does."""
     match = re.match(rf" {{{width}}}({WORDS})({NAME})(?= |$)(.*)", line)
     if not match or match[2] in ("use", "module", "mod", "open", "where", "unfolding", "with"):
         return None
     if match[1]:
         return match[1].split(), match[2]
-    # Brackets are left out: a clause has parameters and then an equals sign, a signature a colon first.
+    # Ignores brackets: a clause has parameters before an equals sign, a signature has a colon first.
     flat, inner = match[3], None
     while inner != flat:
         inner, flat = flat, re.sub(r"\([^()]*\)|\{[^{}]*\}|\[[^\[\]]*\]", "", flat)
@@ -125,7 +125,7 @@ def head_of(line, width):
 
 @functools.cache
 def definitions(path):
-    """The definitions of a file, in order; those of `module` blocks too, which may stand in one another."""
+    """The definitions of a file in order, also those in `module` blocks, which may be nested."""
     found, comment, widths, block = [], [], [0], None
     for number, (line, code) in enumerate(zip(read(path).splitlines(), stripped(path).splitlines()), 1):
         if not code.strip():
@@ -154,18 +154,18 @@ def definitions(path):
 
 
 def module_of(path):
-    """The name by which others bring in a file of definitions or of proofs."""
+    """The name by which others import a file of definitions or of proofs."""
     return "Rattle." + os.path.splitext(path)[0].removeprefix("crates/").replace("/", ".")
 
 
 def names_in(definition):
-    """The names that a definition's text cites, its own left out."""
+    """The names that a definition's text cites, without its own."""
     text = "\n".join(code for _, code in definition.text)
     return set(CITED.findall(text)) - {definition.name}
 
 
 def statement(definition):
-    """What a lemma states, with its variables numbered; None where the definition is no lemma about variables."""
+    """What a lemma states, with its variables numbered; None if the definition isn't a lemma about variables."""
     text = " ".join(code.strip() for _, code in definition.text)
     name = rf"(?<![\w'.-]){re.escape(definition.name)}(?![\w'-])"
     _, _, said = re.split(rf"({name})", text, maxsplit=1)
@@ -187,7 +187,7 @@ def defining(crate, kept):
 
 @functools.cache
 def type_at(module):
-    """The path and the line of the code's type that a module `declared` stands for."""
+    """The path and the line of the type of the code that a module `declared` refers to."""
     _, crate, _, _, *inside = module.removesuffix(".TheVariants").split(".")
     name = inside.pop()
     for depth in range(len(inside), -1, -1):
@@ -201,7 +201,7 @@ def type_at(module):
 
 
 def constant_in(path, name):
-    """The line of a constant of the code in a file."""
+    """The line of a constant in a file of code."""
     for number, line in enumerate(stripped(path).splitlines(), 1):
         if re.match(rf"\s*(pub(\(\w+\))? )?const {name}\b", line):
             return number
@@ -209,7 +209,7 @@ def constant_in(path, name):
 
 
 def constant_at(module, name):
-    """The path and the line of a constant that a module `declared` stands for."""
+    """The path and the line of a constant that a module `declared` refers to."""
     _, crate, _, _, *inside, _ = module.split(".")
     for stem in ["/".join(inside)] if inside else ["lib", "main"]:
         path = f"crates/{crate}/src/{stem}.rt"

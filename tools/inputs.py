@@ -1,5 +1,5 @@
-"""What the tools for paper and signatures are given, and how they end: files of at most so many bytes, one line where something can't be used,
-and what `confere` says of a report."""
+"""Inputs of the tools for paper and signatures, and how the tools end: size limits of files, one line for an input that can't be used,
+and the verdict of `confere` on a report."""
 
 import argparse
 import os
@@ -13,17 +13,17 @@ import visible
 
 TOP = os.path.dirname(os.path.dirname(os.path.abspath(__file__)))
 BUILT = os.path.join(TOP, "crates", "urna_app", "out", "urna_app")
-# The most bytes of each file (docs/FORMATS.md, "Limits").
+# The maximum size of each file in bytes (docs/FORMATS.md, "Limits").
 MOST_TABLES, MOST_ROLL, MOST_REPORT, MOST_LIST = 4_194_304, 16_384, 1_048_576, 1_048_576
 MOST_NAMES, LONGEST_NAME = 4_096, 255
-# How a tool ends where what it was given is refused, and where it can't be used, or a program that the tool needs isn't there.
+# The status of a tool for a refused input, and for an input that can't be used or a required program that is missing.
 REFUSED, UNUSABLE = 1, 2
-# How long another program may take, in seconds.
+# The time limit of another program, in seconds.
 LONGEST = 120
 
 
 class Stopped(Exception):
-    """Why a tool ends before it is done, in one line, and its status."""
+    """Why a tool stops early, in one line, and its status."""
 
     def __init__(self, why, status=UNUSABLE):
         super().__init__(visible.visible(why))
@@ -31,7 +31,7 @@ class Stopped(Exception):
 
 
 class Parser(argparse.ArgumentParser):
-    """Words of no form end the tool as other faults do."""
+    """Invalid arguments end the tool as other faults do."""
 
     def error(self, message):
         raise Stopped(f"uso: {self.usage}")
@@ -42,7 +42,7 @@ def tell(line):
 
 
 def run_tool(main):
-    """Ends the process with what a tool answers, or with one line that says why it isn't done."""
+    """Ends the process with the status of a tool, or with one line that says why it stopped."""
     try:
         sys.exit(main())
     except Stopped as stopped:
@@ -55,7 +55,7 @@ def run_tool(main):
 
 
 def want_plain(path):
-    """A name that can be told in one line, and stand in a list."""
+    """A name that can be printed in one line and listed."""
     if visible.visible(path) != path:
         raise Stopped(f"{path}: um nome com caracteres que não se veem não é tomado")
 
@@ -78,14 +78,14 @@ def taken(path, most):
 
 
 def want_new(path):
-    """A name that no file has."""
+    """An unused file name."""
     want_plain(path)
     if os.path.lexists(path):
         raise Stopped(f"{path}: já existe, e não é substituído")
 
 
 def put(path, data):
-    """Writes a file under a name that no other one has."""
+    """Writes a file under an unused name."""
     want_plain(path)
     try:
         with open(path, "xb") as file:
@@ -97,7 +97,7 @@ def put(path, data):
 
 
 def ran(words, data=b"", folder=None, **environment):
-    """Another program, with these bytes on its standard input."""
+    """Runs another program with these bytes on its standard input."""
     try:
         return subprocess.run(words, input=data, cwd=folder, capture_output=True, timeout=LONGEST, env={**os.environ, **environment})
     except FileNotFoundError:
@@ -109,7 +109,7 @@ def ran(words, data=b"", folder=None, **environment):
 
 
 def program_of(asked):
-    """The program that is asked for; or else the one that was built here, or the installed one."""
+    """The named program, else the one built here or the installed one."""
     return os.path.abspath(asked) if asked else BUILT if os.access(BUILT, os.X_OK) else "urna"
 
 
@@ -118,7 +118,7 @@ def add_program(parser):
 
 
 def confere(program, tables, report):
-    """The status of `confere` of these bytes, and its line."""
+    """The status and the line of `confere` for these bytes."""
     with tempfile.TemporaryDirectory(prefix="urna-confere-") as folder:
         put(os.path.join(folder, "tabelas"), tables)
         put(os.path.join(folder, "boletim"), report)
@@ -127,7 +127,7 @@ def confere(program, tables, report):
 
 
 def verdict(program, tables, report):
-    """The verdict of `confere` on a report under these tables, which are those of an election, in words."""
+    """The verdict of `confere` on a report under these tables of an election, in words."""
     status, line = confere(program, tables, report)
     if status in (0, 7):
         return line.split(" ")

@@ -1,8 +1,8 @@
-"""What `urna_ledger` answers in the script `ledger` (crates/session_tests), worked out by a model of its own: docs/FORMATS.md, "Parts", "Verdicts",
-"Totals" and "The ledger", and docs/CRASH.md, "Slots" and "Four slots".
+"""A model of what `urna_ledger` prints in the script `ledger` (crates/session_tests), by docs/FORMATS.md, "Parts", "Verdicts", "Totals"
+and "The ledger", and docs/CRASH.md, "Slots" and "Four slots".
 
-`other_answers` gives the lines of the script under which another answer stands. Left out are commands of `urna`, the chains, and what stands behind
-bytes that the script sets, up to the next flashes that are known.
+`other_answers` returns the lines of the script with another answer. It leaves out the commands of `urna`, the chains, and everything
+after bytes that the script sets, until the flashes are known again.
 """
 
 import contextlib
@@ -18,18 +18,18 @@ DEVICES, FLASHES = ("internal", "external"), ("INTERNA", "EXTERNA")
 SLOTS = [(dev, slot) for dev in (0, 1) for slot in (0, 1)]
 PAGE, BODY = 512, 262144
 SHUT, OPEN, TORN = 0x5A, 0xA5, None
-# What stands in a torn gate: what was put, or a byte; the last is that of the kept flashes, which are at rest.
+# The contents of a torn gate: the new byte, or some byte; the last entry is for the kept flashes, which are at rest.
 WAYS = (("whole", None), ("00", 0), ("5A", SHUT), ("A5", OPEN), ("later", OPEN))
 NO_FAULTS = {"room": [1500000], "fails": [], "takes": []}
 LIMITS = {"TABELAS": 4194304, "LISTA": 1048576, "BOLETIM": 1048576, "CERTIFICADO": 1048576}
 
 
 class End(Exception):
-    """A command ends with this number."""
+    """Ends a command with this status."""
 
 
 def fault_of(text):
-    """The first fault of a file's hashes, of its counts with a zero in front or of its sums of an office, which are all that the script has."""
+    """The first fault of a file: in its hashes, in a count with a leading zero, or in its sums of an office. The script has no others."""
     before, fields = "", []
     for i, line in enumerate(text.splitlines(), 1):
         part, _, said = line.rpartition(" HASH:")
@@ -66,7 +66,7 @@ class Tables:
         return [(code, it) for code, candidates, parties in self.panels for it in [*candidates, *parties, "BRAN", "NULO"]]
 
     def place(self, text):
-        """The place of the section of a report that fits."""
+        """The place of the section of a report that fits the tables."""
         votes = {choice for choice, count in federations.sums_of(fields_of(text)).items() if count}
         offices = [int(it) for it in re.findall(r" CARG:(\d+)", text)]
         fits = offices == [code for code, _, _ in self.panels] and votes <= set(self.choices()) and self.head in text
@@ -87,7 +87,7 @@ class Ledger:
         return isinstance(other, Ledger) and (self.hashes, self.sums) == (other.hashes, other.sums)
 
     def offer(self, tables, text):
-        """The verdict on a file, and the ledger behind it."""
+        """The verdict on a file, and the ledger after it."""
         fault = fault_of(text)
         place = None if fault else tables.place(text)
         if place is None:
@@ -122,7 +122,8 @@ class Ledger:
 
 
 class Flash:
-    """A device: the tables' hash in its frame; of each slot its gate, and the ledger under it, which may be torn; and which gate isn't synced."""
+    """A device: the tables' hash in its frame; for each slot its gate and the ledger under it, which may be torn; and which gate isn't
+    synced."""
 
     def __init__(self):
         self.frame, self.gates, self.held, self.dirty = None, [0, 0], [TORN, TORN], None
@@ -149,7 +150,7 @@ class Flash:
 
 
 def cut(flashes, byte):
-    """What a power cut leaves where a gate that isn't synced has this byte, or what was put."""
+    """What a power cut leaves if an unsynced gate has this byte, or its new one."""
     left = copy.deepcopy(flashes)
     for flash in left:
         if flash.dirty is not None and byte is not None:
@@ -159,17 +160,17 @@ def cut(flashes, byte):
 
 
 def alone(flashes, dev):
-    """One device, beside the other one with its gates shut."""
+    """One device, next to the other one with its gates shut."""
     left = copy.deepcopy(flashes)
     left[1 - dev].gates = [0, 0]
     return left
 
 
-# A step is the bytes that it takes, its device, what it does, and the slot and the value of that.
+# A step is the number of its bytes, its device, its operation, and the slot and the value of the operation.
 
 
 def slot_steps(dev, slot, is_open, ledger, sizes):
-    """The steps that bring a slot to a ledger: it is shut where it is open, written in pieces of these sizes, and opened."""
+    """The steps that bring a slot to a ledger: shut it if it is open, write it in pieces of these sizes, open it."""
     sync = (0, dev, "sync", None, None)
     shut = [(1, dev, "gate", slot, SHUT), sync] if is_open else []
     pieces = [(size, dev, "body", slot, TORN) for size in sizes[:-1]] + [(sizes[-1], dev, "body", slot, ledger)]
@@ -177,14 +178,14 @@ def slot_steps(dev, slot, is_open, ledger, sizes):
 
 
 def commit_steps(tables, old, new):
-    """A commit writes the pages that differ."""
+    """Commits: writes the pages that differ."""
     one, other = old.body(tables), new.body(tables)
     sizes = [PAGE for at in range(0, BODY, PAGE) if one[at : at + PAGE] != other[at : at + PAGE]]
     return [step for dev, slot in SLOTS for step in slot_steps(dev, slot, True, new, sizes)]
 
 
 def heal_steps(flashes, found):
-    """Slots that don't stand with the found ledger are written anew."""
+    """Rewrites the slots that don't hold the found ledger."""
     for dev, slot in SLOTS:
         stands = flashes[dev].stands(slot)
         if not stands or flashes[dev].held[slot] != found:
@@ -205,7 +206,7 @@ def load_steps(tables, flashes):
 
 
 class Run:
-    """A command over flashes and files: the steps that it did, what it showed, the number with which it ended, and the flashes that it left."""
+    """A command over flashes and files: its steps, its output, its status, and the flashes that it leaves."""
 
     def __init__(self, words, flashes, files, faults=NO_FAULTS):
         self.start, self.left, self.files = flashes, copy.deepcopy(flashes), files
@@ -223,7 +224,7 @@ class Run:
         forms[words[0]][0](*words[1:])
 
     def do(self, size, dev, what, slot, value):
-        """A step, or the half of it where it finds no room, or where the call of its number fails; no read comes before a call that fails so."""
+        """Does a step, or half of it if there is no room or the call of its number fails. No read comes before such a call."""
         if len(self.done) in self.fails or size > self.room:
             if what == "show":
                 self.shown += value[: min(size // 2, self.room)]
@@ -248,13 +249,13 @@ class Run:
         self.do(len(line) + 1, None, "show", None, line + "\n")
 
     def refuse(self, line, code):
-        """A fault of the display leaves the number as it is."""
+        """A fault of the display leaves the number unchanged."""
         with contextlib.suppress(End):
             self.show(line)
         raise End(code)
 
     def call(self):
-        """A call of the cabinet, which fails where its number is to fail."""
+        """A call of the cabinet, which fails if its number is to fail."""
         self.taken += 1
         if self.taken - 1 in self.takes:
             raise End(20)
@@ -343,13 +344,13 @@ class Run:
 
 
 def told(words, flashes, files):
-    """What a command tells over both flashes, and over each alone where that is something else."""
+    """What a command prints over both flashes, and over each one alone if that differs."""
     both, internal, external = (Run(words, it, files).shown.rstrip("\n") for it in (flashes, alone(flashes, 0), alone(flashes, 1)))
     return both if both == internal == external else f"{both}; internal {internal}; external {external}"
 
 
 def stops(run, words, files):
-    """What `stops` prints of a command."""
+    """What `stops` prints for a command."""
     answers = []
     for count in range(len(run.done) + 1):
         text, before = "", None
@@ -377,7 +378,7 @@ def hashed(text):
 
 
 class Play:
-    """The script as far as it is gone: what it gave, kept, and ran last. The flashes are `None` where they aren't known."""
+    """The state of the script so far: its files, its kept flashes, and its last command. The flashes are `None` if they aren't known."""
 
     def __init__(self):
         self.files, self.kept, self.flashes = {}, {}, None
@@ -393,7 +394,7 @@ class Play:
         return Run(self.words, self.last.start, files, self.faults).answer()
 
     def step(self, line):
-        """What must come under a line; `None` where the model doesn't say."""
+        """The expected text under a line; `None` if the model doesn't cover it."""
         word, *rest = line.split(" ")
         if word in ("file", "text", "long", "none", "edit"):
             scripts.give(self.files, line)
@@ -434,13 +435,13 @@ class Play:
 
 
 def others(script, play):
-    """The lines of a script under which another answer stands than that of a model that plays it."""
+    """The lines of a script whose answer differs from that of a model that plays it."""
     count = 0
     for number, line, came in scripts.steps_of(script):
         wanted = None if line.startswith("#") else play.step(line)
         count += wanted is not None
         if wanted is not None and came != wanted:
-            yield f"{scripts.CRATE}/stdout:{number}: another answer than that under `{line}`"
+            yield f"{scripts.CRATE}/stdout:{number}: the answer under `{line}` differs from the model's"
     if not count:
         yield f"{scripts.CRATE}/stdout: the script {script} has no answer"
 

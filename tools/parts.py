@@ -1,4 +1,4 @@
-"""The file of a field text, made by the rules of docs/FORMATS.md ("Parts")."""
+"""Makes the file of a field text by docs/FORMATS.md, "Parts"."""
 
 import hashlib
 

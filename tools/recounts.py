@@ -1,7 +1,7 @@
-"""What `reconta` answers in the script `recounts` (crates/session_tests), worked out from its files by a reader of its own: docs/FORMATS.md,
-"Record text", and docs/RULES.md, "The recount".
+"""A model of what `reconta` prints in the script `recounts` (crates/session_tests), with a reader of its own for the files:
+docs/FORMATS.md, "Record text", and docs/RULES.md, "The recount".
 
-`other_answers` gives the lines of the script under which another answer stands.
+`other_answers` returns the lines of the script with another answer.
 """
 
 import hashlib
@@ -21,7 +21,7 @@ KINDS = ("NOMINAL", "LEGENDA", "BRANCO", "NULO")
 
 
 class Fault(Exception):
-    """A line that may not stand where it stands, by its number."""
+    """An invalid line, by its number."""
 
 
 class Lines:
@@ -30,7 +30,7 @@ class Lines:
         self.read = 0
 
     def next(self):
-        """The next line; at fault where the text ends before it, or it has no line feed."""
+        """The next line; invalid if the text has ended or the line has no line feed."""
         self.read += 1
         if self.read > len(self.whole):
             raise Fault(self.read)
@@ -43,12 +43,12 @@ class Lines:
 
 
 def is_date(digits):
-    """A year, a month and a day, with no calendar (docs/RULES.md, "Numbers, dates and moments")."""
+    """Reads a year, a month and a day, without a calendar (docs/RULES.md, "Numbers, dates and moments")."""
     return int(digits[:4]) >= 1000 and 1 <= int(digits[4:6]) <= 12 and 1 <= int(digits[6:]) <= 31
 
 
 def vote_of(code, line):
-    """A vote as its kind and its number, which are in the order of choices; nothing where it is none of the office."""
+    """A vote as its kind and its number, in the order of choices; None if it isn't a vote of the office."""
     match = VOTE.fullmatch(line)
     if not match:
         return None
@@ -59,7 +59,7 @@ def vote_of(code, line):
 
 
 def read_record(text):
-    """The heading and the offices of a record, each with the number of lines of each choice; `Fault` where the text is none."""
+    """The heading and the offices of a record, with the number of lines of each choice; `Fault` if the text is invalid."""
     lines = Lines(text)
     lines.must(lines.next() == b"RDV U1")
     heading = lines.must(HEADING.fullmatch(lines.next()))
@@ -81,7 +81,7 @@ def read_record(text):
 
 
 def read_report(text):
-    """The same of the fields of a report, whose sums are right."""
+    """The same for the fields of a report, whose sums are right."""
     fields = fields_of(text)
     heading, offices = [], {}
     for key, value in fields:
@@ -103,7 +103,8 @@ def fields_of(text):
 
 
 def is_report(text, is_hashed):
-    """Whether a file of one part is that of a report: its hash is right, if it wasn't made anew, and so are the sums that the script changes."""
+    """Whether a file of one part is that of a report: its hash is right, unless it was recomputed, and so are the sums that the script
+    changes."""
     if not is_hashed:
         part, _, said = text.removesuffix("\n").rpartition(" HASH:")
         if hashlib.sha512(part.encode()).hexdigest().upper() != said:
@@ -115,7 +116,7 @@ def is_report(text, is_hashed):
     votes = [[sum(it for (kind, _), it in office.items() if kind == k) for office in offices] for k in range(4)]
     totals = [sum(office.values()) for office in offices]
     right = said[0] == votes[0] and sum(said[1]) == sum(votes[1]) and said[4] == totals == [came] * len(totals)
-    # The totals of parties stand in this order: a party's candidates and its own votes, and then what is said of both.
+    # The order of the totals of parties: a party's candidates, its own votes, and then the sums of both.
     party, parties = 0, []
     for key, value in fields:
         if key == "PART":
@@ -128,13 +129,13 @@ def is_report(text, is_hashed):
 
 
 def is_recount(line, words, files, faults):
-    """Whether a line is of a recount of a report and some text, in which no call fails."""
+    """Whether a line recounts a report and a text without a failing call."""
     there = len(words) == 3 and words[0] == "reconta" and all(len(files.get(it, "0" * LIMIT + "0")) <= LIMIT for it in words[1:])
     return there and not any(faults) and is_report(files[words[1]], line.startswith("anew "))
 
 
 def answer(report, record):
-    """The line that `reconta` shows, with its number where it isn't 0."""
+    """The line that `reconta` prints, with its status if it isn't 0."""
     try:
         heading, offices = read_record(record)
     except Fault as fault:
@@ -156,7 +157,7 @@ def answer(report, record):
 
 
 def runs(answers):
-    """Answers of one place after another, of which equal ones are one line."""
+    """Answers for one place after another; equal neighbours are one line."""
     first = 0
     for at in range(len(answers)):
         if at + 1 == len(answers) or answers[at + 1] != answers[at]:
@@ -165,7 +166,7 @@ def runs(answers):
 
 
 def turned(answer, text, at):
-    """The answers where a byte is changed in each bit, of which only those that are others than the one before are told."""
+    """The answers when each bit of a byte is changed, each printed only if it differs from the one before."""
     told, before = "", None
     for bit in (1 << k for k in range(8)):
         one = answer(text[:at] + bytes([text[at] ^ bit]) + text[at + 1 :])
@@ -176,7 +177,7 @@ def turned(answer, text, at):
 
 
 def answers(answer, text):
-    """What `answers` prints of a text: cut at each length, and then changed in each bit."""
+    """What `answers` prints for a text: cut at each length, and then with each bit changed."""
     places = range(len(text))
     return [*runs([answer(text[:at]) for at in places]), *runs([turned(answer, text, at) for at in places])]
 
@@ -192,6 +193,6 @@ def other_answers():
         wanted = answers(lambda it: answer(report, it), record) if line.startswith("answers ") else answer(report, record).split(" = ")
         found = [it.removeprefix("= ") for it in came]
         if found != wanted:
-            yield f"{scripts.CRATE}/stdout:{number}: another answer than that under `{line}`"
+            yield f"{scripts.CRATE}/stdout:{number}: the answer under `{line}` differs from the model's"
     if not count:
         yield f"{scripts.CRATE}/stdout: the script recounts has no recount"

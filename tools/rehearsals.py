@@ -1,6 +1,7 @@
-"""The rehearsal of docs/FORMATS.md, "The rehearsal", worked out by the rules: who comes, what is typed, the report's text, the seats and the lines.
+"""The rehearsal of docs/FORMATS.md, "The rehearsal", computed by the rules: who comes, what is typed, the report's text, the seats and
+the lines.
 
-`other_rows` gives the numbers of voters for which the scripts of crates/session_tests have other lines.
+`other_rows` returns the numbers of voters for which the scripts of crates/session_tests have other lines.
 """
 
 import re
@@ -11,7 +12,7 @@ import seats
 
 PARTIES = range(10, 30)
 SEATS = 9
-# For so many numbers of voters a script has the lines (docs/PROVED.md).
+# How many numbers of voters have lines in a script (docs/PROVED.md).
 NUMBERS = 9
 ROW = re.compile(r"^urna ensaio (\d+)\n(    ENSAIO .*\n(?:    [A-Z]+ .*\n)+)(?=    \+ )", re.MULTILINE)
 
@@ -84,7 +85,7 @@ class Poll:
         return parts.parts_file(" ".join(self.fields()))
 
     def contest(self):
-        """The contest for councillor, as the rows of crates/seat_tests tell one: each party has 50 candidates."""
+        """The contest for councillor, in the form of the rows of crates/seat_tests: each party has 50 candidates."""
         told = [f"{SEATS} seats"]
         for party in PARTIES:
             votes = [self.councillor[1000 * party + 100 + k] for k in range(50)]
@@ -106,7 +107,7 @@ class Poll:
             yield "CARGO 13 ELEITOS"
 
     def mayor_lines(self):
-        # More votes first; of equals, all born on one day, the lower number.
+        # More votes first; among equals, all born on one day, the lower number.
         ranked = sorted(self.numbers(self.mayor), key=lambda n: (-self.mayor[n], n))
         valid = sum(self.mayor[n] for n in ranked)
         yield f"CARGO 11 VALIDOS {valid} BRANCOS {self.mayor['blank']} NULOS {self.mayor['null']}"
@@ -126,7 +127,7 @@ class Poll:
 def other_rows(text):
     rows = ROW.findall(text)
     if len({voters for voters, _ in rows}) != NUMBERS:
-        yield f"{len(rows)} rehearsals are found, not of {NUMBERS} numbers of voters"
+        yield f"{len(rows)} rehearsals found, expected {NUMBERS}, each with another number of voters"
     for voters, told in rows:
         if Poll(int(voters)).lines() != re.sub(r"^    ", "", told, flags=re.MULTILINE):
             yield f"{voters} voters: the rules give {Poll(int(voters)).lines()!r}"

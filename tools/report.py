@@ -1,4 +1,4 @@
-"""The text of a report that `confere` accepts, read for who shows it (docs/FORMATS.md, "Report text" and "Parts")."""
+"""Reads the text of a report that `confere` accepts, for tools that show it (docs/FORMATS.md, "Report text" and "Parts")."""
 
 import re
 from typing import NamedTuple
@@ -7,7 +7,7 @@ PART = re.compile(r"QRBU:([1-9]\d{0,5}):([1-9]\d{0,5}) VRQR:\S+ (\S.*) HASH:([0-
 
 
 class Office(NamedTuple):
-    """An office: its code, the votes in the order of the text, each as its field, and the fields behind them."""
+    """An office: its code, the votes in the order of the text, each as its field, and the fields after them."""
 
     code: int
     votes: list
@@ -15,7 +15,7 @@ class Office(NamedTuple):
 
 
 class Report(NamedTuple):
-    """The lines of the parts without their line feeds, the fields in front of the offices, and the offices."""
+    """The lines of the parts without their line feeds, the fields before the offices, and the offices."""
 
     lines: list
     head: dict
@@ -27,7 +27,7 @@ def fields_of(lines):
 
 
 def read(data):
-    """The report of a file, which is accepted."""
+    """The report of an accepted file."""
     lines = data.decode("ascii").split("\n")[:-1]
     head, offices = {}, []
     for key, value in fields_of(lines):

@@ -1,6 +1,7 @@
 #!/usr/bin/env python3
-"""The scripts of cases, which stand in one with what must come of them in `stdout` of `session_tests`: a script begins at each line
-`# NAME: ..`, and has each line that isn't four places in. With `--split` they are written from it, and their names into `args`.
+"""The scripts of cases. `stdout` of `session_tests` has all of them in one text, with their expected output: a script begins at each
+line `# NAME: ..`, and its lines are those that aren't indented by four spaces. `--split` writes the scripts from it, and their names
+into `args`.
 """
 
 import os
@@ -29,7 +30,7 @@ def split():
 
 
 def steps_of(script):
-    """Each line of a script with the lines that come of it, and its number in the expected text."""
+    """Each line of a script with its expected output, and its number in the expected text."""
     steps, is_ours = [], False
     for number, line in enumerate(house.read(f"{CRATE}/stdout").splitlines(), 1):
         if re.match(r"# [a-z]+: ", line):
@@ -46,7 +47,7 @@ def piece(text):
 
 
 def edited(text, changes):
-    """A text with the changes of a line of a script (docs/FORMATS.md, "Scripts of cases")."""
+    """A text with the changes that a line of a script makes (docs/FORMATS.md, "Scripts of cases")."""
     for change in changes.split(" | "):
         old, new = change.split(" => ")
         if " .. " in old:
@@ -61,7 +62,7 @@ def edited(text, changes):
 
 
 def give(files, line):
-    """Places, changes or takes away a file, where a line of a script does so."""
+    """Adds, changes or removes a file, if a line of a script does so."""
     word, name, rest = (line.split(" ", 2) + ["", ""])[:3]
     if word == "file":
         files[name] = house.read(f"{CRATE}/data/{rest}")
@@ -76,8 +77,8 @@ def give(files, line):
 
 
 def asked(script):
-    """Each line of a script that runs a command, or runs the last one again: its number, the line, what comes of it, the words of the command,
-    the texts of the files that it is given, of which `anew` makes no hashes, and which of its calls fail."""
+    """Each line of a script that runs a command, or runs the last one again: its number, the line, its output, the words of the command,
+    the texts of its files, for which `anew` recomputes no hashes, and which of its calls fail."""
     files, last, faults = {}, [], {}
     for number, line, came in steps_of(script):
         word, name, rest = (line.split(" ", 2) + ["", ""])[:3]
@@ -98,18 +99,18 @@ def args_of(scripts):
 
 
 def findings():
-    """What of the scripts isn't as the expected text has it, what of their folder none of them gives, and what the expected text tells of
-    stops that may not be."""
+    """Scripts that differ from the expected text, files of their folder that no script uses, and stops in the expected text that are
+    impossible."""
     scripts = split()
     if args_of(scripts) != house.read(f"{CRATE}/args") or len(dict(scripts)) != len(scripts):
-        yield f"{CRATE}/args: other scripts than those of stdout, or in another order"
+        yield f"{CRATE}/args: not the scripts of stdout in their order: run tools/scripts.py --split"
     given = set(re.findall(r"^file \S+ (\S+)$", "".join(text for _, text in scripts), re.M))
     there = {os.path.basename(path): path for path in house.files("", below=f"{CRATE}/data")}
     for name, text in scripts:
         if name not in there or house.read(there[name]) != text:
-            yield f"{CRATE}/data/{name}: other lines than in stdout"
+            yield f"{CRATE}/data/{name}: not the lines of stdout: run tools/scripts.py --split"
     for name in sorted(set(there) - given - set(dict(scripts))):
-        yield f"{there[name]}: no script gives it"
+        yield f"{there[name]}: no script uses it"
     for line in stops.violations(house.read(f"{CRATE}/stdout")):
         yield f"{CRATE}/stdout: {line}"
 

@@ -1,6 +1,6 @@
-"""The seat law of docs/RULES.md, "The seats", with fractions: what comes of a contest that is told as the rows of crates/seat_tests tell it.
+"""The seat law of docs/RULES.md, "The seats", with fractions: the outcome of a contest in the form of the rows of crates/seat_tests.
 
-`other_rows` gives the rows whose outcome is another than the law's.
+`other_rows` returns the rows whose outcome isn't the law's.
 """
 
 import re
@@ -12,7 +12,8 @@ BIRTH = "19600101"
 
 
 class Party:
-    """One contestant, which may be a federation too: its number, its party votes, and of each candidate the votes, the birth and the number."""
+    """One contestant, which may also be a federation: its number, its party votes, and for each candidate the votes, the birth and the
+    number."""
 
     def __init__(self, number, votes, candidates):
         self.number, self.seats = number, 0
@@ -21,11 +22,11 @@ class Party:
         self.votes = votes + sum(nominal for nominal, _, _ in candidates)
 
     def has_left(self, least):
-        """Whether a candidate without a seat has so many votes."""
+        """Whether a candidate without a seat has at least this many votes."""
         return any(-nominal >= least for nominal, _, _ in self.candidates[self.seats :])
 
     def rank(self):
-        """The greatest average comes first, then more votes, then the lower number."""
+        """The highest average comes first, then more votes, then the lower number."""
         return (-Fraction(self.votes, self.seats + 1), -self.votes, self.number)
 
     def elected(self):
@@ -51,8 +52,8 @@ def contest_of(told):
 
 
 def first_phase(seats, parties):
-    """Gives the parties the seats of the first phase. The electoral quotient comes back."""
-    # The nearest whole number, the lower one at a half.
+    """Gives the parties the seats of the first phase. Returns the electoral quotient."""
+    # The nearest whole number; at a half the lower one.
     quotient = -((seats - 2 * sum(party.votes for party in parties)) // (2 * seats))
     for party in parties if quotient else []:
         able = sum(-nominal >= Fraction(quotient, 10) for nominal, _, _ in party.candidates)
@@ -71,7 +72,7 @@ def told_averages(compete):
 
 
 def give_rest(seats, parties, quotient):
-    """Gives the seats that remain. Of each the phase, the number of the party and the averages that compete come back."""
+    """Gives the remaining seats. Returns for each the phase, the number of the party and the averages that compete."""
     rounds = []
     for _ in range(seats - sum(party.seats for party in parties)):
         phase, compete = next_round(parties, quotient)
@@ -100,7 +101,7 @@ def outcome(contest):
 
 
 def averages(contest):
-    """The averages that the seats of the second phase are taken from, each as votes/divisor>party."""
+    """The averages from which the seats of the second phase are taken, each as votes/divisor>party."""
     seats, parties = contest_of(contest)
     quotient = first_phase(seats, parties)
     table, left = [], seats - sum(party.seats for party in parties)
@@ -113,10 +114,10 @@ def averages(contest):
 
 
 def other_lists(text, name, list_of):
-    """The rows of a contest and a list whose list is another."""
+    """The rows of a contest and a list whose list differs."""
     rows = TABLE.findall(text)
     if not rows:
-        yield f"no row of {name} is found"
+        yield f"found no row of {name}"
     for contest, told in rows:
         if list_of(contest) != told:
             yield f"{contest!r}: the {name} are {list_of(contest)!r}"
@@ -126,7 +127,7 @@ def other_rows(text):
     contests = re.sub(r"\\\n\s*", "", text.split("MAJORITIES", 1)[0])
     rows = ROW.findall(contests)
     if not rows:
-        yield "no row is found"
+        yield "found no row"
     for name, contest, told in rows:
         if outcome(contest) != told:
             yield f"{name!r}: the law gives {outcome(contest)!r}"

@@ -1,4 +1,4 @@
-"""Signatures of reports, tables, rolls and lists of signers, made and tested by ssh-keygen alone (OpenSSH, -Y)."""
+"""Signatures of reports, tables, rolls and lists of signers, made and tested only by ssh-keygen (OpenSSH, -Y)."""
 
 import os
 import re
@@ -12,7 +12,7 @@ KEYGEN = "ssh-keygen"
 MOST_KEY, MOST_SIGNATURE, MOST_SIGNERS = 65_536, 65_536, 16_777_216
 SIGNER = re.compile(rb'[^\s#]\S* (?:\S*"[^"\n]*"\S* |\S+ )?(?:sk-)?(?:ssh|ecdsa)-\S+ \S+.*')
 PUBLIC = re.compile(rb"(?:sk-)?(?:ssh|ecdsa)-\S+ \S+.*")
-# How a list of revoked keys begins that ssh-keygen -k made.
+# The first bytes of a list of revoked keys made by ssh-keygen -k.
 REVOCATIONS = b"SSHKRL\n\0"
 
 
@@ -25,7 +25,7 @@ def lines_of(data):
 
 
 def tables_in(data):
-    """The tables of an election, by their keys."""
+    """The tables of an election, by key."""
     try:
         read = tomllib.loads(data.decode())
     except (ValueError, RecursionError):
@@ -34,7 +34,7 @@ def tables_in(data):
 
 
 def kind_of(data):
-    """What of all that is signed a file is, by its content; None where it is nothing of it."""
+    """Which kind of signed file this is, by its content; None if it is none of them."""
     lines = lines_of(data)
     if data.startswith(b"QRBU:"):
         return "boletim"
@@ -46,19 +46,19 @@ def kind_of(data):
 
 
 def keygen(*words, data=b""):
-    """A run of ssh-keygen. Times without a zone are in UTC."""
+    """Runs ssh-keygen. Times without a zone are in UTC."""
     return inputs.ran([KEYGEN, *words], data, TZ="UTC", SSH_ASKPASS_REQUIRE="never")
 
 
 def said(run):
-    """The last that ssh-keygen said of a fault."""
+    """The last line that ssh-keygen printed about a fault."""
     lines = (run.stderr or run.stdout).decode(errors="replace").split("\n")
     return next((it.strip() for it in reversed(lines) if it.strip()), f"termina com {run.returncode}")
 
 
 def signed(data, kind, key):
     """The signature of these bytes."""
-    # A name that begins with a dash is no word of ssh-keygen.
+    # A name that begins with a dash must not be read as an option of ssh-keygen.
     run = keygen("-Y", "sign", "-q", "-n", namespace(kind), "-f", os.path.abspath(key), data=data)
     if run.returncode != 0 or not run.stdout.startswith(b"-----BEGIN SSH SIGNATURE-----"):
         raise Stopped(f"{key}: ssh-keygen não assina: {said(run)}")
@@ -66,7 +66,7 @@ def signed(data, kind, key):
 
 
 class Election:
-    """The tables, of which the reports must be, and what of them is asked for: the number of the election and the day of the poll."""
+    """The tables that the reports must belong to, and two facts from them: the number of the election and the day of the poll."""
 
     def __init__(self, tables, path, program):
         self.tables, self.program = tables, program
@@ -77,7 +77,7 @@ class Election:
 
 
 def lost_in(path):
-    """The keys that are lost: a list of ssh-keygen -k, or one public key in each line."""
+    """The lost keys: a list of ssh-keygen -k, or one public key per line."""
     data = inputs.taken(path, MOST_SIGNERS)
     if not data.startswith(REVOCATIONS) and not all(PUBLIC.fullmatch(it) for it in lines_of(data)):
         raise Stopped(f"{path}: não é uma lista de chaves perdidas")
@@ -85,7 +85,7 @@ def lost_in(path):
 
 
 class Keys:
-    """The list of signers, and of the keys that are lost, as they were when they were taken."""
+    """The list of signers and of the lost keys, as they were when they were read."""
 
     def __init__(self, signers, lost):
         data = inputs.taken(signers, MOST_SIGNERS)
@@ -107,16 +107,16 @@ class Keys:
         self.folder.cleanup()
 
     def hold(self, signature):
-        """The signature that is tested now."""
+        """The signature under test."""
         with open(self.signature, "wb") as file:
             file.write(signature)
 
     def is_made(self, data):
-        """Whether it is a signature of these bytes, by whatever key."""
+        """Whether it is a signature of these bytes, by any key."""
         return keygen("-Y", "check-novalidate", "-n", namespace("boletim"), "-s", self.signature, data=data)
 
     def owner(self, day):
-        """Whose key it is, in its time."""
+        """Whose key it is, at its time."""
         return keygen("-Y", "find-principals", "-f", self.signers, "-s", self.signature, "-O", f"verify-time={day}Z")
 
     def verify(self, name, day, data, *revoked):
@@ -124,7 +124,7 @@ class Keys:
         return keygen("-Y", "verify", *words, data=data)
 
     def fault(self, name, day, data):
-        """Why a signature isn't that of this name on this day; nothing where it is."""
+        """Why a signature isn't that of this name on this day; None if it is."""
         if self.verify(name, day, data, *(["-r", self.lost] if self.given["lost"] is not None else [])).returncode == 0:
             return None
         made = self.is_made(data)
@@ -140,7 +140,7 @@ class Keys:
 
 
 def fault_of(election, keys, path):
-    """Why a report isn't taken; nothing where it is."""
+    """Why a report isn't accepted; None if it is."""
     data = inputs.taken(path, inputs.MOST_REPORT)
     word, *place = inputs.verdict(election.program, election.tables, data)
     if word != "ACEITO":

@@ -1,13 +1,13 @@
-"""The rule of docs/CRASH.md over what the scripts of cases tell of stops: behind each operation of a session both flashes, and each alone,
-hold the state whose line the display had begun last, or the next; before its first line both hold the state that it found. Behind each
-operation of a replacement the flash that stands holds the one poll, and nothing tells of another one.
+"""Checks the rule of docs/CRASH.md on what the scripts of cases print for stops. After each operation of a session both flashes, and
+each one alone, hold the state whose line the display had begun last, or the next; before its first line both hold the state that it
+found. After each operation of a replacement the remaining flash holds the one poll, and nothing reports another one.
 
-`violations` gives the lines of the expected text of `session_tests` that tell something else.
+`violations` returns the lines of the expected text of `session_tests` that break this rule.
 """
 
 import re
 
-# How many operations the commit has that comes before a line: of a voter, and of the opening or the closing.
+# How many operations the commit before a line has: for a voter, and for the opening or the closing.
 COMMITS = {"FIM": 28, "ABERTA": 24, "ENCERRADA": 24}
 RUN = re.compile(r"    (\d+) to (\d+): (.*)")
 
@@ -17,7 +17,7 @@ def commit_of(line):
 
 
 def states_of(opening, lines):
-    """What a session without presses tells of each state of a session that began with this line."""
+    """What a session without presses prints for each state of a session that began with this line."""
     word, came = opening.split(" ")[1], int(opening.split(" ")[2])
     states = [opening]
     for line in lines:
@@ -29,7 +29,7 @@ def states_of(opening, lines):
 
 
 def begun_by(lines, front, operations):
-    """How many lines, and how many that tell a state, the first operations begin; before all lines come so many others."""
+    """How many lines, and how many that report a state, the first operations begin; the given number of others comes before all lines."""
     at, shown, told = front, 0, 0
     for line in lines:
         at += commit_of(line)
@@ -40,7 +40,7 @@ def begun_by(lines, front, operations):
 
 
 def told_in(text):
-    """What a text tells of both flashes and of each alone, of each way in which torn bytes may stand."""
+    """What a text prints for both flashes and for each one alone, for each way in which bytes may be torn."""
     for way in re.split(r" \| from \w+ on ", text):
         found = re.findall(r"URNA \w+ \d+", way)
         ranks = re.search(r"internal (\S) (\S) external (\S) (\S)", way)
@@ -48,7 +48,7 @@ def told_in(text):
 
 
 def is_kept(text, states, shown, told, first):
-    """Whether each state that is told, and the greatest rank on each flash, is the last one whose line was begun, or the next."""
+    """Whether each printed state, and the greatest rank on each flash, is the last one whose line was begun, or the next."""
     allowed = states[told : told + 2]
     for found, ranks in told_in(text):
         if found and (found[0] not in allowed or (shown and not set(found) <= set(allowed))):
@@ -61,7 +61,7 @@ def is_kept(text, states, shown, told, first):
 
 
 def begun_before(lines, cut):
-    """How far a session is that stopped behind this line, which may be cut to its half, for each place where it may be that."""
+    """How far a session is that stopped after this line, which may be cut to its half, for each possible place."""
     for at, line in enumerate(lines):
         if cut in (line, line[: (len(line) + 1) // 2].rstrip()):
             yield at + 1, sum(bool(commit_of(it)) for it in lines[: at + 1])
@@ -70,7 +70,7 @@ def begun_before(lines, cut):
 
 
 def check_runs(word, runs, session, first):
-    """The lines of one look over a session that tell what may not be."""
+    """The lines of one look over a session that break the rule."""
     opening, lines = session[0], session[1:]
     states = states_of(opening, lines)
     operations = int(runs[-1][1]) + (word == "pieces")
@@ -89,7 +89,7 @@ def check_runs(word, runs, session, first):
 
 
 def check_replacement(runs, line):
-    """The lines of one look over a replacement that tell of another poll than this line and the first of them do."""
+    """The lines of one look over a replacement that report a poll other than that of this line and of the first of them."""
     standing, seen = "INTERNA" in line, {"REPOSTA": line}
     for low, high, text in runs:
         found = re.findall(r"(?:URNA|REPOSTA) [A-Z]+(?: \d+)+", text)
@@ -99,7 +99,7 @@ def check_replacement(runs, line):
 
 
 def violations(expected):
-    """What the expected text tells of the stops of sessions and of replacements and may not be."""
+    """The lines of the expected text that break the rule for stops of sessions and of replacements."""
     session, look, runs, rank = [], "", [], {"PRONTA": 0}
     for line in [*expected.splitlines(), ""]:
         run = RUN.fullmatch(line)

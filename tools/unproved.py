@@ -1,11 +1,11 @@
-"""A program compiled without a proof, by `rt try`, into a file. `rt try` keeps no file of it, but while it runs the program lies as `program` in the
-folder that it runs in, so a changed `main` copies it out. It is instrumented, and so slower."""
+"""Compiles a program without a proof, by `rt try`, into a file. `rt try` keeps no file of it, but while it runs the program is in its
+working folder as `program`, so a changed `main` copies it out. It is instrumented, and therefore slower."""
 
 import os
 import subprocess
 import sys
 
-# The copy finds nothing to copy.
+# In the copied program there is nothing to copy.
 MAIN = """
 fn main(rt: HostRuntime) -> ExitCode {
     let _copied = std::fs::copy(&rt, "program", "COPY");
@@ -15,13 +15,13 @@ fn main(rt: HostRuntime) -> ExitCode {
 
 
 def compile_crate(folder, body, to, name):
-    """Compiles the program of a crate's folder, which is changed, into a file: its `main` copies it, and then does the body."""
+    """Compiles the program of a crate's folder, which is changed, into a file: its `main` copies it and then runs the body."""
     root = os.path.join(folder, "src", "main.rt")
     with open(root) as file:
         before, found, _ = file.read().partition("\nfn main(")
     if not found:
         sys.exit(f"{name} has no main")
-    # What stands above the `main` as its comment is no item's then.
+    # A comment above the `main` belongs to no item then.
     kept = before.rstrip().splitlines()
     while kept and kept[-1].startswith("///"):
         kept.pop()
@@ -29,6 +29,6 @@ def compile_crate(folder, body, to, name):
         file.write("\n".join(kept) + "\n" + MAIN.replace("COPY", to).replace("BODY", body))
     run = subprocess.run(["rt", "try", "--", "nada"], cwd=folder, stdout=subprocess.PIPE, stderr=subprocess.STDOUT, text=True)
     if not os.path.exists(to):
-        sys.exit(f"{run.stdout[-4000:]}\n{name} was not compiled: this kit leaves no program beside a run, so wait for the proof")
+        sys.exit(f"{run.stdout[-4000:]}\n{name} was not compiled: this kit leaves no program beside a run; build the proved program instead")
     os.chmod(to, 0o755)
     return to

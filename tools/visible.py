@@ -1,9 +1,9 @@
-"""Names as they are told and printed: a character that can't be seen, or that turns the text around it, stands there as its number."""
+"""Names as they are printed: an invisible character, or one that reverses the text around it, is shown as its number."""
 
 import tomllib
 import unicodedata
 
-# Unicode's controls, formats, separators of lines and of paragraphs; and what stands for a byte that is no text.
+# Unicode's controls, formats, separators of lines and of paragraphs; and the stand-in for a byte that isn't text.
 HIDDEN = ("Cc", "Cf", "Zl", "Zp", "Cs")
 
 
@@ -16,7 +16,7 @@ def visible(text):
 
 
 def visible_in(told):
-    """An object as it is told, each text in it visible; line feeds stay."""
+    """An object with each text in it made visible; line feeds stay."""
     if isinstance(told, str):
         return "\n".join(map(visible, told.split("\n")))
     if isinstance(told, dict):
@@ -25,7 +25,7 @@ def visible_in(told):
 
 
 def names_of(tables):
-    """Each name of the tables, by what it is the name of; nothing where they are none."""
+    """Each name of the tables, by what it is the name of; empty if they aren't tables."""
     try:
         read = tomllib.loads(tables.decode())
         found = {("partido", it["numero"]): it["nome"] for it in read["partido"]}
@@ -37,7 +37,7 @@ def names_of(tables):
 
 
 def hidden_in(tables):
-    """A line for each name of the tables that has such characters."""
+    """A line for each name of the tables with such characters."""
     for key, name in names_of(tables).items():
         if any(map(is_hidden, name)):
             yield f"o nome de {' '.join(map(str, key))} tem caracteres que não se veem: {visible(name)}"
