@@ -1,9 +1,11 @@
-"""The counting centre's program on real files, for trials/crash-trial: how it ends, a ledger from its opening to the last section, both
-programs in one folder, and runs of `abre` and `recebe` that are killed, or in which a call fails, and go on.
+"""Tests urna_ledger on real files, for trials/crash-trial: how it ends, a ledger from its opening to the last section, both programs in
+one folder, and runs of `abre` and `recebe` that are killed or in which a call fails, and that resume.
 
-Behind each of these both flashes, and each alone, hold the ledger with the first of the listed reports: as many as verdicts had begun to be
-shown, or one more (trials/takings.py). At last a report of each section is there once, the sums are those that `totaliza`, a command of urna,
-tells of the accepted reports, and the seats of councillor over them are certified as a model does it (tools/contests.py)."""
+After each of these both flashes, and each one alone, hold the ledger with the first of the listed reports: as many as verdicts had begun
+to be shown, or one more (trials/takings.py). At the end the ledger has a report of each section once, the sums are those that
+`totaliza`, a command of urna, prints for the accepted reports, and the certificate of councillor's seats over them is that of a model
+(tools/contests.py).
+"""
 
 import os
 import random
@@ -38,9 +40,9 @@ from polls import FLASHES, Day
 from runs import Runs
 from takings import drawn_list, lines_of_sums, want_held
 
-# An election of some sections, of which two have reports of several parts.
+# An election of some sections; two of them have reports of several parts.
 CENTRE = Centre([*range(1, 59), 400, 500], 60)
-# How many files a list has that is killed, and how many seconds the trials take at most.
+# How many files are in the list of a killed run, and the time limit of the trials in seconds.
 FILES, LONGEST = 30, 50.0
 
 
@@ -69,7 +71,7 @@ def want_rest(ledger, what):
 
 
 def statuses(work, urna, program):
-    """The program ends with the status of its command, and a refused one changes nothing."""
+    """The program ends with the status of its command; a refused command changes nothing."""
     draw = random.Random("statuses")
     report = CENTRE.report(draw, 0)
     in_new_folder(work, CENTRE.documents({"r": report}))
@@ -102,27 +104,27 @@ def statuses(work, urna, program):
 
 
 def want_certified(urna, files, what):
-    """The seats of councillor over a list are certified as the model does it, and the certificate is valid where there is one."""
+    """Certifies the seats of councillor over a list as the model does; the certificate is valid if there is one."""
     model = contests.run(CERTIFICA, files)
     want_run(ended(urna, CERTIFICA), model.code, model.shown, f"{what}, certifica")
     for name in model.made:
-        want(content(name).decode() == model.files[name], f"{what}: certifica put another certificate")
+        want(content(name).decode() == model.files[name], f"{what}: certifica wrote a certificate other than the model's")
         want_run(ended(urna, [*VERIFICA[:-1], name]), 0, "CERTIFICADO VALIDO 13\n", f"{what}, verifica")
 
 
 def want_totals(urna, program, centre, ledger, what):
-    """The sums are those of the writer, and those that `totaliza` tells of the accepted reports, over which the seats are certified."""
+    """The sums are those of the writer, and those that `totaliza` prints for the accepted reports, over which the seats are certified."""
     sums = ended(program, TOTAIS)
     want_run(sums, 0, centre.totals(ledger).decode(), f"{what}, totais")
     write_list(ledger_list(ledger), centre)
     status, totals = ended(urna, TOTALIZA)
     same = lines_of_sums(totals.encode()) == sums[1].encode().splitlines()
-    want(status == 0 and same, f"{what}: totaliza ended with {status}, or tells other sums than totais")
+    want(status == 0 and same, f"{what}: totaliza ended with {status}, or printed other sums than totais")
     want_certified(urna, centre.documents(ledger_list(ledger)), what)
 
 
 def days(work, urna, program):
-    """A ledger from its opening to the last section, in a list a day: behind each the flashes are those of the writer."""
+    """Builds a ledger from its opening to the last section, one list a day: after each list the flashes are those of the writer."""
     draw, ledger = random.Random("days"), {}
     in_new_folder(work, CENTRE.documents({}))
     want_run(ended(program, ABRE), 0, "LIVRO 0\n", "abre")
@@ -141,7 +143,7 @@ def days(work, urna, program):
 
 
 def largest(work, urna, program):
-    """A ledger of as many sections as there may be, with reports of the first and of the last, and of many parts."""
+    """A ledger with the maximum number of sections, with reports of the first and of the last, and of many parts."""
     voters = [2] * 1999 + [600]
     centre, draw = Centre(voters, 999), random.Random("largest")
     ledger = {place: centre.report(draw, place) for place in (1999, 0, 7, 8, 1000)}
@@ -155,7 +157,7 @@ def largest(work, urna, program):
 
 
 def closed_descriptors(work, urna, program):
-    """No flash and no report stands under a standard descriptor that was closed."""
+    """With a standard descriptor closed, no flash and no report is opened under its number."""
     listed = ledger_list({0: CENTRE.report(random.Random("closed"), 0)})
     taking = Taking(CENTRE, {}, listed)
     for closed in ((0,), (1,), (2,), (0, 1, 2)):
@@ -169,7 +171,7 @@ def closed_descriptors(work, urna, program):
 
 
 def other_folders(work, urna, program):
-    """Each program in the folder of the other one ends with the fault of the internal flash, and changes nothing."""
+    """Each program in the other one's folder ends with the fault of the internal flash, and changes nothing."""
     day, ledger = Day(3), {3: CENTRE.report(random.Random("folders"), 3)}
     folders = [
         (program, [ABRE, RECEBE, TOTAIS], {**CENTRE.documents(ledger_list(ledger)), **dict(zip(FLASHES, day.flashes(2, 2)))}),
@@ -184,7 +186,7 @@ def other_folders(work, urna, program):
 
 
 def two_at_once(work, urna, program):
-    """Of two commands on one ledger one ends with the status of the internal flash, and no told report is lost."""
+    """Of two commands on one ledger one ends with the status of the internal flash, and no shown report is lost."""
     draw = random.Random("two")
     listed = ledger_list({place: CENTRE.report(draw, place) for place in range(len(CENTRE.voters))})
     taking = Taking(CENTRE, {}, listed)
@@ -194,7 +196,7 @@ def two_at_once(work, urna, program):
         runs = [started(program, RECEBE) for _ in range(2)]
         shown = [answer(run) for run in runs]
         ends = sorted(zip([run.returncode for run in runs], shown))
-        # One may have begun when the other one had ended.
+        # One may have begun after the other one had ended.
         again = Taking(CENTRE, taking.ledger, listed)
         allowed = [[(0, taking.shown.decode()), it] for it in ((21, ""), (6, again.shown.decode()))]
         want(ends in allowed, f"two at once: {ends}")
@@ -205,22 +207,22 @@ CHECKS = (statuses, days, largest, closed_descriptors, other_folders, two_at_onc
 
 
 class Counting:
-    """The flashes of one ledger in the working folder, and what they hold."""
+    """The flashes of a ledger in the working folder, and what they hold."""
 
     def __init__(self, runs, library, seconds=0.0):
-        """The ledger is opened, in some cases behind openings that are killed within so many seconds."""
+        """Opens the ledger, sometimes after openings that are killed within the given number of seconds."""
         self.runs, self.library, self.ledger = runs, library, {}
         in_new_folder(runs.work, CENTRE.documents({}))
         for _ in range(random.randint(0, 2)):
             killed(started(runs.ledger, ABRE), 0, random.random() * seconds)
         want_run(ended(runs.ledger, ABRE), 0, "LIVRO 0\n", "abre")
         want_rest({}, "abre")
-        # The other name of a flash may have been left by a killed one.
+        # A killed opening may have left the other name of a flash.
         left = set(os.listdir()) - {f"{name}.new" for name in FLASHES}
         want(left == {"tables", "list", *FLASHES}, f"an opening left {left}")
 
     def started(self, **how):
-        """A `recebe` of a drawn list, which is begun, and what it takes in."""
+        """Starts a `recebe` of a drawn list. Returns the run and what it accepts."""
         listed = {}
         while len(listed) < FILES:
             listed.update({f"{len(listed)}.{name}": file for name, file in drawn_list(CENTRE, random, self.ledger).items()})
@@ -228,32 +230,32 @@ class Counting:
         return started(self.runs.ledger, RECEBE, **how), Taking(CENTRE, self.ledger, listed)
 
     def go_on_from(self, taking, shown, what):
-        """Tests what the flashes hold after a run that showed this and was cut off, and goes on from there. Answers whether the next
-        report was in already."""
+        """Tests what the flashes hold after a run that showed this and was cut off, and resumes from there. Returns whether the next
+        report was already in."""
         want(taking.shown.startswith(shown), f"{what}: it showed {shown[-200:]!r}")
         allowed = taking.allowed(len(shown))
         self.ledger = want_held(self.runs, CENTRE, flashes(), allowed, bool(shown), what)
         return len(self.ledger) > len(allowed[0])
 
     def kill(self, seconds):
-        """Kills a run after a drawn number of lines. Answers whether it was still running, and whether the next report was in already."""
+        """Kills a run after a drawn number of lines. Returns whether it was still running, and whether the next report was already in."""
         run, taking = self.started()
         shown = killed(run, random.randint(0, FILES), seconds)
         want(run.returncode in (taking.status, -signal.SIGKILL), f"recebe: {run.returncode}")
         return run.returncode < 0, self.go_on_from(taking, shown, "a recebe that was killed")
 
     def fail(self):
-        """Makes one call of a run over a flash fail."""
+        """Makes one call of a run on a flash fail."""
         call, how = random.choice([("write", "half"), ("sync", "5")])
         number = random.randint(1, 20)
         run, taking = self.started(env=failing(self.library, f"{call} .flash {number} {how}"))
         shown = answer(run).encode()
-        want(run.returncode in (21, 22, taking.status), f"recebe ended with {run.returncode} where the {call} {number} failed")
+        want(run.returncode in (21, 22, taking.status), f"recebe ended with {run.returncode} when the {call} {number} failed")
         self.go_on_from(taking, shown, f"a recebe whose {call} {number} failed")
         return run.returncode in (21, 22)
 
     def end(self, urna):
-        """A report of each section, those that are there once more: each is there once."""
+        """A report of each section, those already in once more: each counts once."""
         reports = {place: self.ledger.get(place) or CENTRE.report(random, place) for place in range(len(CENTRE.voters))}
         taking = Taking(CENTRE, self.ledger, ledger_list(reports))
         write_list(taking.listed)
@@ -263,7 +265,7 @@ class Counting:
 
 
 def trials(work, urna, program, library, count, counts):
-    """Ledgers of which runs are killed and go on, until so many are done or the time is over."""
+    """Ledgers whose runs are killed and resumed, until the given number is done or the time is over."""
     runs, begun = Runs(urna, program, work, library), time.perf_counter()
     counting, start = Counting(runs, library), time.perf_counter()
     run, taking = counting.started()

@@ -1,7 +1,7 @@
-"""Drawn elections of which each office that is decided in proportion is certified: the certificate that `certifica` puts, and the substitutes that it
-tells, are those of a writer of its own; and where a line of a certificate is left out, doubled or swapped with the next one, or a number is one
-more or one less, `verifica` tells what a reader of its own does (tools/contests.py). Of the first ten certificates that aren't long each such change
-is judged, and of any other one as many as are drawn."""
+"""Draws elections and certifies each proportional office. The certificate that `certifica` writes, and the substitutes that it prints,
+are those of an independent writer. For changed certificates - a line left out, doubled or swapped with the next one, a number greater or
+less by one - `verifica` prints what an independent reader does (tools/contests.py). For the first ten certificates that aren't long
+every such change is judged, for the others a drawn number."""
 
 import itertools
 import re
@@ -13,11 +13,11 @@ from commands import want
 from parts import parts_file
 from polls import HEADER, HOURS
 
-# The offices that are decided in proportion, with the digits of their numbers, and one that isn't.
+# The proportional offices, with the digits of their numbers, and one other office.
 DIGITS, OTHER = {6: 4, 7: 5, 8: 5, 13: 5}, 11
-# How many bytes of changed certificates of a contest are judged.
+# The total size of the changed certificates of a contest that are judged, in bytes.
 MOST_BYTES = 300_000
-# Of how many certificates each change is judged, and how long one of them is at most.
+# For how many certificates each change is judged, and their maximum length.
 WHOLE, LONGEST_WHOLE = 10, 4_000
 
 
@@ -30,7 +30,7 @@ def drawn_federations(draw, parties):
 
 
 class Election:
-    """The tables of some offices, parties and sections, and for each office what a ballot may say, with how often it says that."""
+    """The tables of some offices, parties and sections, and for each office what a ballot may have, with its weight."""
 
     def __init__(self, draw):
         self.parties = draw.sample(range(10, 100), draw.choice((1, 2, 3, 4, 6, 12, 40)))
@@ -47,7 +47,7 @@ class Election:
         return [party * first + place for party in self.parties for place in range(1, 1 + draw.randint(0, most))]
 
     def drawn_ballots(self, draw, code):
-        """What a ballot may say, and how often each. In some offices no candidate has a vote, so that rounds give all seats."""
+        """What a ballot may have, with its weight. In some offices no candidate has a vote, so that rounds give all seats."""
         people, others = [number for its, number, _ in self.people if its == code], [*self.parties, "BRAN", "NULO"]
         often = (0,) if draw.random() < 0.2 else (0, 0, 1, 2, 5, 20)
         weights = [draw.choice(often) for _ in people] + [draw.choice((0, 1, 2, 5, 20)) for _ in others[1:]]
@@ -65,7 +65,7 @@ class Election:
         return HEADER + "".join(f"{name} = [{', '.join(them)}]\n" for name, them in rows.items())
 
     def report(self, draw, section, voters):
-        """The file of a report of a section, in which all who came have a blank vote for the office that isn't decided in proportion."""
+        """The file of a report of a section, in which all who came have a blank vote for the office that isn't proportional."""
         came = draw.randint(0, voters)
         text = f"ORIG:VOTA PROC:7 DTPL:20261004 TURN:1 ZONA:1 SECA:{section} APTO:{voters} COMP:{came} FALT:{voters - came} {HOURS}"
         text += f" CARG:{OTHER} TIPO:0 APTA:{voters} NOMI:0 BRAN:{came} NULO:0 TOTC:{came}"
@@ -86,7 +86,7 @@ class Election:
         return text
 
     def files(self, draw):
-        """The tables, a report of each section, one that is at fault, and a list of these, in which one may stand twice."""
+        """The tables, a report of each section, an invalid one, and a list of these, in which one may be twice."""
         reports = {f"r{section}": self.report(draw, section, count) for section, count in enumerate(self.voters, 1)}
         listed = [*reports, draw.choice([*reports]), "other"]
         draw.shuffle(listed)
@@ -103,18 +103,18 @@ def is_candidate(choice):
 
 
 def numbered(text):
-    """A text with its rounds numbered anew."""
+    """A text with its rounds renumbered."""
     places = itertools.count(1)
     return re.sub(r"RODADA \d+", lambda _: f"RODADA {next(places)}", text)
 
 
-# What stands in the place of a line and the next one, and how much a number is more.
+# The replacements of a line and the next one, and the differences of a number.
 OF_LINES = {"left out": lambda one, other: other, "doubled": lambda one, other: one + one + other, "swapped": lambda one, other: other + one}
 OF_NUMBERS = {"one more": 1, "one less": -1}
 
 
 def changes_of(text):
-    """Each change: what it is, the place of its line or of its number, and whether the rounds are numbered anew."""
+    """Each change: its kind, the place of its line or of its number, and whether the rounds are renumbered."""
     lines = itertools.product(OF_LINES, range(text.count("\n")), (False, True))
     return [*lines, *itertools.product(OF_NUMBERS, (found.start() for found in re.finditer(r"\d+", text)), (False,))]
 
@@ -130,7 +130,7 @@ def changed(text, way, at, is_anew):
 
 
 def some_text(model):
-    """The certificate that was made; or, where the contest comes to no seats, a text that follows it as far as it can."""
+    """The certificate that was made; if the contest has no seats, a text that is as close to one as possible."""
     if model.made:
         return model.files["o.cer"]
     seats, parties = model.contest
@@ -143,13 +143,13 @@ def some_text(model):
 
 
 def want_end(runs, files, words, end, put, what):
-    """A command ends with this status and this text, and puts these files."""
+    """A command ends with this status and this text, and writes these files."""
     ended = runs.run(files, words)
-    want((ended.status, ended.shown.decode(), ended.files) == (*end, {**files, **put}), f"{what}: {ended.told()}, and not {end}, or left other files")
+    want((ended.status, ended.shown.decode(), ended.files) == (*end, {**files, **put}), f"{what}: {ended.told()}, expected {end}, or left other files")
 
 
 def certify(runs, files, code):
-    """A certifica that ends as that of the model does, and puts what it puts. Answers the one of the model."""
+    """Runs a certifica, which ends as the model's does and writes the same. Returns the model's."""
     words = ["certifica", "tables", "list", str(code), "o"]
     model = contests.run(words, files)
     put = {name: model.files[name].encode() for name in model.made}
@@ -165,9 +165,9 @@ def judge(runs, files, model, text, what):
 
 
 def judged(runs, files, model, text, changes):
-    """A text is judged, and then each of these changes of it."""
+    """Judges a text, and then each of these changes of it."""
     judge(runs, files, model, text, "unchanged")
-    # The last round once more, which is one too many, is always judged.
+    # The last round repeated, which is one too many, is always judged.
     for change in [("doubled", text.count("\n") - 3, True), *changes]:
         judge(runs, files, model, changed(text, *change), f"changed: {change}")
         yield "judged certificates"
@@ -182,10 +182,10 @@ def trials(runs, drawn):
         certify(runs, files, OTHER)
         for code in election.seats:
             model = certify(runs, files, code)
-            yield "certified offices" if model.made else "offices that come to no seats"
+            yield "certified offices" if model.made else "offices with no seats"
             text = some_text(model)
             changes, is_whole = changes_of(text), bool(model.made) and whole < WHOLE and len(text) <= LONGEST_WHOLE
             whole += is_whole
             yield from judged(runs, files, model, text, changes if is_whole else draw.sample(changes, min(len(changes), MOST_BYTES // len(text))))
             if is_whole:
-                yield "certificates of which each change was judged"
+                yield "certificates with every change judged"

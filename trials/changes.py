@@ -1,5 +1,5 @@
-"""Inputs that are cut at each length, or of which each byte is another: a command of either program ends with a status that docs/FORMATS.md
-has, no changed report is accepted, and of a changed record or certificate what a reader of its own tells."""
+"""Inputs that are cut at each length, or with each byte changed: a command of either program ends with a status of docs/FORMATS.md, no
+changed report is accepted, and for a changed record or certificate the output is that of an independent reader."""
 
 import itertools
 import random
@@ -17,17 +17,17 @@ from polls import FLASHES, Day
 VERDICT = rb"PARTE (FORMA|VERSAO|NUMERO|HASH|CORTE) \d+\n"
 KEYS_LINE = re.compile(rb"M (?:ABRE|ENCERRA) (\d{14})|M TITULO \d{12}|M (?:LIBERA|CANCELA|SUSPENDE)|E [0-9BRC]+")
 DAY = Day(3)
-# A counting centre with a report, and a list of a new one, that one once more, and one that is none.
+# A counting centre with a report, and a list of a new one, that one again, and a file that isn't a report.
 CENTRE = ledgers.Centre([3, 2])
 KEPT, NEW = (CENTRE.report(random.Random(place), place) for place in (0, 1))
 LEDGER, LISTED = {0: KEPT}, {"r1": NEW, "r2": KEPT, "r3": CENTRE.faulty(random.Random("none"))}
-# Keys of every form, of a session that goes from the beginning to the seal.
+# Keys of every form, for a session from the beginning to the seal.
 KEYS = f"{DAY.keys(0, 2)}M TITULO {2:012}\nM CANCELA\nM TITULO {2:012}\nM LIBERA\nE 45C\nM SUSPENDE\n{DAY.keys(3)}".encode()
 
 # How a byte is changed.
 WAYS = {
-    "with its lowest bit turned": lambda byte, draw: byte ^ 1,
-    "with its highest bit turned": lambda byte, draw: byte ^ 128,
+    "with its lowest bit flipped": lambda byte, draw: byte ^ 1,
+    "with its highest bit flipped": lambda byte, draw: byte ^ 128,
     "made zero": lambda byte, draw: 0,
     "made a line feed": lambda byte, draw: 10,
     "made a space": lambda byte, draw: 32,
@@ -89,14 +89,14 @@ def try_certificate(runs, files, what):
 
 
 def verdict_on(name, is_first):
-    """The verdict on a listed file. The report and its copy are the same file; of a third one a digit is another."""
+    """The verdict on a listed file. The report and its copy are the same; the third file has a changed digit."""
     if name in ("a.bu", "b.bu"):
         return "ACEITO 1 42" if is_first else "REPETIDO 1 42"
     return "PARTE HASH 1" if name == "c.bu" else "PARTE FORMA 1"
 
 
 def totals(files):
-    """What `totaliza` shows of a list, up to the sections, or to a name that isn't there, and its status."""
+    """What `totaliza` shows for a list, up to the sections or to a missing file, and its status."""
     shown, names = b"", lines_of(files["list"])
     for number, name in enumerate(names, 1):
         name = name.decode()
@@ -117,11 +117,11 @@ def try_list(runs, files, what):
 
 
 def want_unchanged(files, ended, what):
-    want(all(ended.files.get(name) == files[name] for name in FLASHES), f"{what}: the flashes were written")
+    want(all(ended.files.get(name) == files[name] for name in FLASHES), f"{what}: wrote on the flashes")
 
 
 def try_load(runs, files, what):
-    """Tables or a roll that are others than those of the load."""
+    """Tables or a roll other than those of the load."""
     ended = runs.run(files, VOTA)
     want(ended.status in (3, 30) and ended.shown.startswith(b"ERRO "), f"{what}, vota: {ended.told()}")
     want_unchanged(files, ended, what)
@@ -143,7 +143,7 @@ def try_keys(runs, files, what):
     came = sum(text == b"FIM" for text in ended.shown.splitlines())
     phase = "PRONTA" if b"\nABERTA " not in ended.shown else "ABERTA" if b"\nENCERRADA " not in ended.shown else "LACRADA"
     told = f"URNA {phase} {came}\n".encode()
-    want((again.status, again.shown) == (0, told), f"{what}, vota with no keys: {again.told()}, not {told!r}")
+    want((again.status, again.shown) == (0, told), f"{what}, vota with no keys: {again.told()}, expected {told!r}")
 
 
 def want_ledger(files, ended, ledger, what):
@@ -153,7 +153,7 @@ def want_ledger(files, ended, ledger, what):
 
 
 def try_offer(runs, files, what):
-    """A changed report is taken in by no ledger."""
+    """No ledger accepts a changed report."""
     ended = runs.run(files, RECEBE)
     is_left_out = re.fullmatch(rb"LIVRO 1\n1 " + VERDICT, ended.shown)
     want(ended.status == 6 and is_left_out, f"{what}, recebe: {ended.told()}")
@@ -161,7 +161,7 @@ def try_offer(runs, files, what):
 
 
 def try_intake(runs, files, what):
-    """The list of a counting centre: what stands before a name that isn't there is taken in."""
+    """The list of a counting centre: the files before a missing one are received."""
     ended = runs.run(files, RECEBE)
     line = faulty_name(files["list"])
     if line:
@@ -169,19 +169,19 @@ def try_intake(runs, files, what):
         return want_ledger(files, ended, LEDGER, what)
     names = [name.decode() for name in lines_of(files["list"])]
     front = list(itertools.takewhile(lambda name: name in LISTED, names))
-    # A name may stand there twice.
+    # A name may be there twice.
     taking = ledgers.Taking(CENTRE, LEDGER, {number: LISTED[name] for number, name in enumerate(front)})
     status, shown = taking.status, taking.shown
     if len(front) < len(names):
         other = names[len(front)]
         is_under_file = "/" in other and other.split("/")[0] in files
         status, shown = (20, shown) if is_under_file else (12, shown + b"ERRO FALTA BOLETIM\n")
-    want((ended.status, ended.shown) == (status, shown), f"{what}: {ended.told()}, and not {status} and {shown!r}")
+    want((ended.status, ended.shown) == (status, shown), f"{what}: {ended.told()}, expected {status} and {shown!r}")
     want_ledger(files, ended, taking.ledger, what)
 
 
 def try_ledger(runs, files, what):
-    """Tables that are others than those of the ledger."""
+    """Tables other than those of the ledger."""
     for words in (RECEBE, TOTAIS, ABRE):
         ended = runs.run(files, words)
         want(ended.status in (3, 32 if words == ABRE else 30) and ended.shown.startswith(b"ERRO "), f"{what}, {words[0]}: {ended.told()}")
@@ -189,14 +189,14 @@ def try_ledger(runs, files, what):
 
 
 def try_flash(runs, files, commands, statuses, what):
-    """A flash of which bytes are others, which no cut leaves: the command ends by itself."""
+    """A flash with changed bytes that no power cut leaves: the command ends on its own."""
     for words in commands:
         ended = runs.run(files, words)
         want(ended.status in statuses, f"{what}, {words[0]}: {ended.told()}")
 
 
 def inputs():
-    """Each input with the files around it and what is tried."""
+    """Each input with the other files, and how it is tested."""
     listed = memory.listed_reports()
     loaded = with_flashes(DAY, "", DAY.flashes(2, 0))
     counted = takings.with_flashes(CENTRE, LISTED, CENTRE.flashes(LEDGER))
@@ -215,21 +215,21 @@ def inputs():
 
 
 def changes():
-    """Each change of each input: cut at each length below its own, and each byte in each way."""
+    """Each change of each input: cut at each length below its own, and each byte changed in each way."""
     for name, files, tries in inputs():
         for at in range(len(files[name])):
             yield from ((name, files, tries, at, way) for way in ("cut here", *WAYS))
 
 
 def changed(text, at, way, draw):
-    """The text with this change, which may leave it as it is."""
+    """The text with this change, which may be no change."""
     if way == "cut here":
         return text[:at]
     return text[:at] + bytes([WAYS[way](text[at], draw)]) + text[at + 1 :]
 
 
 def try_change(runs, draw, name, files, tries, at, way):
-    """Whether there was something to try: a byte may be as it is made already."""
+    """Whether there was something to test: a byte may already have the new value."""
     text = changed(files[name], at, way, draw)
     if text == files[name]:
         return False
@@ -238,7 +238,7 @@ def try_change(runs, draw, name, files, tries, at, way):
 
 
 def try_flashes(runs, draw):
-    """Some bytes of a flash of a poll, or of a ledger, are others."""
+    """Changes some bytes of a flash of a poll or of a ledger."""
     state = draw.randrange(DAY.last + 1)
     of_poll = with_flashes(DAY, DAY.keys(state), DAY.flashes(draw.choice((1, 2)), state)), 67072, (VOTA, CARGA), (0, 30, 31, 32)
     flashes = CENTRE.flashes(draw.choice([{}, LEDGER]))
@@ -253,7 +253,7 @@ def try_flashes(runs, draw):
 
 
 def trials(runs, drawn):
-    """Each change of each input in a drawn order, and some of flashes between them; then the same in another order."""
+    """Each change of each input in a drawn order, with some changes of flashes between them; then the same in another order."""
     for turn in itertools.count():
         order = list(changes())
         drawn(f"order {turn}").shuffle(order)

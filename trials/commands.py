@@ -1,4 +1,4 @@
-"""What the trials of this folder share: commands that end by themselves, files, and what is wanted."""
+"""Shared by the trials of this folder: commands that end on their own, files, and assertions."""
 
 import fcntl
 import os
@@ -28,9 +28,11 @@ def want(holds, what):
 
 
 def started(program, words, name="urna", closed=(), env=None):
-    """A command, under this name and with these descriptors closed, which ends by itself. No line of it is read ahead of those asked for.
+    """Starts a command that ends on its own, under this name and with these descriptors closed. It reads no line ahead of those asked
+    for.
 
-    What it says on standard error stands among its lines, where none is wanted.
+        Standard error is among its lines, and is expected to be empty.
+
     """
 
     def close():
@@ -42,7 +44,7 @@ def started(program, words, name="urna", closed=(), env=None):
 
 
 def answer(run):
-    """What a command shows up to its end, which comes within a minute."""
+    """The output of a command up to its end, which must come within a minute."""
     try:
         return run.communicate(timeout=60)[0].decode()
     except subprocess.TimeoutExpired:
@@ -51,9 +53,9 @@ def answer(run):
 
 
 def killed(run, lines, seconds):
-    """Kills a command so long after so many lines, if it still runs then. Answers what it showed."""
+    """Kills a command the given time after the given number of lines, if it still runs. Returns its output."""
     pipe = run.stdout.fileno()
-    # A small pipe, so that the program can't run far ahead of the lines that were read.
+    # A small pipe, so that the program can't get far ahead of the lines that were read.
     fcntl.fcntl(pipe, fcntl.F_SETPIPE_SZ, 4096)
     shown = b""
     while shown.count(b"\n") < lines:
@@ -71,7 +73,7 @@ def killed(run, lines, seconds):
 
 
 def ended(program, words, **how):
-    """The status of a command, and what it showed."""
+    """The status of a command, and its output."""
     run = started(program, words, **how)
     shown = answer(run)
     return run.returncode, shown
@@ -87,7 +89,7 @@ def content(name):
 
 
 def place(names, contents):
-    """Each file with this content, or absent where there is none."""
+    """Each file with this content, or missing if there is none."""
     for name, data in zip(names, contents):
         if os.path.exists(name):
             os.remove(name)
@@ -97,7 +99,7 @@ def place(names, contents):
 
 
 def compiled(folder):
-    """The library of failing.c, where there is a C compiler."""
+    """The library of failing.c, if there is a C compiler."""
     source = os.path.join(os.path.dirname(os.path.abspath(__file__)), "failing.c")
     made = os.path.join(folder, "failing.so")
     compiler = shutil.which("cc")
@@ -107,5 +109,5 @@ def compiled(folder):
 
 
 def failing(library, fail):
-    """The environment in which a call goes another way (trials/failing.c)."""
+    """The environment that makes a call fail or differ (trials/failing.c)."""
     return {**os.environ, "LD_PRELOAD": library, "URNA_FAIL": fail}

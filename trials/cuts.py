@@ -1,6 +1,6 @@
-"""Power cuts as images: the writes and syncs of a run are told (trials/failing.c), a stop of it is drawn, and each flash is made one that
-the cut may leave. Bytes that were synced stand; each write that was not is lost, whole, torn, or has brought anything into its range, in
-any order. The next call goes on over these images. So docs/CRASH.md has it, "The flash model"."""
+"""Power cuts as images. trials/failing.c logs the writes and syncs of a run, a stop of it is drawn, and each flash is replaced by an
+image that the cut may leave. Synced bytes stay. Each unsynced write is lost, whole, torn, or has left any bytes in its range, in any
+order. The next call continues over these images. This is the flash model of docs/CRASH.md."""
 
 import itertools
 from errno import EIO
@@ -19,7 +19,7 @@ def sectors(draw, pieces):
 
 
 def front(draw, first, second):
-    """A front of the one, and the rest of the other."""
+    """A prefix of one, and the rest of the other."""
     at = draw.randint(0, len(first))
     return first[:at] + second[at:]
 
@@ -36,7 +36,7 @@ def from_other(draw, old, new, other):
     return other
 
 
-# What a range may have into which bytes were written, and not synced, of the old ones, the new ones, and those of another flash there.
+# The possible contents of a range with unsynced writes, from the old bytes, the new ones, and those of another flash there.
 TORN = [
     lambda draw, old, new, other: front(draw, new, old),
     lambda draw, old, new, other: front(draw, old, new),
@@ -48,12 +48,12 @@ TORN = [
     lambda draw, old, new, other: draw.randbytes(len(new)),
     lambda draw, old, new, other: draw.choice([OPEN, SHUT, b"\0", b"\xff"]) * len(new),
 ]
-# The ways in which the writes of one cut go: each is lost or whole, or has brought what stands on another flash, or is torn.
+# How the writes of one cut end: each is lost or whole, or has left the bytes of another flash, or is torn.
 CUTS = [[lost, whole], [from_other], [lost, whole, from_other], [lost, whole, from_other, *TORN]]
 
 
 def image(draw, flash, calls, other, ways):
-    """An image of a flash behind these calls on it. The last write may be one that was begun; a sync that failed has cleaned nothing."""
+    """An image of a flash after these calls on it. The last write may have only begun; a failed sync has cleaned nothing."""
     content, dirty = bytearray(flash), []
     for call in calls:
         if call.kind == "write":
@@ -70,35 +70,35 @@ def image(draw, flash, calls, other, ways):
 
 
 def operations(calls):
-    """The writes and the syncs of flashes, and what the display was given."""
+    """The writes and syncs of the flashes, and what was sent to the display."""
     on_flashes = {(kind, name) for kind in ("write", "sync") for name in FLASHES}
     return [call for call in calls if (call.kind, call.name) in {*on_flashes, ("write", "display")}]
 
 
 def drawn_stop(draw, done):
-    """How many operations are done: often up to a write on a flash, which is begun."""
+    """How many operations are done: often up to a write on a flash, which has begun."""
     writes = [at for at, call in enumerate(done) if call.kind == "write" and call.name in FLASHES]
     return draw.choice(writes) if writes and draw.random() < 0.7 else draw.randint(0, len(done))
 
 
 def cut(draw, flashes, calls, others):
-    """A drawn stop of a run: how it is told, the images, and what was shown."""
+    """A drawn stop of a run: its description, the images, and what was shown."""
     done = operations(calls)
     stop, ways = drawn_stop(draw, done), draw.choice(CUTS)
     told, begun = done[:stop], done[stop : stop + 1]
     shown = b"".join(call.data for call in told if call.name == "display")
     if begun and begun[0].name == "display":
         shown += begun[0].data[: draw.randrange(len(begun[0].data))]
-    # A sync that was begun has cleaned nothing yet.
+    # A sync that has only begun has cleaned nothing yet.
     told += [call for call in begun if call.kind == "write"]
     own = [[call for call in told if call.name == name] for name in FLASHES]
     images = [image(draw, flash, calls, other, ways) for flash, calls, other in zip(flashes, own, others)]
-    return f"cut behind {stop} of {len(done)} operations", images, shown
+    return f"cut after {stop} of {len(done)} operations", images, shown
 
 
 def mixed_slots(draw, frames, gates, body):
-    """Flashes with these frames. One slot is open with the body that is told for it, and each other one with the body for others, or is
-    shut over anything."""
+    """Flashes with these frames. One slot is open with the body for it; each other one is open with the body for others, or shut over
+    anything."""
     flashes = [bytearray(frame) for frame in frames]
     slots = list(itertools.product((0, 1), gates))
     sure = draw.choice(slots)
@@ -113,7 +113,8 @@ def mixed_slots(draw, frames, gates, body):
 
 
 def mixed(day, draw, state):
-    """Flashes of which a slot holds a state, and each other slot that or one before it, in either version, or is shut over anything."""
+    """Flashes with a slot that holds a state; each other slot holds that state or the one before it, in either version, or is shut over
+    anything."""
 
     def body(is_sure):
         return day.body(draw.choice((1, 1, 2)), state if is_sure else draw.choice([state, draw.randint(0, state)]))
@@ -122,7 +123,7 @@ def mixed(day, draw, state):
 
 
 def beginnings(day, draw, state):
-    """Flashes that hold a state: at rest, at rest in version 1, or of several versions and states."""
+    """Flashes that hold a state: at rest, at rest in version 1, or with several versions and states."""
     kind = draw.choice(["rest", "first", "mixed"])
     if kind == "mixed":
         return mixed(day, draw, state)
@@ -135,7 +136,7 @@ def greater(day, draw, state):
 
 
 def want_emite(runs, day, flashes, state, what):
-    """`emite` tells whether the held state is sealed, and writes nothing on a flash."""
+    """`emite` shows whether the held state is sealed, and writes nothing on a flash."""
     ended = runs.run(with_flashes(day, "", flashes), EMITE, tells=True)
     status, shown = (0, b"EMITIDO 1 42\n") if state == day.last else (33, b"ERRO NAO LACRADA\n")
     want((ended.status, ended.shown) == (status, shown), f"{what}, emite: {ended.told()}")
@@ -144,14 +145,14 @@ def want_emite(runs, day, flashes, state, what):
 
 
 def drawn_fault(draw, commits):
-    """A write to a flash or a sync that fails, in some sessions."""
+    """A failing write to a flash or a failing sync, in some sessions."""
     call, how = draw.choice([("write", "half"), ("write", EIO), ("sync", EIO)])
     return f"{call} .flash {draw.randint(1, 14 * (commits + 1))} {how}" if draw.random() < 0.25 else None
 
 
 def cut_session(runs, day, draw, flashes, state, what):
-    """A session from this state, cut at a drawn stop, in some cases behind a fault. Answers the images, the state that both hold, the states
-    of which each alone holds one, where something was shown, and what was done."""
+    """A session from this state, cut at a drawn stop, sometimes after a fault. Returns the images, the state that both hold, the states
+    that each alone may hold if something was shown, and the operations that were done."""
     last = draw.randint(state, min(day.last, state + draw.randint(1, 3)))
     fail = drawn_fault(draw, last - state)
     what = f"{what}, vota from {day.states[state]!r} to {day.states[last]!r}" + (f" with URNA_FAIL='{fail}'" if fail else "")
@@ -174,7 +175,7 @@ def want_end(runs, day, flashes, state, what):
     at_rest = flashes_in(ended.files, what) == day.flashes(2, day.last)
     want(ended.status == 0 and at_rest, f"{what}: the rest of the keys {ended.told()}, or left another state")
     clean = runs.run(with_flashes(day, day.keys(state), day.flashes(2, day.last)), VOTA)
-    want(ended.files == clean.files, f"{what}: the results are others than those of the same poll uncut")
+    want(ended.files == clean.files, f"{what}: the results differ from those of the same poll without cuts")
 
 
 def sessions(runs, draw):
@@ -219,7 +220,7 @@ def day_by_day(runs):
     files = runs.run(day.documents(""), CARGA).files
     for state in range(day.last + 1):
         left = flashes_in(files, day.states[state])
-        want(left == day.flashes(2, state), f"the flashes of {day.states[state]!r} are others than those of the writer")
+        want(left == day.flashes(2, state), f"the flashes of {day.states[state]!r} differ from those of the writer")
         files = runs.run(with_flashes(day, day.keys(state, state + 1), left), VOTA).files
 
 

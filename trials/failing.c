@@ -1,19 +1,21 @@
-/* For trials/crash-trial and trials/hostile: makes one call of a program go another way than it would, and tells the calls of the program.
+/* For trials/crash-trial and trials/hostile: makes one call of a program fail or differ, and logs the calls of the program.
 
-   URNA_FAIL is `CALL ENDING N HOW`: of the calls of this kind over files whose names end so, counted from 1, the n-th one goes HOW. CALL is
-   write, read, sync, open, rename, link, unlink, stat, seek, lock, dup or memory; ENDING may be `*`, which is any file. Standard output is
-   the file `display`. HOW is the number of an error, with which the call does nothing and fails, and behind a `+` each further one too;
-   `half`, where half of the bytes of a write are put and it fails; `short`, where half of the bytes of a write or a read are moved and it
-   says so; `end`, where none are and it says so; or `kill`, where the process is killed in the middle of a write, and right behind any
-   other call.
+   URNA_FAIL is `CALL ENDING N HOW`: the N-th call of this kind, counted from 1, on files whose names end with ENDING goes HOW. CALL is write,
+   read, sync, open, rename, link, unlink, stat, seek, lock, dup or memory. ENDING may be `*`, for any file. Standard output is the file
+   `display`. HOW is one of:
+   - the number of an error: the call does nothing and fails; with a `+` before the number each later one does too;
+   - `half`: a write writes half of its bytes and fails;
+   - `short`: a write or a read moves half of its bytes and returns that;
+   - `end`: it moves none and returns that;
+   - `kill`: the process is killed in the middle of a write, or right after any other call.
 
-   Where N is `A-B`, each of these calls goes HOW in a copy of the process, a few of which run at once, and in the process itself none does.
-   A copy touches no file: right before a call that isn't for memory it ends with the status 99. URNA_TELL gets a line `copy - N STATUS`
-   for each, with a signal as a number below zero, before the next call that isn't for memory, and none of a copy's calls.
+   If N is `A-B`, each of these calls goes HOW in a copy of the process, a few of which run at once, and none does in the process itself. A
+   copy touches no file: right before a call that isn't for memory it ends with the status 99. URNA_TELL gets a line `copy - N STATUS` for
+   each copy, with a signal as a negative number, before the next call that isn't for memory, and none of a copy's calls.
 
-   URNA_TELL names a file that gets a line `CALL NAME AT ANSWER` for each call, and behind that of a write the bytes that it put: AT is the
-   place of a write, and ANSWER how many bytes were moved, or what another call answered. Before the line of a call that went another way
-   stands a line `fault`. */
+   URNA_TELL names a file that gets a line `CALL NAME AT ANSWER` for each call, and for a write the written bytes after it. AT is the position
+   of a write. ANSWER is the number of moved bytes, or the result of another call. A line `fault` precedes the line of a call that went
+   another way. */
 #define _GNU_SOURCE
 #include <errno.h>
 #include <fcntl.h>
@@ -51,7 +53,7 @@ static struct {
 } copies[AT_ONCE];
 static int running, is_copy;
 
-/* Reads what is asked for, before the program begins. What is told goes to a descriptor above those that a program has. */
+/* Reads the variables before the program begins. The log goes to a descriptor above those that a program has. */
 __attribute__((constructor)) static void begin(void) {
     const char *fail = getenv("URNA_FAIL"), *tell = getenv("URNA_TELL");
     char number[64];
@@ -96,7 +98,7 @@ static const char *name_of(int file, char *path) {
     return last_part(path);
 }
 
-/* Tells a call that was made, and the bytes that it put. */
+/* Logs a call that was made, and the bytes that it wrote. */
 static void tell(const char *call, const char *name, long at, long count, const void *bytes) {
     char line[NAME + 64];
     int error = errno;
@@ -110,7 +112,7 @@ static void tell(const char *call, const char *name, long at, long count, const 
     errno = error;
 }
 
-/* Waits until no more copies run than these, and tells each that ended. */
+/* Waits until at most this many copies run, and logs each that ended. */
 static void wait_for_copies(int most) {
     int status, error = errno;
     while (running > most) {
@@ -129,7 +131,7 @@ static void wait_for_copies(int most) {
     errno = error;
 }
 
-/* Copies the process. Answers whether this is the copy. */
+/* Copies the process. Returns whether this is the copy. */
 static int is_in_copy(void) {
     wait_for_copies(AT_ONCE - 1);
     pid_t copy = fork();
@@ -151,12 +153,12 @@ static int is_in_copy(void) {
     return 0;
 }
 
-/* Where the process made no further call. */
+/* At the end of the process, which may have made no further call. */
 __attribute__((destructor)) static void end(void) {
     wait_for_copies(0);
 }
 
-/* How this call goes, where it goes another way than it would. */
+/* How this call goes, if it goes another way. */
 static const char *other_way(const char *call, const char *name) {
     if (strcmp(call, "memory") != 0) {
         if (is_copy) {
@@ -187,7 +189,7 @@ static int is_error(const char *how) {
     return how && (*how == '+' || ('0' <= *how && *how <= '9'));
 }
 
-/* How many bytes are moved where so many are asked for. */
+/* How many of the requested bytes are moved. */
 static size_t moved(const char *how, size_t count) {
     if (is_error(how) || is(how, "end")) {
         return 0;
@@ -195,7 +197,7 @@ static size_t moved(const char *how, size_t count) {
     return is(how, "short") ? (count + 1) / 2 : how ? count / 2 : count;
 }
 
-/* The answer of a call that failed, or was made. */
+/* The result of a call that failed, or was made. */
 static long answer(const char *how, long made) {
     if (is(how, "kill")) {
         raise(SIGKILL);
@@ -226,7 +228,7 @@ ssize_t read(int file, void *bytes, size_t count) {
     return answer(how, made);
 }
 
-/* A call over a file that moves no bytes. */
+/* A call on a file that moves no bytes. */
 static long made_over(const char *call, const char *name, const long *words) {
     const char *how = other_way(call, name);
     long made = is_error(how) ? -1 : syscall(words[0], words[1], words[2], words[3], words[4], words[5]);
@@ -291,7 +293,7 @@ int unlink(const char *path) {
     return made_over("unlink", last_part(path), (long[6]){SYS_unlinkat, AT_FDCWD, (long)path, 0});
 }
 
-/* Whether memory is refused. */
+/* Whether memory is denied. */
 static int is_refused(void) {
     const char *how = other_way("memory", "-");
     if (begun) {

@@ -1,5 +1,5 @@
-"""Calls of the system that fail, or do less than they were asked for: the status is that of the port, what was shown is a front of what
-is shown else, and what the flashes hold is what the display tells, or one more. It is tried of both programs."""
+"""System calls that fail, or do less than asked: the status is that of the port, the output is a prefix of the usual output, and the
+flashes hold what the display reports, or one more. Both programs are tested."""
 
 import itertools
 from errno import EACCES, EAGAIN, EINTR, EIO, EMFILE, ENOENT, ENOMEM, ENOSPC
@@ -13,7 +13,7 @@ from held import allowed, flashes_in, want_held, with_flashes
 from polls import FLASHES, LENGTH, Day
 from runs import Ended
 
-# The ways in which each kind of call may go. Those of the first table the program gets over.
+# How each kind of call may go. The program recovers from those of the first table.
 HARMLESS = {"write": ["short", EINTR], "read": ["short", EINTR], "sync": [EINTR], "open": [EINTR], "lock": [EINTR]}
 FAULTS = {
     "write": ["half", "end", EIO, ENOSPC, f"+{EIO}", f"+{ENOSPC}"],
@@ -28,17 +28,17 @@ FAULTS = {
     "lock": [EIO, EAGAIN],
     "dup": [EMFILE],
 }
-# The documents of all commands, and the results, which a put replaces. The reports of a counting centre are r1, r2, ..
+# The documents of all commands, and the results, which a write replaces. The reports of a counting centre are r1, r2, ..
 DOCUMENTS = ("tables", "roll", "keys", "list", "a.bu", "b.bu", "c.bu", "c.cer", *(f"r{number}" for number in range(1, 10)))
 RESULTS = ("o.bu", "o.rdv", "o.cer", "p.bu", "p.rdv", *memory.REHEARSED)
-# The commands that may write on a flash and put no file, and those of them that make flashes anew.
+# The commands that may write on a flash and write no file, and those of them that make new flashes.
 NO_RESULTS = ("carga", "abre", "recebe", "totais")
 MAKING = ("carga", "abre")
 
 
 class Case(NamedTuple):
-    """A command over files, and how it ends with no fault. Of a session also its day, and the states from which and to which it goes; of a
-    `recebe` the counting centre in the place of a day, and what it takes in."""
+    """A command over files, and how it ends without a fault. For a session also its day, and its first and last states; for a `recebe`
+    the counting centre instead of a day, and what it receives."""
 
     words: list
     files: dict
@@ -68,7 +68,7 @@ def taking(runs, centre, flashes, ledger, listed):
 
 
 def life(runs, drawn):
-    """The commands of the day of one voter, and those of a counting centre that takes in a report, and it once more."""
+    """The commands of the day of one voter, and those of a counting centre that receives a report twice."""
     day = Day(1)
     yield case(runs, CARGA, day.documents(""))
     yield session(runs, day, 0, day.last)
@@ -88,7 +88,7 @@ def drawn_session(runs, draw):
 
 
 def drawn_load(runs, draw):
-    """A load over flashes that are missing, blank, with no slot open or loaded before, and over what a cut run left."""
+    """A load over flashes that are missing, blank, with no slot open or already loaded, and over what a cut run left."""
     day = Day(draw.randint(1, 4))
     files = day.documents("")
     for device, name in enumerate(FLASHES):
@@ -99,7 +99,7 @@ def drawn_load(runs, draw):
 
 
 def drawn_opening(runs, draw):
-    """An `abre` over flashes that are missing, blank, with no slot open or opened before, and over what a cut run left."""
+    """An `abre` over flashes that are missing, blank, with no slot open or already opened, and over what a cut run left."""
     centre = takings.drawn_centre(draw)
     files = centre.documents({})
     for device, name in enumerate(FLASHES):
@@ -140,13 +140,13 @@ def drawn_case(runs, draw):
 
 
 def is_harmless(case, other, how):
-    """Whether the program gets over a call that went so. A flash that is missing is missing either way."""
+    """Whether the program recovers from a call that went this way. A missing flash is missing either way."""
     is_missing = other.kind == "open" and other.name in FLASHES and other.name not in case.files
     return how in HARMLESS.get(other.kind, []) or (is_missing and how == ENOENT)
 
 
 def statuses(case, other, how):
-    """The statuses with which a command may end where this call went so."""
+    """The statuses with which a command may end when this call went this way."""
     usual = {case.usual.status}
     if is_harmless(case, other, how):
         return usual
@@ -159,27 +159,27 @@ def statuses(case, other, how):
         return {"ensaio": {20}, "certifica": {20}}.get(case.words[0], {21, 22} if case.words[0] in NO_RESULTS else {20, 21, 22})
     if other.kind == "open" and other.name in DOCUMENTS and how in (ENOENT, ENOMEM):
         return {12} if how == ENOENT else {1}
-    # A result that is gone, or that this user may not open, is no flash, and is replaced.
+    # A result that is gone, or that this user may not open, is not a flash, and is replaced.
     is_free = how == ENOENT and other.kind == "stat" or how in (ENOENT, EACCES) and other.kind == "open"
     return {20} | usual if other.name in RESULTS and is_free else {20}
 
 
 def is_front(case, ended, other):
-    """Whether a front of the usual text was shown, in whole lines where the display did not fail."""
+    """Whether a prefix of the usual output was shown, in whole lines unless the display failed."""
     shown, _, told = ended.shown.partition(b"ERRO ") if ended.status == 12 else (ended.shown, b"", b"")
     in_lines = other.name == "display" or not shown or shown.endswith(b"\n")
     return in_lines and case.usual.shown.startswith(shown) and (not told or told.startswith(b"FALTA "))
 
 
 def goes_on(ended, other):
-    """Whether something is written to a flash or shown, or a flash is synced, behind a port that failed."""
+    """Whether something is written to a flash or shown, or a flash is synced, after a port that failed."""
     behind = itertools.dropwhile(lambda call: call is not other, ended.calls)
     next(behind)
     return any(call.kind in ("write", "sync") and call.name in (*FLASHES, "display") for call in behind)
 
 
 def want_files(case, ended, what):
-    """Each file is the old one, or as the command leaves it; the flashes are told by what they hold, and what a cut put left is removed
+    """Each file is the old one, or as the command leaves it; flashes are judged by what they hold, and what a cut write left is removed
     by the next one."""
     for name in set(case.files) | set(ended.files):
         if name in FLASHES or name.endswith(".new"):
@@ -207,29 +207,29 @@ def without(files, names):
 
 
 def want_same(runs, case, ended, what):
-    """The files are those that the command leaves. The other name of a flash may have been left, until the next making, or removed."""
+    """The files are those that the command leaves. The other name of a flash may be left until the flash is next made, or removed."""
     others = [f"{name}.new" for name in FLASHES]
-    want(without(ended.files, others) == without(case.usual.files, others), f"{what}: again it left other files")
+    want(without(ended.files, others) == without(case.usual.files, others), f"{what}: the command again left other files")
     left = [name for name in FLASHES if f"{name}.new" in ended.files]
     if case.words[0] in MAKING and left:
         made = runs.run(without(ended.files, left), case.words)
-        want(made.files == without(case.usual.files, others), f"{what}: a making left other files")
+        want(made.files == without(case.usual.files, others), f"{what}: making the flash left other files")
 
 
 def want_over(runs, case, ended, what):
-    """What holds behind a fault, and that the command goes on from there."""
+    """What holds after a fault, and that the command can be repeated."""
     want_files(case, ended, what)
     if case.words[0] == "vota":
         return want_rest_of(runs, case, ended, what)
     if case.words[0] == "recebe":
         return takings.want_taken(runs, case, ended, what)
     again = runs.run(ended.files, case.words)
-    want((again.status, again.shown) == (case.usual.status, case.usual.shown), f"{what}: again it {again.told()}")
+    want((again.status, again.shown) == (case.usual.status, case.usual.shown), f"{what}: the command again {again.told()}")
     want_same(runs, case, again, what)
 
 
 def try_fault(runs, case, fail, how):
-    """Lets a call go another way. Answers whether there was such a call."""
+    """Makes a call go another way. Returns whether there was such a call."""
     ended = runs.run(case.files, case.words, fail=f"{fail} {how}")
     other = ended.other
     if not other:
@@ -240,8 +240,8 @@ def try_fault(runs, case, fail, how):
         same = (ended.shown, ended.files) == (case.usual.shown, case.usual.files)
         want(same, f"{what}: {ended.told()}, or left other files than usual")
     else:
-        # A file that isn't there has its line.
-        want(ended.status == 12 or not goes_on(ended, other), f"{what}: it went on behind the fault")
+        # A missing file has its own line.
+        want(ended.status == 12 or not goes_on(ended, other), f"{what}: it continued after the fault")
         want_over(runs, case, ended, what)
     return True
 
@@ -263,7 +263,7 @@ def in_turn(runs, drawn):
 
 
 def drawn_fault(runs, draw):
-    """A drawn call of a drawn command, of those over some files. Answers whether there was such a call."""
+    """A drawn call of a drawn command, of those over some files. Returns whether there was such a call."""
     case, kind = drawn_case(runs, draw), draw.choice(["write", "write", "read", "sync", "sync", *FAULTS])
     how, endings = drawn_way(draw, kind)
     ending = draw.choice(endings)

@@ -1,4 +1,4 @@
-"""What flashes hold of a day (trials/polls.py), as `vota` with no keys tells it: over both, and over each alone."""
+"""The state of a day (trials/polls.py) that flashes hold, as `vota` with no keys reports it: over both, and over each one alone."""
 
 from commands import VOTA, want
 from polls import COMMIT_LINES, FLASHES
@@ -14,7 +14,7 @@ def begun(text, count):
 
 
 def allowed(text, shown, state, last):
-    """The states of which flashes hold one, where a session from a state to another has this text, and so much of it was shown."""
+    """The states that the flashes may hold when a session between two states has this text, and this much of it was shown."""
     if not shown:
         return {state}
     told = state + begun(text, len(shown))
@@ -34,7 +34,7 @@ def flashes_in(files, what):
 
 
 def held(runs, day, flashes, what):
-    """The state that these flashes hold. They are at rest with it behind the call."""
+    """The state that these flashes hold. They are at rest with it after the call."""
     ended = runs.run(with_flashes(day, "", flashes), VOTA)
     line = ended.shown.decode(errors="replace")
     is_opening = line.startswith("URNA ") and line.endswith("\n") and line[5:-1] in day.states
@@ -46,7 +46,7 @@ def held(runs, day, flashes, what):
 
 
 def looks(flashes, frames, alone):
-    """Both flashes, and where that is asked each alone, beside one that has its frame and no slot open."""
+    """Both flashes, and, if asked for, each one alone beside one that has its frame and no slot open."""
     tried = {"both flashes": list(flashes)}
     if alone:
         tried["the internal flash alone"] = [flashes[0], frames[1]]
@@ -55,11 +55,11 @@ def looks(flashes, frames, alone):
 
 
 def want_held(runs, day, flashes, states, alone, what):
-    """Both flashes hold one of these states, and so does each alone where that is asked. Answers what both hold."""
+    """Both flashes hold one of these states, and so does each one alone if asked for. Returns the state that both hold."""
     tried = looks(flashes, [day.frame(0), day.frame(1)], alone)
     told = " or ".join(day.states[it] for it in sorted(states))
     found = []
     for name, images in tried.items():
         found.append(held(runs, day, images, f"{what}, {name}"))
-        want(found[-1] in states, f"{what}, {name}: {day.states[found[-1]]} is held, and not {told}")
+        want(found[-1] in states, f"{what}, {name}: {day.states[found[-1]]} is held, expected {told}")
     return found[0]

@@ -1,5 +1,5 @@
-"""The largest report that the limits allow (docs/FORMATS.md, "Limits"): all offices, all parties, 600 voters who came, and as many candidates as
-their votes can name; and the tables of its election."""
+"""The largest report that the limits allow (docs/FORMATS.md, "Limits"), and the tables of its election: all offices, all parties, 600
+voters who came, and as many candidates as their votes can name."""
 
 import os
 import sys
@@ -14,7 +14,7 @@ MAJORITY, PROPORTIONAL = {1: 2, 3: 2, 5: 3, 11: 2}, {6: 4, 7: 5, 8: 5, 13: 5}
 # The offices in the order of the panels, each with its digits.
 OFFICES = {1: 2, 3: 2, 5: 3, 6: 4, 7: 5, 8: 5, 11: 2, 13: 5}
 HEAD = "ORIG:VOTA PROC:99999 DTPL:20261004 TURN:1 ZONA:9999 SECA:9999 APTO:600 COMP:600 FALT:0 DTAB:20261004 HRAB:080000 DTFC:20261004 HRFC:170000"
-# As long as a name may be.
+# The maximum length of a name.
 LONG = 70
 
 
@@ -24,7 +24,7 @@ def votes_of(code):
 
 
 def candidates_of(code):
-    """The candidates of an office, of each party as many: all that its numbers allow, or one for each vote."""
+    """The candidates of an office, the same number of each party: all that its numbers allow, or one for each vote."""
     digits = OFFICES[code] - 2
     each = min(10**digits, votes_of(code) // len(PARTIES))
     return {party: [party * 10**digits + it for it in range(each)] for party in PARTIES}
@@ -59,7 +59,7 @@ def office(code):
 
 
 def tables():
-    """The tables, whose names are as long as they may be."""
+    """The tables, with names of the maximum length."""
     candidates = [(code, it) for code in OFFICES for own in candidates_of(code).values() for it in own]
     rows = {
         "cargo": map(office, OFFICES),

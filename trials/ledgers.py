@@ -1,7 +1,7 @@
-"""Ledgers of a counting centre for the scripts of this folder, written by docs/FORMATS.md alone: an election of some sections, the files of
-their reports with the verdict on each, and flashes whose every state is known to the byte.
+"""Ledgers of a counting centre for the scripts of this folder, written only from docs/FORMATS.md: an election of some sections, the
+files of their reports with the verdict on each, and flashes whose every state is known to the byte.
 
-A ledger is told by the files that it has accepted, by the places of their sections.
+A ledger is identified by the files that it has accepted, by the places of their sections.
 """
 
 import hashlib
@@ -33,8 +33,8 @@ NOMINAL, PARTY, BLANK, NULL = 1, 2, 3, 4
 
 
 class File(NamedTuple):
-    """A file that is listed: its bytes, the place of its section and the votes of its report, of each panel by choice; or the verdict by
-    which it is refused by itself."""
+    """A listed file: its bytes, the place of its section and the votes of its report, for each panel by choice; or the verdict that
+    refuses it on its own."""
 
     content: bytes
     place: int = 0
@@ -52,12 +52,13 @@ def open_bodies(flash):
 
 
 def is_in_use(flash):
-    """Whether it has a ledger with a report, of whichever tables."""
+    """Whether it has a ledger with a report, of any tables."""
     return flash.startswith(MAGIC) and any(any(body[4:8]) for body in open_bodies(flash))
 
 
 class Centre:
-    """An election of three offices and of sections with so many voters, and with so many candidates for councillor in each party."""
+    """An election of three offices and of sections with these numbers of voters, and with this many candidates for councillor in each
+    party."""
 
     def __init__(self, voters, people=1):
         self.voters = voters
@@ -95,7 +96,7 @@ class Centre:
         return text
 
     def votes(self, draw, place):
-        """The votes of a section in which some come, of each panel by choice."""
+        """The votes of a section in which some come, for each panel by choice."""
         bags = [dict.fromkeys(choices, 0) for choices in self.choices]
         for _ in range(draw.randint(0, self.voters[place])):
             for places, choices, bag in zip(PLACES, self.choices, bags):
@@ -118,7 +119,7 @@ class Centre:
         return found
 
     def faulty(self, draw):
-        """A file that is refused by itself."""
+        """A file that is refused on its own."""
         place = draw.randrange(len(self.voters))
         text = self.fields(place, self.votes(draw, place))
         whole = parts_file(text)
@@ -134,7 +135,7 @@ class Centre:
         return File(content.encode(), fault=fault)
 
     def offered(self, ledger, file):
-        """The verdict on a file that is offered to a ledger, and the ledger behind it."""
+        """The verdict on a file that is offered to a ledger, and the ledger after it."""
         if file.fault:
             return file.fault, ledger
         zone, section = self.sections[file.place]
@@ -145,18 +146,18 @@ class Centre:
         return f"{'REPETIDO' if same else 'CONFLITO'} {zone} {section}", ledger
 
     def documents(self, listed):
-        """The files of a command over this list of files by their names."""
+        """The files of a command over this list of files, by name."""
         names = "".join(f"{name}\n" for name in listed)
         return {"tables": self.tables, "list": names.encode(), **{name: file.content for name, file in listed.items()}}
 
     # ---- sums
 
     def sums(self, ledger, panel):
-        """The sum of each choice of a panel, in their order."""
+        """The sum of each choice of a panel, in order."""
         return [sum(file.votes[panel][choice] for file in ledger.values()) for choice in self.choices[panel]]
 
     def totals(self, ledger):
-        """What `totais` shows of a ledger."""
+        """What `totais` shows for a ledger."""
         lines = [f"SECOES {len(ledger)} DE {len(self.voters)}"]
         for panel, code in enumerate(CODES):
             bag = dict(zip(self.choices[panel], self.sums(ledger, panel)))
@@ -203,7 +204,7 @@ class Centre:
 
 
     def strange_body(self, draw, ledger):
-        """A body that stands for no ledger: that of one with a thing changed, and what that is."""
+        """A body that is not a ledger's: a ledger's body with one thing changed, and what was changed."""
         body, number = bytearray(self.body(ledger)), len(ledger)
         free = draw.choice([place for place in range(2000) if place not in ledger])
         past = one_of(draw, range(len(self.voters), 2000))
@@ -239,7 +240,7 @@ def votes_of(bag, kind):
 
 
 def nominal_fields(bag, is_listed):
-    """The fields of the candidates with a vote, of those that are listed."""
+    """The fields of the listed candidates that have a vote."""
     return "".join(f" {number}:{votes}" for (kind, number), votes in bag.items() if kind == NOMINAL and votes and is_listed(number))
 
 
@@ -256,7 +257,7 @@ def party_fields(bag):
 
 
 class Taking:
-    """A `recebe` of a list of files over a ledger: the ledgers behind each file, what is shown, and the status."""
+    """A `recebe` of a list of files over a ledger: the ledgers after each file, the output, and the status."""
 
     def __init__(self, centre, ledger, listed):
         self.centre, self.listed, self.states, lines = centre, listed, [ledger], [f"LIVRO {len(ledger)}\n"]
@@ -270,8 +271,8 @@ class Taking:
         self.status = 6 if any(b" ACEITO " not in line for line in self.lines[1:]) else 0
 
     def allowed(self, count):
-        """The ledgers of which flashes hold one where so many bytes were shown: that with as many reports as verdicts had begun to be shown,
-        or one more; where nothing was shown, the one that was found."""
+        """The ledgers of which the flashes hold one after this many shown bytes: that with as many reports as verdicts had begun to be
+        shown, or one more; if nothing was shown, the one that was found."""
         if count == 0:
             return self.states[:1]
         starts = [sum(map(len, self.lines[:at])) for at in range(1, len(self.lines))]

@@ -1,5 +1,5 @@
-"""Refused memory: a run of which one allocation is refused, or one and all behind it, ends as usual or for want of memory, and then
-the same command ends as usual."""
+"""Denied memory: a run in which one allocation is denied, or one and all after it, ends as usual or out of memory, and then the same
+command ends as usual."""
 
 import itertools
 import random
@@ -16,10 +16,10 @@ CONFERE, ENSAIO = ["confere", "tables", "a.bu"], ["ensaio", "1"]
 RECONTA = ["reconta", "a.bu", "a.rdv"]
 # The files of a rehearsal.
 REHEARSED = tuple(f"ensaio.{end}" for end in ("toml", "rol", "teclas", "flash", "bu", "rdv"))
-# How many allocations one run refuses, each in a copy of its process.
+# How many allocations one run denies, each in a copy of its process.
 IN_A_RUN = 1000
 
-# The report of a second section for the worked list, of whose five voters four came, and what is told of that list up to the sums.
+# The report of a second section for the worked list, in which four of five voters came, and the output for that list up to the sums.
 SECOND_FIELDS = (
     "ORIG:VOTA PROC:7 DTPL:20261004 TURN:1 ZONA:2 SECA:1 APTO:5 COMP:4 FALT:1 DTAB:20261004 HRAB:080000 DTFC:20261004 HRFC:170000"
     " CARG:13 TIPO:1 PART:45 LEGP:2 TOTP:2 APTA:5 NOMI:0 LEGC:2 BRAN:0 NULO:2 TOTC:4 CARG:11 TIPO:0 45:3 APTA:5 NOMI:3 BRAN:1 NULO:0 TOTC:4"
@@ -47,9 +47,9 @@ FIM
 
 
 def worked_list():
-    """Reports of two sections, as the script `intake` of `session_tests` lists them: one of the first section, a copy of it, the same with a
-    digit changed and the hash not, with a null vote in the place of the blank one, with a count written 00 and of another election, that of
-    the second section, and the copy again."""
+    """Reports of two sections, as the script `intake` of `session_tests` lists them: one of the first section, a copy of it, one with a
+    changed digit and the old hash, one with a null vote instead of the blank one, one with a count written 00, one of another election,
+    one of the second section, and the copy again."""
     fields = polls.THREE_BALLOTS_FIELDS
     report, counts = parts_file(fields), "BRAN:1 NULO:0"
     files = {
@@ -68,28 +68,28 @@ def worked_list():
 
 
 def listed_reports():
-    """The tables of the three ballots, their report, a copy of it, and the same with another digit, the list of the three, and the record."""
+    """The tables of the three ballots, their report, a copy of it, one with a changed digit, the list of the three, and the record."""
     report = parts_file(polls.THREE_BALLOTS_FIELDS).encode()
     changed = report.replace(b"TOTP:1", b"TOTP:2", 1)
     return {**polls.three_ballots([]), "a.bu": report, "b.bu": report, "c.bu": changed, "list": b"a.bu\nb.bu\nc.bu\n", "a.rdv": polls.THREE_BALLOTS_RECORD.encode()}
 
 
 def certified_reports():
-    """The tables of the worked list, the report of the first section, the same with another digit, and that of the second one, the list of the three,
-    and the certificate."""
+    """The tables of the worked list, the report of the first section, one with a changed digit, that of the second section, the list of
+    the three, and the certificate."""
     worked = worked_list()
     files = {name: worked[other] for name, other in (("tables", "tables"), ("a.bu", "b"), ("b.bu", "digit"), ("c.bu", "other"))}
     return {**files, "list": b"a.bu\nb.bu\nc.bu\n", "c.cer": WORKED_CERTIFICATE}
 
 
 def certifying():
-    """The commands of certificates with their files, what each shows, and what it puts."""
+    """The commands of certificates with their files, the output of each, and the file that it writes."""
     yield CERTIFICA, certified_reports(), b"CERTIFICADO 13\n", {"o.cer": WORKED_CERTIFICATE}
     yield VERIFICA, certified_reports(), b"CERTIFICADO VALIDO 13\n", {}
 
 
 def life(runs):
-    """The commands of the poll of one vote, each with the files that it begins with."""
+    """The commands of the poll of one vote, each with its input files."""
     files = polls.one_vote()
     for words in (CARGA, VOTA, EMITE):
         yield words, files
@@ -97,8 +97,8 @@ def life(runs):
 
 
 def counting():
-    """The commands of a counting centre, each with its files, and of `recebe` what it takes in: new reports, one that is kept, one in
-    conflict with it, and one that is none."""
+    """The commands of a counting centre, each with its files, and for `recebe` what it receives: new reports, a kept one, one in
+    conflict with it, and a file that isn't a report."""
     draw, centre = random.Random("counting"), ledgers.Centre([3, 2, 4])
     kept, new = centre.report(draw, 0), centre.report(draw, 2)
     files = [new, kept, centre.other(draw, kept), centre.faulty(draw), new, centre.report(draw, 1)]
@@ -109,7 +109,7 @@ def counting():
 
 
 def cases(runs):
-    """The commands of which a drawn allocation is refused."""
+    """The commands in which a drawn allocation is denied."""
     listed = listed_reports()
     *_, (_, sealed) = life(runs)
     day = polls.Day(3)
@@ -120,7 +120,7 @@ def cases(runs):
 
 
 def has_taken_some(taking, files, ended):
-    """Whether some first files of a list were taken in, whose lines were shown, or nothing was done."""
+    """Whether some first files of a list were received and their lines shown, or nothing was done."""
     for number in range(len(taking.lines)):
         if ended.shown == b"".join(taking.lines[: number + 1]):
             at_rest = dict(zip(FLASHES, taking.centre.flashes(taking.states[number])))
@@ -129,11 +129,11 @@ def has_taken_some(taking, files, ended):
 
 
 def has_ended_short(words, files, usual, ended):
-    """Whether the files and what was shown are those of a command that wanted memory."""
+    """Whether the files and the output are those of a command that ran out of memory."""
     blank = {name: bytes(ledgers.LENGTH if words == ABRE else LENGTH) for name in FLASHES if name not in files}
     left = {name: what for name, what in ended.files.items() if what != blank.get(name)}
     if words[0] == "vota" and ended.shown:
-        # The whole session is done, and no result is put.
+        # The whole session is done, and no result is written.
         at_rest = all(ended.files.get(name) == usual.files[name] for name in FLASHES)
         return ended.shown == usual.shown and at_rest and set(left) == set(files)
     if words[0] == "totaliza":
@@ -153,7 +153,7 @@ def want_refused(words, files, usual, ended, taking, what):
 
 
 def want_again(runs, words, usual, ended, taking, what):
-    """The same command ends as usual over what was left, which may be a sealed poll by now, or a ledger with some of its reports."""
+    """The same command ends as usual over what was left, which may now be a sealed poll, or a ledger with some of its reports."""
     again = runs.run(ended.files, words)
     if taking:
         ledger = taking.states[max(ended.shown.count(b"\n") - 1, 0)]
@@ -167,14 +167,14 @@ def want_again(runs, words, usual, ended, taking, what):
 
 
 def refuse(runs, words, files, usual, number, how, taking=None):
-    """Does a command with an allocation refused, and then again. Answers whether there was such an allocation. A `recebe` comes with what
-    it takes in."""
+    """Runs a command with an allocation denied, and then again. Returns whether there was such an allocation. A `recebe` comes with what
+    it receives."""
     fail = f"memory * {number} {how}"
     what = f"{' '.join(words)} with URNA_FAIL='{fail}'"
     ended = runs.run(files, words, fail=fail)
     if not ended.other:
         is_usual = (ended.status, ended.shown, ended.files) == (usual.status, usual.shown, usual.files)
-        want(is_usual, f"{what}, which refuses nothing: {ended.told()}, or left other files than usual")
+        want(is_usual, f"{what}, which denies nothing: {ended.told()}, or left other files than usual")
         return False
     want_refused(words, files, usual, ended, taking, what)
     want_again(runs, words, usual, ended, taking, what)
@@ -182,17 +182,17 @@ def refuse(runs, words, files, usual, number, how, taking=None):
 
 
 def each(runs, words, files, usual, taking=None):
-    """Each allocation of a command, and each with all behind it, until a run has no refusal."""
+    """Each allocation of a command, and each with all after it, until a run has no denial."""
     for how in (f"{ENOMEM}", f"+{ENOMEM}"):
         number = 1
         while refuse(runs, words, files, usual, number, how, taking):
-            yield "refused allocations"
+            yield "denied allocations"
             number += 1
 
 
 def each_in_copies(runs, words, files, usual, how):
-    """Each allocation of a command that has many, in a copy of its process (trials/failing.c). Where a copy ends for want of memory, and no
-    file was touched before, nothing is shown and the files are as they were; else the allocation is refused in a run of its own."""
+    """Each allocation of a command that has many, in a copy of its process (trials/failing.c). If a copy runs out of memory before it
+    touched a file, nothing is shown and the files are as they were; else the allocation is denied in a run of its own."""
     count = sum(call.kind == "memory" for call in usual.calls)
     for first in range(1, count + 1, IN_A_RUN):
         last = min(first + IN_A_RUN - 1, count)
@@ -204,18 +204,18 @@ def each_in_copies(runs, words, files, usual, how):
         for number in range(first, last + 1):
             if number not in short:
                 refuse(runs, words, files, usual, number, how)
-            yield "refused allocations"
+            yield "denied allocations"
 
 
 def in_turn(runs):
-    """Each allocation of the poll of one vote, of the commands of a counting centre, of the totals of the worked list, of its certificate, and of
-    a rehearsal over old files."""
+    """Each allocation of the poll of one vote, of the commands of a counting centre, of the totals of the worked list, of its
+    certificate, and of a rehearsal over old files."""
     for words, files in life(runs):
         usual = runs.run(files, words)
         want(usual.status == 0, f"{words[0]} {usual.told()}")
         yield from each(runs, words, files, usual)
     report, record = usual.files["p.bu"].decode(), usual.files["p.rdv"].decode()
-    want(report == parts_file(polls.ONE_VOTE_FIELDS) and record == polls.ONE_VOTE_RECORD, "the results of one vote are others")
+    want(report == parts_file(polls.ONE_VOTE_FIELDS) and record == polls.ONE_VOTE_RECORD, "the results of one vote differ")
     for words, files, taking in counting():
         usual = runs.run(files, words)
         is_usual = (usual.status, usual.shown) == (taking.status, taking.shown) if taking else usual.status == 0
@@ -246,4 +246,4 @@ def trials(runs, drawn):
         draw = drawn(number)
         words, files, usual, taking, count = draw.choice(known)
         refuse(runs, words, files, usual, draw.randint(1, count), draw.choice(("", "+")) + str(ENOMEM), taking)
-        yield "refused allocations"
+        yield "denied allocations"

@@ -1,4 +1,4 @@
-"""What the tools can't use: each ends with one line and the status 2, soon, and makes no file."""
+"""Inputs that the tools can't use: each tool ends with one line and the status 2, soon, and writes no file."""
 
 import os
 import time
@@ -9,7 +9,7 @@ from tooling import SOON, content, example, put, run, want_told
 NEEDS = ["python3-segno", "zbar-tools", "openssh-client"]
 TABLES, REPORT = "federacao.toml", "federacao-42.bu"
 HUGE = 1 << 30
-# The words of each tool: where a file is read, and where one is written.
+# The arguments of each tool, with where a file is read, and where one is written.
 READ, WRITTEN = "<", ">"
 TOOLS = {
     "paper": (READ, READ, WRITTEN),
@@ -48,7 +48,7 @@ def want_refused(tool, words, told):
 
 
 def files(program):
-    """No file, a folder, one of 1 GiB, a pipe, and names that can't be told in a line, in the place of each file of each tool"""
+    """No file, a folder, a file of 1 GiB, a pipe, and names that can't be printed in a line, instead of each file of each tool"""
     prepared()
     for tool, places in TOOLS.items():
         for at, place in enumerate(places):
@@ -62,7 +62,7 @@ def files(program):
 
 
 def words(program):
-    """Words of no form, and programs and libraries that aren't there, each named"""
+    """Invalid arguments, and missing programs and libraries, each named"""
     prepared()
     for tool in TOOLS:
         for given in ([], ["-x"], ["--nada", "a", "b", "c"], ["a"] * 9) if tool != "scan" else ([], ["-x"]):
@@ -83,7 +83,7 @@ def words(program):
 
 
 def contents(program):
-    """Files that aren't what they should be: bytes of no text, empty ones, lists with odd names, keys that are none, pictures that are none"""
+    """Files with the wrong content: bytes that aren't text, empty ones, lists with odd names, invalid keys, invalid pictures"""
     prepared()
     put("vazio", b"")
     put("bytes", bytes(range(256)) * 40)

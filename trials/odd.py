@@ -1,5 +1,5 @@
-"""Odd surroundings: something else in the place of a flash, the flashes of the other program, exchanged flashes of a ledger or such ones with
-strange bodies, a display that closes in the middle of a line or has no room, a folder that can't be written, and a disk that is full."""
+"""Odd surroundings: something else instead of a flash, the flashes of the other program, flashes of a ledger that are exchanged or have
+strange bodies, a display that closes in the middle of a line or has no room, a folder that can't be written, and a full disk."""
 
 import contextlib
 import itertools
@@ -23,7 +23,7 @@ NOBODY = ["setpriv", "--reuid=65534", "--regid=65534", "--clear-groups"]
 
 
 def odd_flash(runs, draw):
-    """A flash that is no file of its length is a fault of its device, and nothing is written."""
+    """A flash that isn't a file of its length is a fault of its device, and nothing is written."""
     day = Day(draw.randint(1, 3))
     device, state = draw.randrange(2), draw.randrange(day.last + 1)
     flashes = day.flashes(2, state)
@@ -34,11 +34,11 @@ def odd_flash(runs, draw):
     what = f"{words[0]} with an odd {FLASHES[device]}"
     want((ended.status, ended.shown) == (21 + device, b""), f"{what}: {ended.told()}")
     want(ended.files == files, f"{what}: left other files")
-    want(held(runs, day, flashes, what) == state, f"{what}: then another state is held")
+    want(held(runs, day, flashes, what) == state, f"{what}: it then holds another state")
 
 
 def odd_ledger(runs, draw):
-    """The same of a ledger; and one file isn't both of its flashes."""
+    """The same for a ledger; and one file can't be both of its flashes."""
     centre, device = takings.drawn_centre(draw), draw.randrange(2)
     ledger = takings.drawn_history(centre, draw)[-1]
     flashes = centre.flashes(ledger)
@@ -55,7 +55,7 @@ def odd_ledger(runs, draw):
 
 
 def other_program(runs, draw):
-    """Each program in the folder of the other one: its flash has another length, and nothing is changed."""
+    """Each program in the other one's folder: its flash has another length, and nothing is changed."""
     centre, day = takings.drawn_centre(draw), Day(draw.randint(1, 3))
     ledger = takings.drawn_history(centre, draw)[-1]
     of_poll = draw.random() < 0.5
@@ -68,8 +68,8 @@ def other_program(runs, draw):
 
 
 def end_of_exchanged(centre, words, pair, listed):
-    """How a command of a ledger ends over these two flashes, each with the ledger that it holds, if it does, and the ledger that is left
-    then, if one is."""
+    """How a command of a ledger ends over these two flashes, each with the ledger that it holds, if any, and the ledger that is left
+    then, if any."""
     flashes, kept = zip(*pair)
     if words == ABRE:
         used = [WORD[device] for device in (0, 1) if ledgers.is_in_use(flashes[device])]
@@ -87,8 +87,8 @@ def end_of_exchanged(centre, words, pair, listed):
 
 
 def exchanged_ledger(runs, draw):
-    """Flashes that are blank, strange, exchanged for each other or for those of another ledger or of a poll, or have an earlier ledger: a
-    command is refused and changes nothing, or goes on from the later ledger."""
+    """Flashes that are blank, strange, exchanged for each other or for those of another ledger or of a poll, or have an earlier ledger:
+    a command is refused and changes nothing, or resumes from the later ledger."""
     centre, other = takings.drawn_centre(draw), takings.drawn_centre(draw)
     history, strange = takings.drawn_history(centre, draw), takings.drawn_history(other, draw)[-1]
     pair = []
@@ -108,13 +108,13 @@ def exchanged_ledger(runs, draw):
     status, shown, ledger = end_of_exchanged(centre, words, pair, listed)
     ended = runs.run(files, words)
     what = f"{words[0]} over exchanged flashes"
-    want((ended.status, ended.shown) == (status, shown), f"{what}: {ended.told()}, and not {status} and {shown!r}")
+    want((ended.status, ended.shown) == (status, shown), f"{what}: {ended.told()}, expected {status} and {shown!r}")
     left = [files[name] for name in FLASHES] if ledger is None else centre.flashes(ledger)
     want(ended.files == {**files, **dict(zip(FLASHES, left))}, f"{what}: left other files")
 
 
 def strange_bodies(runs, draw):
-    """Slots that are open with a body of greater number that stands for no ledger don't count; one whose sums are the greatest does."""
+    """Open slots with a body of a greater number that isn't a ledger's don't count; one with the greatest sums does."""
     centre = takings.drawn_centre(draw)
     place = draw.randrange(len(centre.voters))
     ledger = {it: centre.report(draw, it) for it in range(len(centre.voters)) if it != place and draw.random() < 0.5}
@@ -136,7 +136,7 @@ def strange_bodies(runs, draw):
 
 
 def odd_result(runs, draw):
-    """What stands under the name of a result, or under that of one that is made, is replaced, but for a folder."""
+    """Whatever has the name of a result, or of a result in progress, is replaced, unless it is a folder."""
     day = Day(draw.randint(1, 3))
     whats = {"a folder": FOLDER, "a pipe": FIFO, "a link": Link("tables"), "a file": b"old"}
     kind, name = draw.choice(list(whats)), draw.choice(("p.bu", "p.rdv", "p.bu.new", "p.rdv.new"))
@@ -147,11 +147,11 @@ def odd_result(runs, draw):
     want(ended.status == (20 if kind == "a folder" else 0), f"{what}: {ended.told()}")
     if ended.status == 0:
         want(ended.files == usual.files, f"{what}: left other files")
-    want(all(ended.files[it] == files[it] for it in files), f"{what}: a document or a flash is another one")
+    want(all(ended.files[it] == files[it] for it in files), f"{what}: a document or a flash differs")
 
 
 def flash_as_result(runs, draw):
-    """A flash that is open is not replaced by a result whose name it has too, also where a call over that name fails."""
+    """An open flash is not replaced by a result of the same name, even if a call on that name fails."""
     day, device = Day(draw.randint(1, 3)), draw.randrange(2)
     words, name = draw.choice([(EMITE, "p.bu"), (EMITE, "p.rdv"), (VOTA, "o.bu"), (VOTA, "o.rdv")])
     flashes = day.flashes(2, day.last)
@@ -168,7 +168,7 @@ def flash_as_result(runs, draw):
 
 
 def want_shown_part(runs, case, ended, what):
-    """Where the display failed, what was shown is a front, and the rest holds as behind any fault."""
+    """When the display failed, the output is a prefix, and the rest holds as after any fault."""
     same = (ended.status, ended.shown, ended.files) == (case.usual.status, case.usual.shown, case.usual.files)
     if same:
         return
@@ -186,13 +186,13 @@ def no_display(runs, draw):
 
 
 def closed_display(runs, draw):
-    """The reader of a pipe goes away behind a drawn number of bytes of a long session. A line to a pipe goes whole or not at all: one that
-    is cut off is tried on full disks and by short writes."""
+    """The reader of a pipe goes away after a drawn number of bytes of a long session. A line to a pipe is written whole or not at all;
+    full disks and short writes test cut lines."""
     day = Day(draw.randint(30, 50))
     case = faults.session(runs, day, 0, day.last)
     closes = draw.randint(1, len(case.usual.shown))
     ended = runs.run(case.files, case.words, tells=True, closes=closes)
-    want_shown_part(runs, case, ended, f"{' '.join(case.words)} with a display that closes behind {closes} bytes")
+    want_shown_part(runs, case, ended, f"{' '.join(case.words)} with a display that closes after {closes} bytes")
 
 
 def full_display(runs, draw):
@@ -205,7 +205,7 @@ def full_display(runs, draw):
 
 @contextlib.contextmanager
 def small_disk(runs, pages):
-    """A file system in memory with room for so many pages."""
+    """A file system in memory with room for this many pages."""
     folder = os.path.join(runs.work, "disk")
     os.makedirs(folder, exist_ok=True)
     subprocess.run(["mount", "-t", "tmpfs", "-o", f"size={pages * PAGE}", "tmpfs", folder], check=True)
@@ -216,7 +216,7 @@ def small_disk(runs, pages):
 
 
 def display_on_a_full_disk(runs, draw):
-    """Standard output is a file on a disk that is full in the middle of a line."""
+    """Standard output is a file on a disk that gets full in the middle of a line."""
     case = faults.drawn_case(runs, draw)
     before = draw.randint(max(0, PAGE - len(case.usual.shown)), PAGE)
     with small_disk(runs, 1) as disk:
@@ -230,13 +230,13 @@ def display_on_a_full_disk(runs, draw):
 
 
 def want_whole_flashes(files, length, what):
-    """A flash that could not be made is not there, and what is there has its length."""
+    """A flash that could not be made is missing, and an existing one has its length."""
     for name in FLASHES:
         want(name not in files or len(files[name]) == length, f"{what}: {name} has another length")
 
 
 def full_disk(runs, draw):
-    """A load, a session and its results where the disk is full at some point; with more room the same commands go on."""
+    """A load, a session and its results on a disk that gets full at some point; with more room the same commands continue."""
     day = Day(draw.randint(1, 3))
     files = day.documents(day.keys())
     pages = draw.choice([draw.randint(4, 80), draw.randint(66, 76)])
@@ -260,7 +260,7 @@ def full_disk(runs, draw):
 
 
 def full_disk_of_ledger(runs, draw):
-    """An `abre` where the disk is full at some point; with more room it opens the ledger, and the reports are taken in."""
+    """An `abre` on a disk that gets full at some point; with more room it opens the ledger, and the reports are received."""
     centre = takings.drawn_centre(draw)
     listed = takings.drawn_list(centre, draw, {})
     files, taking = centre.documents(listed), ledgers.Taking(centre, {}, listed)
@@ -279,7 +279,7 @@ def full_disk_of_ledger(runs, draw):
 
 
 def read_only_cases(runs, draw):
-    """Commands over a drawn day, and how each ends where nothing can be written."""
+    """Commands over a drawn day, and how each ends if nothing can be written."""
     day = Day(draw.randint(1, 3))
     state = draw.randrange(day.last + 1)
     files = with_flashes(day, day.keys(state), day.flashes(2, state))
@@ -303,17 +303,17 @@ def want_read_only(ended, files, words, status, what):
 
 
 def read_only_disk(runs, draw):
-    """A file system that can only be read."""
+    """A read-only file system."""
     for files, words, status in read_only_cases(runs, draw):
         with small_disk(runs, 4096) as disk:
             fill(disk, files)
             subprocess.run(["mount", "-o", "remount,ro", disk], check=True)
-            want_read_only(runs.run_in(disk, files, words), files, words, status, "on a disk that can only be read")
+            want_read_only(runs.run_in(disk, files, words), files, words, status, "on a read-only disk")
 
 
 @contextlib.contextmanager
 def read_only_folder(runs, files, rights=0o444):
-    """A folder in which this user can make nothing, and has these rights to the files."""
+    """A folder in which this user can't create files, and has these rights to the files."""
     folder = os.path.join(runs.work, "shut")
     os.mkdir(folder)
     fill(folder, files)
@@ -328,7 +328,7 @@ def read_only_folder(runs, files, rights=0o444):
 
 
 def other_user(program):
-    """What goes before a command so that rights hold for it; nothing for a user for whom they hold; None where none can be had."""
+    """The prefix of a command that makes rights apply to it; empty for a user to whom they apply; None if that is impossible."""
     if os.geteuid() != 0:
         return []
     try:
@@ -339,7 +339,7 @@ def other_user(program):
 
 
 def without_rights(runs, draw, prefix):
-    """A folder of another user; and one in which the flashes can be written and no result can be put."""
+    """A folder of another user; and one in which the flashes can be written and no result can be created."""
     for files, words, status in read_only_cases(runs, draw):
         with read_only_folder(runs, files) as folder:
             ended = runs.run_in(folder, files, words, prefix=prefix)
@@ -348,9 +348,9 @@ def without_rights(runs, draw, prefix):
     files = with_flashes(day, day.keys(), day.flashes(2, 0))
     with read_only_folder(runs, files, 0o666) as folder:
         ended = runs.run_in(folder, files, VOTA, prefix=prefix)
-    want(ended.status == 20, f"a poll in a folder where nothing can be made: {ended.told()}")
+    want(ended.status == 20, f"a poll in a folder where no file can be created: {ended.told()}")
     sealed = with_flashes(day, day.keys(), day.flashes(2, day.last))
-    want(ended.files == sealed, "a poll in a folder where nothing can be made was not sealed")
+    want(ended.files == sealed, "a poll in a folder where no file can be created was not sealed")
 
 
 def has_mounts(runs):
@@ -365,16 +365,16 @@ def has_mounts(runs):
 
 
 def surroundings(runs):
-    """What can be tried on this machine. What can't is told."""
+    """What can be tested on this machine. What can't is printed."""
     found = [odd_flash, odd_ledger, other_program, exchanged_ledger, strange_bodies]
     found += [odd_result, flash_as_result, no_display, closed_display, full_display]
     if has_mounts(runs):
         found += [display_on_a_full_disk, full_disk, full_disk_of_ledger, read_only_disk]
     else:
-        print("note: no file system can be mounted here, so a disk that is full or can only be read is left out", flush=True)
+        print("note: this user can't mount a file system, so full and read-only disks are left out", flush=True)
     prefix = other_user(runs.program)
     if prefix is None:
-        print("note: no other user can be had here, so a folder without rights is left out", flush=True)
+        print("note: this user can't act as another one, so folders without rights are left out", flush=True)
     else:
         os.chmod(runs.work, 0o755)
         found.append(lambda runs, draw: without_rights(runs, draw, prefix))

@@ -1,9 +1,10 @@
-"""Pictures of codes: the drawings of a paper as pixels, which needs no browser; the pixels of a PDF; and a column of pixels that is black."""
+"""Pictures of codes: the drawings of a paper as pixels, without a browser; the pixels of a PDF; and pictures with black columns of
+pixels."""
 
 import re
 import subprocess
 
-# Pixels of a module, where a drawing is made into pixels here.
+# Pixels of a module in the drawings made here.
 SCALE = 4
 DPI = 200
 
@@ -20,7 +21,7 @@ class Picture:
         return path
 
     def blacked(self, left, wide):
-        """The same with so many columns black, from one on."""
+        """The same with this many columns black, from one on."""
         made = Picture(self.width, self.height, self.data)
         for row in range(self.height):
             at = row * self.width + left
@@ -41,7 +42,7 @@ def read(path):
 
 
 def runs_in(path):
-    """Each row of black modules of a drawing of segno: where it begins, and how long it is."""
+    """Each row of black modules of a drawing of segno: its start and its length."""
     x, y = 0, 0
     for command, first, second in re.findall(r"([Mmh])(-?[0-9.]+)(?: (-?[0-9.]+))?", path):
         if command == "h":
@@ -60,11 +61,11 @@ def drawn(side, path):
 
 
 def drawings(page):
-    """Each code of a paper: its side on the paper in millimetres, its modules, the white ones around it too, and its pixels."""
+    """Each code of a paper: its side on the paper in millimetres, its modules, with the white ones around it, and its pixels."""
     for width, side, path in re.findall(r'<svg width="([0-9.]+)mm"[^>]*viewBox="0 0 (\d+) \d+"[^>]*>.*?\bd="([^"]*)"', page):
         yield float(width), int(side), drawn(int(side), path)
 
 
 def pages_of(pdf, begin):
-    """The pages of a PDF as pixels, in files whose names begin so."""
+    """The pages of a PDF as pixels, in files whose names begin with this."""
     subprocess.run(["pdftoppm", "-r", str(DPI), "-gray", pdf, begin], check=True, capture_output=True)

@@ -1,12 +1,12 @@
-"""Polls for the scripts of this folder, written by docs/FORMATS.md alone: small ones that were worked out by hand, and days whose
-every state is known to the byte."""
+"""Polls for the scripts of this folder, written only from docs/FORMATS.md: small ones computed by hand, and days whose every state is
+known to the byte."""
 
 import hashlib
 
 OPENED, CLOSED = "20261004080000", "20261004170000"
 HEADER = "processo = 7\ndata = 20261004\nturno = 1\n"
 
-# The small polls. The ballots of three voters are told by the fields that they confirm.
+# The small polls. The ballots of three voters are given by the fields that they confirm.
 MAYOR = '{codigo = 11, regra = "absoluta", cadeiras = 1}'
 COUNCIL = '{codigo = 13, regra = "proporcional", cadeiras = 5}'
 PARTIES = 'partido = [{numero = 13, nome = "PA"}, {numero = 45, nome = "PB"}]\n'
@@ -18,7 +18,7 @@ MAYORS = """  {cargo = 11, numero = 13, nascimento = 19600303, nome = "CARLA"},
 """
 THREE_BALLOTS = [["45", "13"], ["B", "45"], ["13001", "99"]]
 
-# What their files of results have.
+# What their result files have.
 HEAD = "ORIG:VOTA PROC:7 DTPL:20261004 TURN:1 ZONA:1 SECA:42 APTO:{0} COMP:{0} FALT:0"
 HOURS = "DTAB:20261004 HRAB:080000 DTFC:20261004 HRFC:170000"
 ONE_VOTE_FIELDS = f"{HEAD.format(1)} {HOURS} CARG:11 TIPO:0 13:1 APTA:1 NOMI:1 BRAN:0 NULO:0 TOTC:1"
@@ -37,7 +37,7 @@ def documents_of(tables, roll, keys):
 
 
 def small_poll(offices, candidates, voters, ballots):
-    """The documents of a poll, the ballots in the order in which they are cast, each a voter and the fields."""
+    """The documents of a poll, with the ballots in the order in which they are cast, each a voter and the fields."""
     sections = f"secao = [{{zona = 1, secao = 42, eleitores = {voters}}}]\n"
     tables = f"{HEADER}cargo = [{', '.join(offices)}]\n{PARTIES}candidato = [\n{candidates}]\n{sections}"
     roll = "".join(f"{10_000_000_000 + voter:012}\n" for voter in range(1, voters + 1))
@@ -67,11 +67,11 @@ LENGTH = 512 + 2 * SLOT
 # What the voters of a day confirm, one after the other.
 BALLOTS = [("13001", "45"), ("45", "99"), ("B", "B"), ("99999", "4R45")]
 
-# What each ballot says in each panel, and the choices of each panel in order: a kind (1 nominal, 2 party, 3 blank, 4 null) and a number.
+# What each ballot has in each panel, and the choices of each panel in order: a kind (1 nominal, 2 party, 3 blank, 4 null) and a number.
 SAID = [((1, 13001), (1, 45)), ((2, 45), (4, 0)), ((3, 0), (3, 0)), ((4, 0), (1, 45))]
 CHOICES = [[(1, 13001), (2, 13), (2, 45), (3, 0), (4, 0)], [(1, 45), (3, 0), (4, 0)]]
 
-# The lines of which each stands for one commit.
+# The lines that each stand for one commit.
 COMMIT_LINES = ("ABERTA ", "FIM", "ENCERRADA ")
 
 
@@ -93,9 +93,10 @@ def title(voter):
 
 
 class Day:
-    """A poll of two panels in a section of so many voters, who all come, in the order of the roll.
+    """A poll of two panels in a section with this many voters, who all come, in the order of the roll.
 
-    A state is told by its number: 0 before the poll is opened, then one for each number of voters who came, and the last one sealed.
+        A state is identified by its number: 0 before the poll is opened, then one for each number of voters who came, and the last one sealed.
+
     """
 
     def __init__(self, voters):
@@ -112,7 +113,7 @@ class Day:
         )
 
     def keys(self, state=0, last=None):
-        """The keys that lead from a state on to another one, or to the last."""
+        """The keys that lead from a state to another one, or to the last."""
         steps = [f"M ABRE {OPENED}\n"]
         for voter in range(self.voters):
             first, second = BALLOTS[voter % len(BALLOTS)]
@@ -140,7 +141,7 @@ class Day:
         return not bodies.isdisjoint(open_bodies(flash))
 
     def came(self, state):
-        """How many came."""
+        """How many voters came."""
         return min(max(state - 1, 0), self.voters)
 
     def body(self, version, state):

@@ -12,21 +12,21 @@ from tooling import content, example, put, run, want_told
 
 NEEDS = ["python3-segno", "zbar-tools"]
 TABLES, REPORT = "federacao.toml", "federacao-42.bu"
-# The bytes of a name, and what is none of the hidden characters of one.
+# The bytes of a name, and a text without hidden characters.
 LONGEST_NAME = 70
 
 
 def paper(program, tables, report, name, *words):
-    """The text of a paper, and what was told."""
+    """The text of a paper, and the messages."""
     status, shown, told = run("paper", "--urna", program, *words, tables, report, name)
-    want(status == 0 and "ACEITO" in shown, f"{report} is not printed: {status} {told}")
+    want(status == 0 and "ACEITO" in shown, f"{report} was not printed: {status} {told}")
     return content(name).decode(), told
 
 
 def pictures(page):
     """A picture of each code of a paper."""
     found = list(pixels.drawings(page))
-    want(all(side <= 72 and side / modules >= 0.55 for side, modules, _ in found), "a code has no place on a roll, or too small modules")
+    want(all(side <= 72 and side / modules >= 0.55 for side, modules, _ in found), "a code doesn't fit on a roll, or its modules are too small")
     return [picture.save(f"codigo-{number}.pgm") for number, (_, _, picture) in enumerate(found, 1)]
 
 
@@ -42,16 +42,16 @@ def small(program):
     example(TABLES, REPORT)
     for level in ("L", "M"):
         page, told = paper(program, TABLES, REPORT, f"{level}.html", "--nivel", level)
-        want(not told, f"of these names nothing is to be told: {told}")
+        want(not told, f"expected no message about these names: {told}")
         for it in ("Vereador", "10001 <bdi>ANA</bdi></span><span class=\"number\">35<", "Partido 30 <bdi>PC</bdi>", "08:00:00", "C29784B1 856B3980"):
             want(it in page, f"the paper has no {it}")
-        want(not re.search(r"https?:|<script|url\(", page), "the paper asks for something outside of it")
+        want(not re.search(r"https?:|<script|url\(", page), "the paper loads something from outside")
         files = pictures(page)
         want_read(files, content(REPORT), f"level {level}")
 
 
 def large(program):
-    """The codes of the largest report are read in any order; what is missing, doubled or of another report is told"""
+    """The codes of the largest report are read in any order; missing, doubled and foreign parts are reported"""
     put("t.toml", largest.tables())
     report = largest.report()
     put("b.bu", report)
@@ -66,17 +66,17 @@ def large(program):
     want_told(run("scan", "lido.bu", data=report + other), 1, "boletins diferentes: a parte 1", "two parts of one number")
     example(REPORT)
     want_told(run("scan", "lido.bu", data=report + content(REPORT)), 1, "boletins diferentes: a parte 1 de 1", "two reports")
-    want(not os.path.exists("lido.bu"), "a file was made of what isn't whole")
+    want(not os.path.exists("lido.bu"), "a file was made from missing or mixed parts")
 
 
 def hidden_characters():
-    """Each character that can't be seen or turns the text and that a name of the tables may have."""
+    """Each character that a name of the tables may have and that is invisible or reverses the text."""
     found = [chr(it) for it in range(0x20, sys.maxunicode + 1) if unicodedata.category(chr(it)) in ("Cc", "Cf", "Zl", "Zp")]
     return [it for it in found if it != "\x7f"]
 
 
 def names_of(characters):
-    """Names that have all of these, each as long as one may be."""
+    """Names that have all of these, each of the maximum length."""
     names = [""]
     for it in characters:
         if len((names[-1] + it).encode()) > LONGEST_NAME:
@@ -86,7 +86,7 @@ def names_of(characters):
 
 
 def hidden(program):
-    """Each character of a name that can't be seen, or turns the text, stands on the paper as its number, and is told"""
+    """Each character of a name that is invisible or reverses the text is on the paper as its number, and is reported"""
     characters = hidden_characters()
     names = names_of(characters)
     fields = " ".join(f"{10001 + it}:1" for it in range(len(names)))
@@ -101,11 +101,11 @@ def hidden(program):
     left = [it for it in characters if it in page or f"[U+{ord(it):04X}]" not in page]
     want(not left, f"not shown as numbers: {[hex(ord(it)) for it in left]}")
     want("<bdi>&lt;b&gt;&amp;</bdi>" in page, "a name became markup")
-    want(len(told) == count and all("tem caracteres que não se veem: [U+" in it for it in told), f"of {count} names it is told {told[:2]}")
+    want(len(told) == count and all("tem caracteres que não se veem: [U+" in it for it in told), f"the messages about {count} names: {told[:2]}")
 
 
 def refused(program):
-    """What confere doesn't accept isn't printed, and its verdict is told"""
+    """A report that confere doesn't accept isn't printed, and its verdict is printed"""
     example(TABLES, REPORT, "secao43.bu")
     put("cortado.bu", content(REPORT)[:-1])
     put("outro.bu", content(REPORT).replace(b"10001:35", b"10001:36"))

@@ -1,9 +1,10 @@
-"""A flash breaks in the middle of a poll, another one is in its place, and `repoe` loads it from the one that stands: sessions, exchanges and
-replacements one after another, each cut at a drawn stop (trials/cuts.py), or with a call that fails or is killed (trials/failing.c).
+"""A flash breaks in the middle of a poll, another one replaces it, and `repoe` loads it from the remaining one: sessions, exchanges and
+replacements one after another, each cut at a drawn stop (trials/cuts.py), killed, or with a failing call (trials/failing.c).
 
-At every moment behind an exchange the standing flash alone holds the state that it held, which is the one whose line was begun last or the
-next. No other command changes it; which one goes on, and with which status another ends, is worked out from the bytes of both flashes. At
-last the rest of the keys seal the poll, and its report is that of the day with no exchange."""
+At every moment after an exchange the remaining flash alone holds the state that it held, which is the one whose line was begun last or
+the next. No other command changes it; the bytes of both flashes determine which command continues, and with which status another one
+ends. At the end the rest of the keys seal the poll, and its report is that of the day without an exchange.
+"""
 
 import itertools
 
@@ -16,7 +17,7 @@ from runs import FIFO, FOLDER, Link
 
 
 def refusal_of_repoe(day, flashes, device):
-    """How `repoe` refuses to load this flash from the other one, if it does: the tests in their order."""
+    """How `repoe` refuses to load this flash from the other one, if it does: the tests in order."""
     standing = 1 - device
     if not day.is_loaded(flashes[standing], standing):
         return 30, f"ERRO OUTRA CARGA {WORD[standing]}\n"
@@ -26,7 +27,7 @@ def refusal_of_repoe(day, flashes, device):
 
 
 def usual_end(day, flashes, words, state):
-    """How a command ends over these flashes, of which one stands for this state; None where it may write more than a recovery."""
+    """How a command ends over these flashes, one of which has this state; None if it may write more than a recovery."""
     if words in REPOE:
         return refusal_of_repoe(day, flashes, REPOE.index(words))
     if words == CARGA:
@@ -45,7 +46,7 @@ def replaced_line(day, device, state):
 
 
 def alone(runs, day, flash, device, what):
-    """The state that a flash alone holds, beside one of which no slot is open."""
+    """The state that a flash holds alone, beside one with no slot open."""
     pair = [day.frame(0), day.frame(1)]
     pair[device] = flash
     return held(runs, day, pair, f"{what}, {FLASHES[device]} alone")
@@ -53,24 +54,24 @@ def alone(runs, day, flash, device, what):
 
 def want_standing(runs, day, flash, device, state, what):
     found = alone(runs, day, flash, device, what)
-    want(found == state, f"{what}: {FLASHES[device]} alone holds {day.states[found]!r}, and not {day.states[state]!r}")
+    want(found == state, f"{what}: {FLASHES[device]} alone holds {day.states[found]!r}, expected {day.states[state]!r}")
 
 
 def try_beside(runs, day, draw, flashes, state, what):
-    """Another command over a flash that stands and one that isn't loaded from it yet. It writes nothing but a recovery of the poll."""
+    """Another command over a remaining flash and one that isn't loaded from it yet. It writes nothing except a recovery of the poll."""
     words = draw.choice([CARGA, EMITE, VOTA, *REPOE])
     end = usual_end(day, flashes, words, state)
     if end is None:
         return
     ended = runs.run(with_flashes(day, "", flashes), words)
     what = f"{what}, {' '.join(words)}"
-    want((ended.status, ended.shown.decode()) == end, f"{what}: {ended.told()}, and not {end}")
+    want((ended.status, ended.shown.decode()) == end, f"{what}: {ended.told()}, expected {end}")
     left = day.flashes(2, state) if words == VOTA and end[0] == 0 else flashes
     want(flashes_in(ended.files, what) == left, f"{what}: left other flashes")
 
 
 def want_replaced(runs, day, files, device, state, what):
-    """The replacement is done, or the flash is in use and both are the poll; the session behind it finds both at rest. Answers them."""
+    """The replacement is done, or the flash is in use and both hold the poll; the session after it finds both at rest. Returns them."""
     ended = runs.run(files, REPOE[device])
     is_done = (ended.status, ended.shown.decode()) == (0, replaced_line(day, device, state))
     is_poll = (ended.status, ended.shown.decode()) == (32, f"ERRO EM USO {WORD[device]}\n")
@@ -78,13 +79,13 @@ def want_replaced(runs, day, files, device, state, what):
     left = flashes_in(ended.files, what)
     want(is_poll or left == day.flashes(2, state), f"{what}: then repoe left other flashes")
     found = held(runs, day, left, f"{what}, and repoe")
-    want(found == state, f"{what}, and repoe: {day.states[found]!r} is held, and not {day.states[state]!r}")
+    want(found == state, f"{what}, and repoe: {day.states[found]!r} is held, expected {day.states[state]!r}")
     return day.flashes(2, state)
 
 
 def spare(day, draw, flash, device):
-    """What may be in the place of a flash that broke, and isn't in use: zeros, anything, one that is loaded for this section or for
-    another poll, with a slot or with none, and the lost one without its header."""
+    """What may replace a flash that broke, and isn't in use: zeros, anything, one that is loaded for this section or for another poll,
+    with a slot or with none, and the lost one without its header."""
     other = Day(day.voters % 6 + 1)
     loaded = [it.flash(device, draw.choice((1, 2)), 0) for it in (day, other)]
     frames = [it.frame(device) for it in (day, other)]
@@ -92,7 +93,7 @@ def spare(day, draw, flash, device):
 
 
 def cut_replacement(runs, day, draw, flashes, device, state, what):
-    """`repoe`, in some cases with a fault, cut at a drawn stop. Answers the images."""
+    """`repoe`, sometimes with a fault, cut at a drawn stop. Returns the images."""
     fail = drawn_fault(draw, 1)
     what = what + (f" with URNA_FAIL='{fail}'" if fail else "")
     ended = runs.run(with_flashes(day, "", flashes), REPOE[device], fail=fail, tells=True)
@@ -107,7 +108,7 @@ def cut_replacement(runs, day, draw, flashes, device, state, what):
 
 
 def exchange(runs, day, draw, flashes, device, state, what):
-    """A flash is exchanged for a spare and loaded, with cuts in between, as often as it isn't in use. Answers both flashes."""
+    """Exchanges a flash for a spare and loads it, with cuts in between, as often as it isn't in use. Returns both flashes."""
     flashes = list(flashes)
     flashes[device] = spare(day, draw, flashes[device], device)
     what = f"{what}, another {FLASHES[device]}"
@@ -139,7 +140,7 @@ def chains(runs, draw):
 
 
 def want_end(runs, day, flashes, state, what):
-    """The rest of the keys seal the poll, and leave what the day leaves that had no exchange."""
+    """The rest of the keys seal the poll, and leave what the day without an exchange leaves."""
     ended = runs.run(with_flashes(day, day.keys(state), flashes), VOTA)
     usual = runs.run(with_flashes(day, day.keys(), day.flashes(2, 0)), VOTA)
     left = {**ended.files, "keys": usual.files["keys"]}
@@ -147,7 +148,7 @@ def want_end(runs, day, flashes, state, what):
 
 
 def failing(runs, draw):
-    """A call of `repoe` that goes another way, or is killed, over a spare or over a flash that isn't there and is made."""
+    """A call of `repoe` that goes another way, or is killed, over a spare or over a missing flash, which is created."""
     day, device = Day(draw.randint(1, 4)), draw.randrange(2)
     state = draw.randrange(day.last + 1)
     flashes = day.flashes(draw.choice((1, 2, 2)), state)
@@ -165,14 +166,14 @@ def failing(runs, draw):
     what = f"{' '.join(REPOE[device])} with URNA_FAIL='{fail}' ({ended.other.kind} {ended.other.name})"
     allowed = {-9} if how == "kill" else statuses(case, ended.other, how)
     want(ended.status in allowed, f"{what}: {ended.told()}")
-    want(ended.status in (-9, 0, 12) or not goes_on(ended, ended.other), f"{what}: it went on behind the fault")
+    want(ended.status in (-9, 0, 12) or not goes_on(ended, ended.other), f"{what}: it continued after the fault")
     want_standing(runs, day, ended.files[FLASHES[1 - device]], 1 - device, state, what)
     want_end(runs, day, want_replaced(runs, day, ended.files, device, state, what), state, what)
 
 
 def odd(runs, draw):
-    """What stands in the place of a flash and is no file of its length, or the other flash, is a fault, and nothing is written; a link to a
-    card is followed."""
+    """Something instead of a flash that isn't a file of its length, or is the other flash, is a fault, and nothing is written; a link to
+    a card is followed."""
     day, device = Day(draw.randint(1, 3)), draw.randrange(2)
     state, words = draw.randrange(day.last + 1), draw.choice(REPOE)
     files = with_flashes(day, "", day.flashes(2, state))

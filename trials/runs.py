@@ -1,4 +1,4 @@
-"""Runs of both programs over files that are given, each from its beginning to its end, with what it left and which calls it made."""
+"""Runs of both programs over given files, each from its beginning to its end, with the files that it left and the calls that it made."""
 
 import fcntl
 import os
@@ -10,10 +10,10 @@ from typing import NamedTuple
 
 from commands import ABRE, RECEBE, TOTAIS, Violation
 
-# How long a command may take, in seconds.
+# The time limit of a command, in seconds.
 LONGEST = 60
 
-# What stands under a name in the place of a file.
+# What may be under a name instead of a file.
 FOLDER, FIFO = object(), object()
 
 
@@ -22,7 +22,7 @@ class Link(NamedTuple):
 
 
 class Call(NamedTuple):
-    """A call of the program, as trials/failing.c tells it: its kind, the file, of a write its place, the answer, and what a write put."""
+    """A call of the program, as trials/failing.c logs it: its kind, the file, for a write its place, the answer, and what a write wrote."""
 
     kind: str
     name: str
@@ -32,7 +32,7 @@ class Call(NamedTuple):
 
 
 class Ended(NamedTuple):
-    """How a run ended: its status, what it showed, what its folder has then, its calls, and the call that went another way."""
+    """How a run ended: its status, its output, the files of its folder then, its calls, and the call that went another way."""
 
     status: int
     shown: bytes
@@ -45,7 +45,7 @@ class Ended(NamedTuple):
 
 
 def calls_of(told):
-    """The calls of what was told, and the one that went another way, if one did."""
+    """The calls of the log, and the one that went another way, if any."""
     calls, other, is_other, at = [], None, False, 0
     while at < len(told):
         end = told.index(b"\n", at)
@@ -62,7 +62,7 @@ def calls_of(told):
 
 
 def put_down(path, what):
-    """Makes a file of these bytes, or what else is to stand there."""
+    """Makes a file of these bytes, or what else is to be there."""
     if what is FOLDER:
         os.mkdir(path)
     elif what is FIFO:
@@ -75,7 +75,7 @@ def put_down(path, what):
 
 
 def found_at(path):
-    """What stands there."""
+    """What is there."""
     mode = os.lstat(path).st_mode
     if stat.S_ISDIR(mode):
         return FOLDER
@@ -97,7 +97,7 @@ def fill(folder, files):
 
 
 def read_to_end(start, stdout):
-    """Starts a run and answers it at its end, with what went through its display, where that is a pipe."""
+    """Starts a run and returns it at its end, with what went through its display, if that is a pipe."""
     run = start(stdout)
     try:
         return run, run.communicate(timeout=LONGEST)[0] or b""
@@ -107,9 +107,9 @@ def read_to_end(start, stdout):
 
 
 def read_front(start, most):
-    """Starts a run whose display closes behind so many bytes, or before it begins, and answers it at its end."""
+    """Starts a run whose display closes after this many bytes, or before it begins, and returns it at its end."""
     reader, writer = os.pipe()
-    # So that the program gets a page ahead of its reader at most.
+    # So that the program gets at most a page ahead of its reader.
     fcntl.fcntl(writer, fcntl.F_SETPIPE_SZ, 4096)
     with open(reader, "rb", buffering=0) as pipe:
         if most == 0:
@@ -131,7 +131,7 @@ def wait_for(run):
 
 
 class Runs:
-    """Runs of both programs. Those of the trial that goes on are remembered, so that they can be looked at."""
+    """Runs of both programs. Those of the current trial are kept, so that they can be looked at."""
 
     def __init__(self, program, ledger, work, library):
         self.program, self.ledger, self.work, self.library = program, ledger, work, library
@@ -149,15 +149,15 @@ class Runs:
         return {**os.environ, "LD_PRELOAD": self.library, **added} if added else None
 
     def run(self, files, words, fail=None, tells=False, display=subprocess.PIPE, closes=None):
-        """Does a command in a folder of its own. `fail` makes a call go another way; `tells` gives the calls; `display` stands in the place
-        of standard output; `closes` is behind how many bytes it closes."""
+        """Runs a command in a folder of its own. `fail` makes a call go another way; `tells` logs the calls; `display` replaces standard
+        output; `closes` is the number of bytes after which it closes."""
         shutil.rmtree(self.folder, ignore_errors=True)
         os.mkdir(self.folder)
         fill(self.folder, files)
         return self.run_in(self.folder, files, words, fail, tells or bool(fail), display, closes)
 
     def run_in(self, folder, files, words, fail=None, tells=False, display=subprocess.PIPE, closes=None, prefix=()):
-        """The same in a folder that has these files, behind the words of a program that starts others."""
+        """The same in a folder that has these files, after the words of a program that starts others."""
         self.trial.append((files, words, fail, None))
         with open(self.told, "wb"):
             pass
@@ -172,7 +172,7 @@ class Runs:
             raise Violation(f"{' '.join(words)} did not end")
         calls, other = self.calls()
         if closes is not None:
-            # The pipe took more than what was read of it.
+            # The pipe accepted more than was read from it.
             shown = b"".join(call.data for call in calls if call.kind == "write" and call.name == "display")
         ended = Ended(run.returncode, shown, found_in(folder), calls, other)
         self.trial[-1] = (files, words, fail, ended)
@@ -187,7 +187,7 @@ class Runs:
         self.trial.clear()
 
     def keep(self):
-        """Writes down the runs of the trial, each with its files before and behind it. Answers the folder."""
+        """Saves the runs of the trial, each with its files before and after it. Returns the folder."""
         kept = os.path.join(self.work, "trial")
         os.mkdir(kept)
         for number, (files, words, fail, ended) in enumerate(self.trial, 1):

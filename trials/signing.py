@@ -1,4 +1,4 @@
-"""Signatures of reports, and which of a list are taken."""
+"""Signatures of reports, and which reports of a list are accepted."""
 
 import os
 import subprocess
@@ -21,11 +21,11 @@ def signer(name, public, after="20261001Z", before="20261101Z", namespaces="urna
 
 def sign(name, by):
     found = run("sign", name, by)
-    want(found[0] == 0 and not found[2], f"{name} is not signed: {found}")
+    want(found[0] == 0 and not found[2], f"{name} was not signed: {found}")
 
 
 def signed(program, names, *words):
-    """The names that are taken, and what is told of the others."""
+    """The accepted names, and the messages about the others."""
     put("lista", "".join(f"{it}\n" for it in names).encode())
     status, shown, told = run("signed", "--urna", program, *words, TABLES, "chaves", "lista")
     want(status == (1 if told else 0) and len(shown.splitlines()) + len(told) == len(names), f"{names}: {status} {shown!r} {told}")
@@ -33,15 +33,15 @@ def signed(program, names, *words):
 
 
 def want_taken(program, names, told, *words):
-    """Of each name, in order, nothing is told where it is taken."""
+    """Each name in order has its message, or none if it is accepted."""
     taken, said = signed(program, names, *words)
-    want(taken == [name for name, it in zip(names, told) if not it], f"taken are {taken}")
+    want(taken == [name for name, it in zip(names, told) if not it], f"accepted: {taken}")
     wanted = [f"{number} {name}: {it}" for number, (name, it) in enumerate(zip(names, told), 1) if it]
-    want(said == wanted, f"it is told {said}, and not {wanted}")
+    want(said == wanted, f"the message is {said}, expected {wanted}")
 
 
 def good(program):
-    """The reports that their own sections signed are taken, by keys of each kind, and so is one of a key made anew"""
+    """The reports that their own sections signed are accepted, by keys of each kind, and so is one with a renewed key"""
     example(TABLES, *REPORTS)
     lines = [signer("7-1-42", key("velha"), before="20261002Z"), signer("7-1-42", key("nova", kind="ecdsa"), after="20261002Z")]
     put("chaves", "".join(["# as chaves\n", "\n", *lines, signer("7-1-43", key("outra", kind="rsa"))]).encode())
@@ -54,7 +54,8 @@ def good(program):
 
 
 def others(program):
-    """Of each report that isn't taken it is told why: unsigned, changed, signed as another thing, by another section, by an unknown key, or by one out of its time"""
+    """For each report that isn't accepted the reason is printed: unsigned, changed, signed as another kind, by another section, by an
+    unknown key, or by one out of its time"""
     example(TABLES, *REPORTS)
     names = [f"{it}.bu" for it in ("sem", "alterado", "outra-coisa", "outra-secao", "desconhecida", "cedo", "tarde", "tabelas", "lixo")]
     for name in names:
@@ -76,7 +77,7 @@ def others(program):
 
 
 def other_report():
-    """The report of the section with a vote moved, and all hashes made anew."""
+    """The report of the section with a vote moved, and all hashes recomputed."""
     import parts
 
     fields = content(REPORTS[0]).decode().split(" ", 2)[2].split(" HASH:")[0]
@@ -84,7 +85,8 @@ def other_report():
 
 
 def lost(program):
-    """A report by a key that is lost is told, by a list of public keys and by one of ssh-keygen -k; and the time of keys is in UTC"""
+    """A report signed by a lost key is reported, with a list of public keys and with one of ssh-keygen -k; and the time of keys is in
+    UTC"""
     example(TABLES, *REPORTS)
     put("chaves", (signer("7-1-42", key("um"), after="20261004Z") + signer("7-1-43", key("dois"), before="20261004000001")).encode())
     sign(REPORTS[0], "um")
@@ -99,14 +101,14 @@ def lost(program):
 
 
 def kinds(program):
-    """Each kind of file is signed in a namespace of its own, what is none of them isn't signed, and no signature is replaced"""
+    """Each kind of file is signed in its own namespace, other files aren't signed, and no signature is replaced"""
     example(TABLES, REPORTS[0], "rol.txt", "lista.txt")
     put("chaves", signer("7-1-42", key("tribunal")).encode())
     for name, kind in ((TABLES, "tabelas"), (REPORTS[0], "boletim"), ("rol.txt", "rol"), ("chaves", "chaves")):
         sign(name, "tribunal")
         with open(name, "rb") as file:
             verified = subprocess.run(["ssh-keygen", "-Y", "check-novalidate", "-n", f"urna-{kind}", "-s", f"{name}.sig"], stdin=file, capture_output=True)
-        want(verified.returncode == 0, f"{name} is not signed as {kind}")
+        want(verified.returncode == 0, f"{name} was not signed as {kind}")
         before = content(f"{name}.sig")
         want_told(run("sign", name, "tribunal"), 2, f"{name}.sig: já existe", f"{name} a second time")
         want(content(f"{name}.sig") == before, "a signature was replaced")

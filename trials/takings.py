@@ -1,10 +1,11 @@
-"""Cuts of the counting centre's program: `recebe` over a list of drawn files is cut at a drawn stop (trials/cuts.py), in some runs behind a
-call that failed, and so are `abre` and `totais`. The next command goes on over what the cut left.
+"""Cuts of urna_ledger: `recebe` over a list of drawn files is cut at a drawn stop (trials/cuts.py), in some runs after a failed call,
+and so are `abre` and `totais`. The next command continues over what the cut left.
 
-Behind each `recebe` both flashes, and each alone where a byte was shown, hold the ledger with the first of the listed files: as many as
-verdicts had begun to be shown, or one more. Nothing that was told is lost, and no section counts twice: the ledger is known to the byte
-(trials/ledgers.py). At last the rest of the reports is taken in, and the sums of `totais` are those that `totaliza`, a command of urna,
-tells of the accepted reports."""
+After each `recebe` both flashes, and each one alone if a byte was shown, hold the ledger with the first of the listed files: as many as
+verdicts had begun to be shown, or one more. No reported file is lost, and no section counts twice: the ledger is known to the byte
+(trials/ledgers.py). At the end the rest of the reports is received, and the sums of `totais` are those that `totaliza`, a command of
+urna, prints for the accepted reports.
+"""
 
 import itertools
 
@@ -24,7 +25,7 @@ def with_flashes(centre, listed, flashes):
 
 
 def held(runs, centre, flashes, ledgers, what):
-    """The ledger of these that both flashes hold, as `totais` tells its sums. They are at rest with it behind the call."""
+    """The ledger among these that both flashes hold, as `totais` shows its sums. They are at rest with it after the call."""
     ended = runs.run(with_flashes(centre, {}, flashes), TOTAIS)
     left = flashes_in(ended.files, what)
     for ledger in ledgers:
@@ -35,18 +36,18 @@ def held(runs, centre, flashes, ledgers, what):
 
 
 def want_held(runs, centre, flashes, ledgers, alone, what):
-    """Both flashes hold one of these ledgers, and so does each alone where that is asked. Answers what both hold."""
+    """Both flashes hold one of these ledgers, and so does each one alone if asked for. Returns the ledger that both hold."""
     tried = looks(flashes, centre.frames(), alone).items()
     return [held(runs, centre, images, ledgers, f"{what}, {name}") for name, images in tried][0]
 
 
 def lines_of_sums(shown):
-    """The lines of totals that tell sections, all votes of an office and those of a candidate."""
+    """The lines of totals with the sections, all votes of an office and those of a candidate."""
     return [line for line in shown.splitlines() if line.startswith((b"SECOES ", b"CARGO ", b"CANDIDATO "))]
 
 
 def want_sums(runs, centre, ledger, what):
-    """`totais` of the flashes that hold a ledger tells what `totaliza` tells of its reports."""
+    """`totais` of the flashes that hold a ledger prints what `totaliza` prints for its reports."""
     listed = {f"a{place}": file for place, file in ledger.items()}
     files = with_flashes(centre, listed, centre.flashes(ledger))
     sums, totals = runs.run(files, TOTAIS), runs.run(files, TOTALIZA)
@@ -58,13 +59,13 @@ def want_sums(runs, centre, ledger, what):
 
 
 def drawn_centre(draw):
-    """An election of some sections, of which some have a report of two parts."""
+    """An election of some sections, some of them with a report of two parts."""
     voters = [draw.randint(1, 9) for _ in range(draw.randint(1, 10))]
     return Centre([draw.choice([it, it, 400]) for it in voters], 80) if draw.random() < 0.2 else Centre(voters)
 
 
 def drawn_history(centre, draw):
-    """Ledgers one after another from the first on, each with one report more, up to a drawn one."""
+    """Ledgers one after another from the first on, each with one more report, up to a drawn one."""
     places = draw.sample(range(len(centre.voters)), draw.randint(0, len(centre.voters)))
     found = [{}]
     for place in places:
@@ -73,7 +74,7 @@ def drawn_history(centre, draw):
 
 
 def drawn_list(centre, draw, ledger):
-    """A list of reports of which some are new, the kept ones again, in conflict with them, or no report, by their names."""
+    """A list of reports: some new, the kept ones again, in conflict with them, or not a report, by name."""
     known, listed = dict(ledger), {}
     for number in range(1, draw.randint(1, 7) + 1):
         place = draw.randrange(len(centre.voters))
@@ -88,7 +89,7 @@ def drawn_list(centre, draw, ledger):
 
 
 def beginnings(centre, draw, history):
-    """Flashes that hold the last of these ledgers: at rest, or in a slot, and in others that or one before it."""
+    """Flashes that hold the last of these ledgers: at rest, or in a slot, with others holding that or the one before it."""
     if draw.random() < 0.5:
         return centre.flashes(history[-1])
     return mixed_slots(draw, centre.frames(), GATES, lambda is_sure: centre.body(history[-1] if is_sure else draw.choice(history)))
@@ -106,8 +107,8 @@ def greater(centre, draw, ledger):
 
 
 def cut_call(runs, centre, draw, files, words, usual, what):
-    """A call over a ledger's flashes, cut at a drawn stop, in some cases behind a fault. `usual` is its status, its text and the ledger
-    with which it leaves both at rest. Answers the images, and what was shown."""
+    """A call over a ledger's flashes, cut at a drawn stop, sometimes after a fault. `usual` is its status, its text and the ledger with
+    which it leaves both at rest. Returns the images, and what was shown."""
     flashes, (status, text, ledger) = [files[name] for name in FLASHES], usual
     fail = drawn_fault(draw, 2)
     what = what + (f" with URNA_FAIL='{fail}'" if fail else "")
@@ -116,14 +117,14 @@ def cut_call(runs, centre, draw, files, words, usual, what):
         is_front = text.startswith(ended.shown)
         want(is_front and ended.status == 21 + FLASHES.index(ended.other.name), f"{what}: {ended.told()}")
     else:
-        want((ended.status, ended.shown) == (status, text), f"{what}: {ended.told()}, and not {status} and {text!r}")
+        want((ended.status, ended.shown) == (status, text), f"{what}: {ended.told()}, expected {status} and {text!r}")
         want(flashes_in(ended.files, what) == centre.flashes(ledger), f"{what}: left another ledger")
     told, images, shown = cut(draw, flashes, ended.calls, greater(centre, draw, ledger))
     return images, shown, f"{what}, {told} and {len(shown)} shown bytes"
 
 
 def cut_taking(runs, centre, draw, flashes, ledger, what):
-    """A `recebe`, cut. Answers the images and the ledger that both hold."""
+    """A `recebe`, cut. Returns the images and the ledger that both hold."""
     listed = drawn_list(centre, draw, ledger)
     taking = Taking(centre, ledger, listed)
     what = f"{what}, recebe of {len(listed)} files over {len(ledger)}"
@@ -141,7 +142,7 @@ def cut_totals(runs, centre, draw, flashes, ledger, what):
 
 
 def want_end(runs, centre, draw, flashes, ledger, what):
-    """A report of each section is taken in, those that are there once more; then each is there once."""
+    """Receives a report of each section, those already in once more; then each counts once."""
     reports = [ledger.get(place) or centre.report(draw, place) for place in range(len(centre.voters))]
     draw.shuffle(reports)
     listed = {f"e{number}": file for number, file in enumerate(reports)}
@@ -195,12 +196,12 @@ def trials(runs, drawn):
         yield from (openings if number % 5 == 4 else intakes)(runs, draw)
 
 
-# ---- what holds behind a fault of another kind
+# ---- what holds after a fault of another kind
 
 
 def want_taken(runs, case, ended, what):
-    """Where a `recebe` was stopped, the flashes hold the ledger that was told, or with one report more, and the same list once more leaves
-    what it leaves else."""
+    """After a stopped `recebe` the flashes hold the reported ledger, or one with one more report, and the same list once more leaves
+    what it usually leaves."""
     centre, taking = case.day, case.taking
     shown = ended.shown.partition(b"ERRO ")[0]
     flashes = flashes_in(ended.files, what)
