@@ -1,9 +1,9 @@
 #!/usr/bin/env python3
-"""The example of the electoral quotient that the TSE has published for years, as an election for councillor: known.py writes its tables, the reports
-of its sections and their list beside itself, and `make check-house` compares them.
+"""The example of the electoral quotient that the TSE has published for years, as an election for councillor. known.py writes its tables,
+the reports of its sections and their list beside itself, and `make check-house` compares them.
 
-The example has 9 seats, four parties with 1,900, 1,350, 550 and 2,250 valid votes, and 300 blank and 250 null ones. Chosen here are which votes
-of a party are for which candidate, and in which of twelve sections they were cast: in each 550 of 600 voters came.
+The example has 9 seats, four parties with 1,900, 1,350, 550 and 2,250 valid votes, and 300 blank and 250 null ones. Chosen here: how a
+party's votes are split among its candidates, and how all votes are split among twelve sections; in each 550 of 600 voters came.
 """
 
 import os
@@ -18,8 +18,8 @@ from municipality import COUNCIL, council_fields, head_fields, tables_of, write
 from parts import parts_file
 
 PROCESS, SEATS, SECTIONS, VOTERS = 8, 9, 12, 600
-# Each party's name, its party votes, and its candidates with their votes. QE is 672, so arts. 108 and 109 ask 68 votes of a candidate for a seat of the
-# first phase, and 135 for one of the second. AMELIA and DULCE have too few for either.
+# Each party's name, its party votes, and its candidates with their votes. QE is 672, so arts. 108 and 109 require 68 votes of a candidate
+# for a seat of the first phase, and 135 for one of the second. AMELIA and DULCE have too few for either.
 PARTIES = {
     10: ("PARTIDO A", 200, {"ALICE": 620, "ARTUR": 480, "AURORA": 330, "ANTONIO": 210, "AMELIA": 60}),
     20: ("PARTIDO B", 170, {"BENEDITA": 450, "BRUNO": 340, "BEATRIZ": 240, "BENTO": 150}),
@@ -62,7 +62,7 @@ def report(section):
 
 
 def files():
-    """Each file that is made, by its name, with its text."""
+    """The text of each file that is written, by name."""
     reports = {f"conhecida-{section}.bu": report(section) for section in range(1, 1 + SECTIONS)}
     return {TABLES: tables(), **reports, LIST: "".join(f"{name}\n" for name in reports)}
 

@@ -1,13 +1,13 @@
-"""A municipal election by the rules of the rehearsal (docs/FORMATS.md, "The rehearsal") with more sections: its tables, the files of its reports,
-its list, and what `totaliza` must tell of them, worked out of the votes that were drawn.
+"""A municipal election by the rules of the rehearsal (docs/FORMATS.md, "The rehearsal") with more sections: its tables, the files of its
+reports, its list, and the expected output of `totaliza`, computed from the drawn votes.
 
-Offices, parties and candidates are those of the rehearsal. Drawn are the sections, 1 to 400 and seldom many, the voters of each, 1 to 600 and 300 in
-the middle, and when each candidate was born; there are 9 seats, and two more for each 60 sections. Some 80% of the voters come. How many of them
-vote for a candidate, for a party, blank or null, and how often one is suspended before the vote for mayor, is as in the rehearsal; but for which
-party and which candidate is drawn, and some are drawn more often than others.
+Offices, parties and candidates are those of the rehearsal. Drawn are the number of sections, 1 to 400 and seldom many; the voters of
+each, 1 to 600 with a median of 300; and the birth dates of the candidates. There are 9 seats, and two more for each 60 sections. Some
+80% of the voters come. How many of them vote for a candidate, for a party, blank or null, and how often one is suspended before the vote
+for mayor, is as in the rehearsal. The party and the candidate are drawn, some more often than others.
 
-Of 100 sections one has no report but a damaged one, one has a damaged one beside its own, one has its own twice, and one has another one too.
-Beside one in 100 lies a report of another municipality. The list has all of them in a drawn order.
+Of 100 sections one has only a damaged report, one has a damaged one beside its own, one has its own twice, and one has a second,
+different one. Beside one in 100 is a report of another municipality. The list has all of them in a drawn order.
 """
 
 import json
@@ -36,8 +36,8 @@ TABLES, LIST, TOTALS, DRAWN = "tabelas.toml", "lista.txt", "totais.txt", "sortei
 
 
 class File(NamedTuple):
-    """A file that is listed: its text, and the place of its section with its votes for councillor and for mayor; or the verdict by which it is
-    refused by itself."""
+    """A listed file: its text, and the place of its section with its votes for councillor and for mayor; or the verdict that refuses it
+    on its own."""
 
     text: str
     place: int = 0
@@ -63,7 +63,7 @@ def spread(share, weights):
 
 
 class Municipality:
-    """The election of this number. All of it follows from the seed and the number."""
+    """The election of this number. Everything in it depends only on the seed and the number."""
 
     def __init__(self, seed, number):
         self.seed, self.number = seed, number
@@ -120,7 +120,7 @@ class Municipality:
         return File(parts_file(self.fields(place, *votes)), place, *votes)
 
     def files(self, others):
-        """The files that are listed, in order; some are of municipalities of these numbers."""
+        """The listed files in order; some are of municipalities with these numbers."""
         draw, found = self.drawn_by("files"), []
         for place in range(len(self.voters)):
             report = self.report(place)
@@ -139,7 +139,7 @@ class Municipality:
         draw.shuffle(found)
         return found
 
-    # ---- what must be told
+    # ---- the expected output
 
     def told(self, files):
         """The verdict on each file of the list, and the sums of the accepted ones by office and choice."""
@@ -165,13 +165,13 @@ def tables_of(number, rows):
 
 
 def head_fields(number, section, voters, came):
-    """The fields of a report that come before its offices; the section is its zone and its number."""
+    """The fields of a report before its offices; the section is its zone and its number."""
     zone, its = section
     return f"ORIG:VOTA PROC:{number} {DAY} ZONA:{zone} SECA:{its} APTO:{voters} COMP:{came} FALT:{voters - came} {HOURS}"
 
 
 def council_fields(voters, cast):
-    """The fields of the office of councillor, with how many votes each choice has."""
+    """The fields of the office of councillor, with the number of votes of each choice."""
     blank, null = cast.pop("BRAN", 0), cast.pop("NULO", 0)
     named, told, nominal, legend = defaultdict(list), [], 0, 0
     for number in sorted(cast):
@@ -195,7 +195,7 @@ def mayor_fields(voters, cast):
 
 
 def damaged(draw, whole, voters):
-    """A file that a report has become, with its fault ("Faults of a file" and "Faults of a report text" of docs/FORMATS.md)."""
+    """A file made from a report by damaging it, with its fault ("Faults of a file" and "Faults of a report text" of docs/FORMATS.md)."""
     lines = whole.splitlines(keepends=True)
     fields = " ".join(field for line in lines for field in line.split(" ")[2:-1])
     part, cut = draw.randrange(len(lines)), whole[: draw.randrange(len(whole))]
@@ -229,7 +229,7 @@ def mayor_lines(tables, sums):
 
 
 def wanted(tables, verdicts, told):
-    """What `totaliza` must show over these verdicts and sums."""
+    """The expected output of `totaliza` for these verdicts and sums."""
     sums = Counter({(code, it): count for code, it, count in told})
     accepted = sum(verdict.startswith("ACEITO ") for verdict in verdicts)
     lines = [f"{number} {verdict}" for number, verdict in enumerate(verdicts, 1)]
@@ -243,7 +243,7 @@ def write(folder, name, text):
 
 
 def make(seed, number, count, folder):
-    """Makes the folder of a municipality, one of so many, with its documents and beside them what was drawn."""
+    """Makes the folder of one of this many municipalities, with its documents, and what was drawn beside them."""
     its = Municipality(seed, number)
     files = its.files([*range(1, number), *range(number + 1, count + 1)] or [number + 1])
     os.mkdir(folder)
