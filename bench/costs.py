@@ -1,4 +1,4 @@
-"""The minutes of processor that each crate takes in a run of the gate: the table that is kept (gate.txt), and how it is read and written."""
+"""The processor minutes of each crate in a run of the gate: reads and writes the stored table (gate.txt)."""
 
 import os
 import re
@@ -6,14 +6,14 @@ import re
 BENCH = os.path.dirname(os.path.abspath(__file__))
 TABLE = os.path.join(BENCH, "gate.txt")
 STEPS = ("proofs", "tests", "edits")
-# The rows that a table has below its crates.
+# The rows of a table below its crates.
 LOOP, FACTOR, WALL, TOGETHER, QUIET = "least time of bench/loop, seconds", "factor", "wall", "together", "quiet, together"
-# The most quiet minutes that a step may take, and the most that a crate may take of what the table has.
+# The maximum quiet minutes of a step, and of a crate relative to the table.
 MOST, GROWTH = 10.0, 1.25
 
 
 def rows(path):
-    """The minutes of each crate by step, as they were measured; and what else the table has, by name."""
+    """The measured minutes of each crate by step, and the other rows of the table, by name."""
     minutes, others = {}, {}
     with open(path) as file:
         for line in file:
@@ -36,7 +36,7 @@ def text(minutes, others, heading):
 
 
 def path_lengths(uses, minutes):
-    """Of each crate, the minutes of proofs of the longest path up to it, itself included."""
+    """For each crate the minutes of proofs on the longest path up to it, itself included."""
     lengths = {}
     for crate, used in uses.items():
         below = max((lengths[it] for it in used if it in lengths), default=0.0)

@@ -1,4 +1,4 @@
-/* Writes so many lines, each by a call of its own, and does nothing else: what a session that shows as many is compared with. */
+/* Writes the given number of lines, each by a call of its own, and does nothing else: the reference for a session that shows as many. */
 #include <stdlib.h>
 #include <unistd.h>
 

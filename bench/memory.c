@@ -1,5 +1,5 @@
-/* For bench/run: writes to the file that URNA_MEMORY names how many bytes of memory more a program holds at most, from where it opens the file
-   that URNA_FROM names, than it holds there. */
+/* For bench/run: measures how much the allocated memory of a program grows at most after it opens the file that URNA_FROM names, in bytes, and
+   writes that to the file that URNA_MEMORY names. */
 #define _GNU_SOURCE
 #include <fcntl.h>
 #include <malloc.h>

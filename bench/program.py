@@ -1,5 +1,5 @@
-"""The program of the benchmarks, whose sources are text here: nobody relies on it, so the gate only compiles and runs it, and `make bench` proves it
-in a copy outside of the repository that is kept, where only a change costs minutes."""
+"""The program of the benchmarks. Its sources are text here, since nothing depends on it: the gate only compiles and runs it, and `make
+bench` proves it in a copy outside the repository, which is kept, so that only changes cost minutes."""
 
 import os
 import shutil
@@ -15,10 +15,10 @@ import house
 import unproved
 
 PROGRAM = "urna_bench"
-# How the names of its sources end here, behind what they end with in a crate.
+# The extra ending of the names of its sources here.
 TEXT = ".txt"
 
-# What its `main` does.
+# The body of its `main`.
 BODY = """match status(&rt) {
         Ok(code) => ExitCode::from(code),
         Err(_) => ExitCode::from(1),
@@ -26,14 +26,14 @@ BODY = """match status(&rt) {
 
 
 def crates_here():
-    """The crates of the benchmarks, lowest first, with what each depends on."""
+    """The crates of the benchmarks, lowest first, each with its dependencies."""
     with open(os.path.join(BENCH, "crates.list")) as file:
         lines = [line.split("#")[0].partition(":") for line in file]
     return {name.strip(): used.split() for name, _, used in lines if name.strip()}
 
 
 def placed(top):
-    """Makes a copy of what the program depends on, with its sources as crates. Answers its top."""
+    """Makes a copy of the program's dependencies, with its sources as crates. Returns its top."""
     own, uses = crates_here(), house.crates()
     needed = copies.below({it for used in own.values() for it in used if it in uses}, uses)
     copies.copy_crates(top, needed, ("out", "must-fail"))
@@ -49,14 +49,14 @@ def placed(top):
 
 
 def proved():
-    """The program, proved and built where something has changed."""
+    """The program, proved and built if something has changed."""
     top = placed(copies.folder("bench"))
     environment = {name: value for name, value in os.environ.items() if name != "CI"}
     run = subprocess.run(["rt", "ci", PROGRAM], cwd=top, env=environment, stdout=subprocess.PIPE, stderr=subprocess.STDOUT, text=True)
     if run.returncode != 0:
         sys.exit(f"{run.stdout[-4000:]}\n{PROGRAM} was not proved")
     folder = os.path.join(top, "crates", PROGRAM)
-    # What is proved is taken from there, and linked.
+    # The proved crates are taken from there, and linked.
     run = subprocess.run(["rt", "run", "--", "nada"], cwd=folder, stdout=subprocess.PIPE, stderr=subprocess.PIPE, text=True)
     if (run.returncode, run.stdout) != (3, ""):
         sys.exit(f"{run.stdout}{run.stderr}{PROGRAM} was not built")

@@ -1,5 +1,5 @@
-/* Does the writes and syncs that a file lists, and nothing else: what a command over real files is compared with. Each is three numbers of
-   eight bytes: which of the named files, from 0, or -1 for standard output; where it writes; and how many bytes, 0 for a sync. */
+/* Does the writes and syncs that a file lists, and nothing else: the reference for a command on real files. Each is three numbers of eight
+   bytes: which of the named files, from 0, or -1 for standard output; the position of the write; and the number of bytes, 0 for a sync. */
 #include <fcntl.h>
 #include <stdio.h>
 #include <unistd.h>
