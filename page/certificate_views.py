@@ -1,5 +1,5 @@
-"""The certificate of an office's seats in a browser: as `certifica` puts it, drawn line by line, the substitutes, its check by `verifica`, and
-files that are no certificate of it."""
+"""The certificate of an office's seats in a browser: as `certifica` writes it, drawn line by line, the substitutes, its check by
+`verifica`, and files that aren't its certificate."""
 
 import os
 import re
@@ -11,7 +11,7 @@ CODE = "13"
 OFFICE = f'[data-cargo="{CODE}"]'
 MARKUP = "<script>hacked=1</script><img src=x onerror=hacked=1>"
 MOST = 1_048_576
-# What is changed in the certificate of the example with a federation, and how the line begins that is then meant.
+# The changes of the certificate of the example with a federation, and the beginning of the line that each makes invalid.
 CHANGES = (
     ("CARGO 13", "CARGO 7", "CARGO 7"),
     ("QUOCIENTE 60", "QUOCIENTE 61", "QUOCIENTE 61"),
@@ -39,7 +39,7 @@ def vacant_in(text):
 
 
 def drawn(page):
-    """The lines of a certificate, out of the tables of the page."""
+    """The lines of a certificate, from the tables of the page."""
     cells = "return [...document.querySelectorAll(arguments[0])].map((it) => [...it.cells].map((cell) => [...(cell.querySelector('ul')?.children ?? [cell])].map((one) => one.textContent)))"
     lines = ["CERT U1", f"CARGO {CODE}", f"QUOCIENTE {plain(page.texts(f'{OFFICE} .quotient strong')[0])}"]
     for [name], _, [quotient], [able], [seats] in page.browser.run(cells, f"{OFFICE} .first tbody tr"):
@@ -51,7 +51,7 @@ def drawn(page):
 
 
 def substitutes(page):
-    """The lines of the substitutes, out of the lists of the page."""
+    """The lines of the substitutes, from the lists of the page."""
     told = "return [...document.querySelectorAll(arguments[0])].map((it) => ['SUPLENTE', it.closest('details').dataset.bloc, it.value, it.textContent.split(' ')[0]].join(' '))"
     return page.browser.run(told, f"{OFFICE} .substitutes li")
 
@@ -72,7 +72,7 @@ def want_certificate(page, program, work, folder, tables, listed):
 
 
 def given(page, path):
-    """What the page says of a file that is chosen."""
+    """What the page says about a chosen file."""
     page.browser.run("document.querySelector(arguments[0]).replaceChildren()", f'{OFFICE} [data-resposta="outro"]')
     page.browser.give(f'[data-arquivo="{CODE}"]', path)
     return page.browser.wait(f'{OFFICE} [data-resposta="outro"]', lambda text: text and "o programa confere" not in text, "the file is not checked")
@@ -86,12 +86,12 @@ def put_down(work, name, data):
 
 
 def changed(page, program, work, made):
-    """Each change of the certificate is refused as the program refuses it, with the line that it means."""
+    """Each change of the certificate is refused as the program refuses it, with the invalid line marked."""
     for number, (old, new, meant) in enumerate(CHANGES):
         path = put_down(work, f"outro-{number}.cer", made.replace(old.encode(), new.encode()))
         ended = program.run(EXAMPLES, ["verifica", "federacao.toml", "federacao-lista.txt", CODE, path])
         told = given(page, path)
-        want(ended.status in (10, 11) and ended.lines[0] in told, f"with {new!r} in the place of {old!r}: {told!r}, and not {ended.lines}")
+        want(ended.status in (10, 11) and ended.lines[0] in told, f"with {new!r} instead of {old!r}: {told!r}, expected {ended.lines}")
         want(len(told.partition(ended.lines[0])[2]) > 10, f"{ended.lines[0]} is not in words: {told!r}")
         marks = page.texts(f"{OFFICE} mark")
         want(len(marks) == 1 and marks[0].startswith(meant), f"{ended.lines[0]} means {marks}")
@@ -99,7 +99,7 @@ def changed(page, program, work, made):
 
 
 def hostile(page, work, made):
-    """A file that is no certificate is text, and is refused."""
+    """A file that isn't a certificate is shown as text, and refused."""
     long = made + b"\n" * (MOST + 1 - len(made))
     cases = [
         ("<b>um.cer", MARKUP.encode(), "ERRO CERTIFICADO LINHA 1"),
@@ -119,16 +119,16 @@ def hostile(page, work, made):
     page.picture("certificado-longo")
     page.drop(f'[data-solta="{CODE}"]', [("<i>solto</i>.cer", made.decode() + MARKUP)])
     page.browser.wait(f'{OFFICE} [data-resposta="outro"]', lambda text: "<i>solto</i>.cer" in text and "ERRO CERTIFICADO LINHA 9" in text, "the dropped file")
-    want(page.texts(f"{OFFICE} mark") == [MARKUP], "the line behind the end is not meant")
+    want(page.texts(f"{OFFICE} mark") == [MARKUP], "the line after the end is not marked")
     found = page.browser.run("return [typeof hacked, document.querySelectorAll('main script, main img, main b, main i').length]")
     want(found == ["undefined", 0], f"a file became markup: {found}")
 
 
 def stale(page):
-    """A certificate of totals that are gone is checked over no others."""
+    """A certificate of totals that are gone isn't checked over other totals."""
     page.browser.run("return fetch('/api/totais', { method: 'POST', headers: { 'Content-Type': 'application/json' }, body: JSON.stringify({ exemplo: 'dia' }) }).then((it) => it.status)")
     page.browser.click(f'[data-verifica="{CODE}"]')
-    page.browser.wait("#falha", lambda text: "totalizar outra vez" in text, "other totals are taken")
+    page.browser.wait("#falha", lambda text: "totalizar outra vez" in text, "other totals are used")
 
 
 def none(page):
@@ -142,7 +142,7 @@ def none(page):
 
 
 def tried(page, program, work):
-    """The certificate of a federation's seats, its changes, and files that are none"""
+    """The certificate of a federation's seats, its changes, and invalid files"""
     page.view("totais")
     page.browser.click('#exemplos [value="federacao"]')
     page.browser.wait("#totalizado", lambda text: "FRENTE" in text, "the federation is not totalled")

@@ -1,11 +1,11 @@
-"""Requests to the page's server as a browser sends them, and as one does not."""
+"""Requests to the page's server as a browser sends them, and as no browser does."""
 
 import http.client
 import json
 
 
 class Client:
-    """A browser that shows nothing, with a session of its own."""
+    """A client that shows nothing, with a session of its own."""
 
     def __init__(self, port):
         self.port, self.cookie = port, ""
@@ -13,8 +13,8 @@ class Client:
         self.cookie = headers["Set-Cookie"].split(";")[0]
 
     def send(self, way, path, body=None, **changed):
-        """A request; the headers that are changed go in the place of the usual ones, and one that is None is left out. Answers the status, the
-        headers and the bytes."""
+        """A request. The changed headers replace the usual ones, and one that is None is left out. Returns the status, the headers and
+        the bytes."""
         usual = {"Host": f"127.0.0.1:{self.port}", "Origin": f"http://127.0.0.1:{self.port}", "Content-Type": "application/json", "Cookie": self.cookie}
         usual["Content-Length"] = str(len(body or b""))
         headers = {**usual, **{name.replace("_", "-"): value for name, value in changed.items()}}

@@ -1,4 +1,4 @@
-"""A browser without a window, driven by WebDriver over plain HTTP: Chromium and its driver, as the system's packages have them."""
+"""A browser without a window, driven by WebDriver over plain HTTP: Chromium and its driver, from the system's packages."""
 
 import base64
 import contextlib
@@ -12,13 +12,13 @@ import subprocess
 import time
 
 BROWSERS, DRIVERS = ("chromium", "chromium-browser", "google-chrome"), ("chromedriver",)
-# The name by which WebDriver calls an element.
+# The key of an element in WebDriver.
 ELEMENT = "element-6066-11e4-a52e-4f735466cecf"
 LONGEST = 60
 
 
 def there():
-    """The browser and its driver, if both are there."""
+    """The browser and its driver, if both are installed."""
     found = [next(filter(None, map(shutil.which, names)), None) for names in (BROWSERS, DRIVERS)]
     return found if all(found) else None
 
@@ -106,7 +106,7 @@ class Browser:
         self.ask("POST", f"/element/{self.find(selector)}/click", {})
 
     def give(self, selector, text):
-        """Types into a field; of a field for files the path of one."""
+        """Types into a field; into a field for files, the path of one."""
         self.ask("POST", f"/element/{self.find(selector)}/value", {"text": text})
 
     def clear(self, selector):
@@ -121,7 +121,7 @@ class Browser:
         return self.run("return document.querySelector(arguments[0])?.innerText ?? ''", selector)
 
     def wait(self, selector, holds, what):
-        """Waits until a text is as it is wanted. Answers it."""
+        """Waits until a text is as wanted. Returns it."""
         until = time.monotonic() + LONGEST
         while not holds(text := self.text(selector)):
             if time.monotonic() > until:
@@ -130,7 +130,7 @@ class Browser:
         return text
 
     def picture(self, path, width=None):
-        """A picture of the whole page, also of what lies below the window."""
+        """A picture of the whole page, also below the window."""
         width = width or self.width
         metrics = {"width": width, "height": 900, "deviceScaleFactor": 1, "mobile": width < 700}
         self.command("Emulation.setDeviceMetricsOverride", metrics)
@@ -147,7 +147,7 @@ class Browser:
         return self.ask("POST", "/goog/cdp/execute", {"cmd": name, "params": words})
 
     def controls(self):
-        """What a screen reader is told of all that takes the keyboard, but the page itself."""
+        """What a screen reader gets for all elements that take the keyboard, except the page itself."""
         nodes = self.command("Accessibility.getFullAXTree", {})["nodes"]
         focusable = [it for it in nodes if any(one["name"] == "focusable" and one["value"]["value"] for one in it.get("properties", []))]
         return [it for it in focusable if not it["ignored"] and it["role"]["value"] not in ("RootWebArea", "main")]

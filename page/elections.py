@@ -1,16 +1,16 @@
-"""The elections that the page has to begin with, and the names that the tables of an election have."""
+"""The built-in elections of the page, and the names in the tables of an election."""
 
 import tomllib
 
 from programs import EXAMPLES, Refused, content
 
-# What a page can be given: the bounds of the program (docs/FORMATS.md, "Limits"), and of a total those of one request.
+# The limits of the page's inputs: those of the program (docs/FORMATS.md, "Limits"), and for a total those of one request.
 MOST_TABLES, MOST_ROLL, MOST_REPORT, MOST_REPORTS, MOST_CERTIFICATE = 4_194_304, 16_384, 1_048_576, 4_096, 1_048_576
 MOST_TITLES = 600
 REHEARSED = "400"
 # The documents of an example in `examples`, and its section.
 EXAMPLE_POLLS = {"dia": ("tabelas.toml", "rol.txt", "1", "42"), "senado": ("senado.toml", "senado-rol.txt", "1", "42")}
-# The tables of an example, and the reports that stand beside them.
+# The tables of an example, and the reports beside them.
 EXAMPLE_TOTALS = {"federacao": ("federacao.toml", ["federacao-42.bu", "federacao-43.bu"]), "dia": ("tabelas.toml", ["secao43.bu"])}
 
 
@@ -23,7 +23,7 @@ def rehearsal(program, folder):
 
 
 def poll(program, folder, name):
-    """The tables, the roll, the zone and the section of an election that is there to begin with."""
+    """The tables, the roll, the zone and the section of a built-in election."""
     if name == "ensaio":
         rehearsal(program, folder)
         return content(folder, "ensaio.toml"), content(folder, "ensaio.rol"), "1", "1"
@@ -34,7 +34,7 @@ def poll(program, folder, name):
 
 
 def reports(program, folder, name):
-    """The tables and the reports, each with its name, of an election that is there to be totalled."""
+    """The tables of a built-in election, and its reports, each with its name, to be totalled."""
     if name == "ensaio":
         rehearsal(program, folder)
         return content(folder, "ensaio.toml"), [("ensaio.bu", content(folder, "ensaio.bu"))]
@@ -45,8 +45,8 @@ def reports(program, folder, name):
 
 
 def names_in(tables):
-    """What tables call their parties, candidates and federations, and how many seats an office has, each as text. These are looked up to be
-    shown, and no line goes by them."""
+    """What tables call their parties, candidates and federations, and how many seats an office has, each as text. They are only
+    displayed; no output of the program depends on them."""
     try:
         read = tomllib.loads(tables.decode())
         return {

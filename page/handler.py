@@ -1,5 +1,5 @@
-"""What the page's server answers. It is for the browsers of this machine: another host name, or a request that another page sent, is
-refused, and so is what is too large or has another form."""
+"""The answers of the page's server. It serves only browsers of this machine: it refuses another host name, requests from another page,
+and requests that are too large or of another form."""
 
 import base64
 import contextlib
@@ -18,11 +18,11 @@ from visible import visible_in
 
 STATIC = os.path.join(os.path.dirname(os.path.abspath(__file__)), "static")
 KINDS = {".html": "text/html", ".css": "text/css", ".js": "text/javascript", ".svg": "image/svg+xml"}
-# The files of the page, under the names by which they are asked for.
+# The files of the page, by the names under which they are requested.
 FILES = {f"/{name}": name for name in sorted(os.listdir(STATIC)) if os.path.splitext(name)[1] in KINDS} | {"/": "index.html"}
-# What each view shows where the program is compiled without a proof.
+# The notice of each view if the program is compiled without a proof.
 UNPROVED = "<p role=\"note\" class=\"unproved\"><strong>Programa sem prova.</strong> Foi compilado das mesmas fontes, e nada dele está provado.</p>\n".encode()
-# What may be read of a session, and what may be asked of it, with the most bytes of a request.
+# What may be read from a session, and what may be requested, with the maximum bytes of a request.
 READ = {"/api/estado": Session.state, "/api/eleicao": Session.election}
 SMALL, LARGE = 4_096, 33_554_432
 ASKED = {
@@ -40,7 +40,7 @@ ASKED = {
     "/api/verifica": (Session.verify, 1_400_000),
 }
 RESULTS, PAPER = "/arquivo/", "/papel"
-# Of a refused request, how many bytes more are taken, and for how many seconds.
+# For a refused request: how many more bytes are read, and for how many seconds.
 MOST_LEFT, LONGEST_LEFT = 67_108_864, 10
 HEADERS = {
     "Cache-Control": "no-store",
@@ -54,7 +54,7 @@ HEADERS = {
 
 
 def paper_policy(page):
-    """What the paper of a report may do: it has the styles that stand in it, and stands in this page."""
+    """The content policy of a report's paper: it has only its own styles, and may be framed only by this page."""
     style = re.search(rb"<style>(.*?)</style>", page, re.S)[1]
     own = base64.b64encode(hashlib.sha256(style).digest()).decode()
     return f"default-src 'none'; style-src 'sha256-{own}'; base-uri 'none'; form-action 'none'; frame-ancestors 'self'"
@@ -63,11 +63,11 @@ def paper_policy(page):
 class Handler(http.server.BaseHTTPRequestHandler):
     server_version, sys_version = "urna", ""
     protocol_version = "HTTP/1.1"
-    # A browser that sends nothing for so many seconds is let go.
+    # A browser that sends nothing for this many seconds is disconnected.
     timeout = 60
 
     def log_message(self, *words):
-        """Which presses came when is told nowhere."""
+        """Logs nothing, so that the times of presses aren't recorded."""
 
     # ---- who asks
 
@@ -76,7 +76,7 @@ class Handler(http.server.BaseHTTPRequestHandler):
         return [f"127.0.0.1:{port}", f"localhost:{port}"]
 
     def want_own(self, must_have_origin):
-        """The request was sent to this machine's own name, and by this page."""
+        """Whether the request was sent to this machine's own name, and by this page."""
         hosts, found = self.headers.get_all("Host") or [], self.headers.get_all("Origin") or []
         if len(hosts) != 1 or hosts[0] not in self.hosts():
             raise Refused(403, "outro nome de máquina")
@@ -117,7 +117,7 @@ class Handler(http.server.BaseHTTPRequestHandler):
         return asked
 
     def done(self, action, *words):
-        """What a session answers."""
+        """The response of a session."""
         session = self.session()
         if not session:
             raise Refused(401, "sem sessão: recarregar a página")
@@ -164,13 +164,13 @@ class Handler(http.server.BaseHTTPRequestHandler):
         asked = self.asked(most)
         return self.send_object(200, self.done(action, asked))
 
-    # ---- what is answered
+    # ---- responses
 
     def answer(self, way):
         try:
             way()
         except Refused as refused:
-            # What of the request was not read is not taken for another one.
+            # The unread rest of the request must not be read as another request.
             self.close_connection = True
             self.send_object(refused.status, {"erro": refused.why})
             self.let_finish()
@@ -181,7 +181,7 @@ class Handler(http.server.BaseHTTPRequestHandler):
             self.send_object(500, {"erro": "um arquivo da sessão não pôde ser lido ou gravado"})
 
     def let_finish(self):
-        """Takes what a refused request still sends, for a while: one that is cut off would lose its answer too."""
+        """Reads the rest of a refused request for a while: if it were cut off, its response would be lost too."""
         left, until = MOST_LEFT, time.monotonic() + LONGEST_LEFT
         with contextlib.suppress(OSError):
             self.connection.shutdown(socket.SHUT_WR)
@@ -190,7 +190,7 @@ class Handler(http.server.BaseHTTPRequestHandler):
                 left -= len(piece)
 
     def send_object(self, status, told):
-        """An object, in whose texts, names of the tables too, each character that can't be seen stands as its number."""
+        """Sends an object; in its texts, also names of the tables, each invisible character is replaced by its number."""
         self.send(status, "application/json; charset=utf-8", json.dumps(visible_in(told)).encode(), {})
 
     def send(self, status, kind, data, more):
@@ -204,7 +204,7 @@ class Handler(http.server.BaseHTTPRequestHandler):
 
 
 class Server(http.server.ThreadingHTTPServer):
-    """On this machine's loopback address alone."""
+    """Listens only on this machine's loopback address."""
 
     daemon_threads = True
 
@@ -213,4 +213,4 @@ class Server(http.server.ThreadingHTTPServer):
         self.sessions, self.is_proved = sessions, is_proved
 
     def handle_error(self, request, client_address):
-        """A browser that went away in the middle of an answer is no matter of the others."""
+        """A browser that went away in the middle of a response doesn't affect the others."""

@@ -1,7 +1,7 @@
-"""The urna of a session: its two flashes and its documents in a folder, and the presses since the last state that the flashes took.
+"""The urna of a session: its two flashes and its documents in a folder, and the presses since the last state that the flashes hold.
 
-A press is a call of `vota` with all of these presses. Until one of them brings a new state into the flashes they leave the flashes as
-they are, so they may be given again; what the call shows behind the lines that were known is the answer to the press.
+A press is a call of `vota` with all of these presses. Until one of them writes a new state, the flashes stay as they are, so the presses
+may be repeated. What the call shows after the lines already known is the answer to the press.
 """
 
 import os
@@ -17,9 +17,9 @@ REPORT, RECORD, PAPER = "urna.bu", "urna.rdv", "urna.html"
 PRINTER = os.path.join(TOP, "tools", "paper")
 FLASHES = ("internal.flash", "external.flash")
 WORDS = ("interna", "externa")
-# Where the gates of a flash are, and what is its header (docs/FORMATS.md, "Flash layout").
+# The positions of the gates of a flash, and its header (docs/FORMATS.md, "Flash layout").
 GATES, HEADER = (512, 66_560), 512
-# Lines behind which both flashes have a new state, and such behind which nobody is at the machine.
+# Lines after which both flashes have a new state, and those after which nobody is at the machine.
 COMMITS, ENDS = ("ABERTA ", "FIM", "ENCERRADA "), ("CANCELADO", "SUSPENSO")
 MOST_PRESSES, LONGEST_PRESS = 2_000, 64
 
@@ -29,17 +29,17 @@ def begins(line, words):
 
 
 def is_over(lines):
-    """Whether the presses that were answered so need not be given again."""
+    """Whether the presses with these answers need not be repeated."""
     return any(begins(it, COMMITS) or it in ENDS for it in lines)
 
 
 def changes(lines):
-    """Whether a press that was answered so changed anything: a refused one, and a key that is not taken, do not."""
+    """Whether a press with this answer changed anything: a refused press, or a key without effect, doesn't."""
     return any(not begins(it, "RECUSA ") for it in lines)
 
 
 def operation_of(call):
-    """An operation of a commit, as it is told."""
+    """A description of an operation of a commit."""
     kind = {"sync": "sincroniza", "write": "grava"}[call.kind]
     if call.name == "display":
         return {"faz": "mostra", "onde": "tela", "texto": call.data.decode(errors="replace").strip()}
@@ -58,7 +58,7 @@ class Machine:
     # ---- the load
 
     def load(self, tables, roll, zone, section):
-        """A machine of these documents, with two new flashes. The one before it is gone."""
+        """A machine with these documents and two new flashes. The previous one is removed."""
         anew(self.folder)
         put(tables, self.folder, TABLES)
         put(roll, self.folder, ROLL)
@@ -74,7 +74,7 @@ class Machine:
         return ended
 
     def vota(self, presses, **asked):
-        """A session with these presses. The file of the keys is gone behind it."""
+        """A session with these presses. The file of the keys is removed after it."""
         put("".join(f"{it}\n" for it in presses).encode(), self.folder, KEYS)
         try:
             return self.run(["vota", TABLES, ROLL, KEYS, RESULT], **asked)
@@ -84,7 +84,7 @@ class Machine:
     # ---- presses
 
     def press(self, line):
-        """One press. Answers the lines that it brought."""
+        """One press. Returns its new lines."""
         self.want_on()
         if not 0 < len(line) <= LONGEST_PRESS or not line.isascii() or not line.isprintable():
             raise Refused(400, "não é uma tecla")
@@ -102,12 +102,12 @@ class Machine:
         return lines
 
     def new_lines(self, ended):
-        """What a session showed behind the lines that were known. A command that was refused shows none of these."""
+        """The lines of a session after those already known. A refused command has none of these."""
         known = ended.lines[: len(self.known)] == self.known
         return ended.lines[len(self.known) :] if known else ended.lines
 
     def take(self, line, presses, ended, lines):
-        """A session did what was pressed. These of its lines are new."""
+        """A session accepted the presses. These of its lines are new."""
         if not self.visit and changes(lines[1:]):
             self.shown = []
         news = [it for it in lines if not begins(it, "URNA ")]
@@ -148,14 +148,14 @@ class Machine:
             raise Refused(409, "a urna não foi carregada")
 
     def arm(self, number):
-        """The next commit is stopped, at this operation of it, or at a drawn one."""
+        """Stops the next commit, at this operation of it, or at a drawn one."""
         self.want_on()
         if not self.program.library:
             raise Refused(409, "não há compilador de C, e sem ele o programa não é parado no meio de uma gravação")
         self.armed = {"operacao": number}
 
     def copied(self, flashes=None):
-        """A copy of the machine's folder, with these flashes in the place of its own."""
+        """A copy of the machine's folder, with these flashes instead of its own."""
         shutil.rmtree(self.scratch, ignore_errors=True)
         shutil.copytree(self.folder, self.scratch)
         for name, flash in zip(FLASHES, flashes or ()):
@@ -172,7 +172,7 @@ class Machine:
             shutil.rmtree(folder)
 
     def operations(self, presses):
-        """The calls over flashes and the display of a session, and how many of them come before its commit; None where it has none."""
+        """The calls of a session on flashes and the display, and how many of them come before its commit; None if it has none."""
         put(b"", self.told_at)
         self.asked_of_copy(presses, URNA_TELL=self.told_at)
         calls, _ = calls_of(content(self.told_at))
@@ -182,7 +182,7 @@ class Machine:
         return calls, first
 
     def pull(self, presses):
-        """Stops a session inside its commit. Answers whether there was one."""
+        """Stops a session inside its commit. Returns whether there was one."""
         calls, first = self.operations(presses)
         if first is None:
             return False
@@ -206,17 +206,17 @@ class Machine:
         return True
 
     def keep_zero(self):
-        """The zero report, where it was shown whole before the power went."""
+        """The zero report, if it was shown whole before the power went."""
         if self.cut["linhas"][:1] == ["ZERESIMA"] and any(begins(it, "ABERTA ") for it in self.cut["linhas"]):
             self.zero = self.cut["linhas"]
 
     def switch_off(self):
-        """Without power. What the flashes have not taken is lost."""
+        """Without power. Whatever the flashes don't hold is lost."""
         self.want_loaded()
         self.is_on, self.armed, self.visit, self.known = False, None, [], []
 
     def switch_on(self):
-        """A session without presses: its line tells what both flashes hold, and it brings both to it."""
+        """A session without presses: its line reports what both flashes hold, and it brings both to that state."""
         self.want_off()
         self.opening = self.vota([])
         self.is_on = self.opening.status == 0
@@ -228,24 +228,24 @@ class Machine:
         return self.opening
 
     def asked_title(self):
-        """What the program says where the voter at whom the power went is identified once more, over a copy."""
+        """What the program shows over a copy if the voter at whom the power went is identified again."""
         ended = self.asked_of_copy([f"M TITULO {self.cut['titulo']}"])
         return ended.lines[-1] if ended.lines else ""
 
     # ---- the flashes
 
     def exchange(self, device):
-        """A blank flash in the place of this one, with the power off."""
+        """Replaces this flash by a blank one, with the power off."""
         self.want_off()
         put(bytes(self.size), self.folder, FLASHES[device])
 
     def reload(self, device):
-        """The flash that was replaced is loaded from the other one."""
+        """Loads the replaced flash from the other one."""
         self.want_off()
         return self.run(["repoe", TABLES, ROLL, WORDS[device]])
 
     def memories(self):
-        """What each flash alone holds, as the program tells it over a copy in which the other one has its frame alone; and its gates."""
+        """What each flash alone holds, as the program reports it over a copy in which the other one has only its frame; and its gates."""
         flashes = [content(self.folder, name) for name in FLASHES]
         if self.looked_at[0] != flashes:
             self.looked_at = flashes, [self.memory(flashes, device) for device in (0, 1)]
@@ -260,7 +260,7 @@ class Machine:
     # ---- the results
 
     def is_sealed(self):
-        """Whether the files of results were written."""
+        """Whether the result files were written."""
         return self.is_loaded and all(os.path.exists(os.path.join(self.folder, it)) for it in (REPORT, RECORD))
 
     def result(self, name):
@@ -269,7 +269,7 @@ class Machine:
         return content(self.folder, name)
 
     def paper(self):
-        """The report on paper, with its codes, as tools/paper makes it."""
+        """The report on paper with its codes, made by tools/paper."""
         self.result(REPORT)
         try:
             run = subprocess.run(
@@ -292,7 +292,7 @@ class Machine:
         return self.run(["reconta", REPORT, RECORD])
 
     def state(self):
-        """All that the page shows of the machine."""
+        """Everything that the page shows of the machine."""
         if not self.is_loaded:
             return {"carregada": False}
         return {

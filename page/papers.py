@@ -1,5 +1,5 @@
-"""The paper of a report in a browser: printed to a PDF and read back by its codes at 200 dots an inch, in any order, with a black column, and with
-a page missing."""
+"""The paper of a report in a browser: printed to a PDF and read back by its codes at 200 dots an inch, in any order, with a black
+column, and with a page missing."""
 
 import base64
 import functools
@@ -19,15 +19,15 @@ from driver import LONGEST
 # A sheet of A4, and a roll of 80 mm cut at the length of one, in inches; and their margin.
 SHEETS, MARGIN = {"A4": (210 / 25.4, 297 / 25.4), "roll": (80 / 25.4, 297 / 25.4)}, 4 / 25.4
 LEVELS = ("L", "M")
-# Each so many columns of pixels one is tried.
+# One in this many columns of pixels is tested.
 STEP = 8
-# What of a picture is tried: a code of a whole part, which has 117 modules of 0.6 mm with the white ones.
+# The tested part of a picture: a code of a whole part, which has 117 modules of 0.6 mm with the white ones.
 SIDE = int(70.2 / 25.4 * pixels.DPI)
 
 
 @functools.cache
 def lacking():
-    """The packages that these trials need and that are not there."""
+    """The missing packages among those that these trials need."""
     segno = subprocess.run(["/usr/bin/python3", "-c", "import segno"], capture_output=True) if os.path.exists("/usr/bin/python3") else None
     found = {"python3-segno": segno and segno.returncode == 0, "zbar-tools": shutil.which("zbarimg"), "poppler-utils": shutil.which("pdftoppm")}
     return [name for name, is_there in found.items() if not is_there]
@@ -37,7 +37,7 @@ def lacking():
 
 
 def rows(browser):
-    """The rows of the paper in the page: what each says, and its number."""
+    """The rows of the paper in the page: the text of each, and its number."""
     script = "return [...(document.querySelector('iframe.codes').contentDocument?.querySelectorAll('.row span') ?? [])].map((it) => it.textContent)"
     until = time.monotonic() + LONGEST
     while not (found := browser.run(script)):
@@ -76,7 +76,7 @@ def pages(browser, work, name, sheet="A4", margin=MARGIN):
 
 
 def scanned(work, pictures):
-    """The status of tools/scan, the file that it made of pictures, and what it said."""
+    """The status of tools/scan, the file that it made from pictures, and its messages."""
     made = os.path.join(work, "lido.bu")
     if os.path.exists(made):
         os.remove(made)
@@ -85,7 +85,7 @@ def scanned(work, pictures):
 
 
 def of_page(page, program, work):
-    """The paper behind the seal, on A4 and on a roll: the codes give the file of the urna to the byte, and confere accepts it"""
+    """The paper after the seal, on A4 and on a roll: the codes give the file of the urna to the byte, and confere accepts it"""
     report, tables = page.file("urna.bu").encode(), os.path.join(TOP, "examples", "tabelas.toml")
     page.browser.go(page.address + "papel")
     for sheet in SHEETS:
@@ -109,13 +109,13 @@ def made(program, work, level):
 
 
 def parts_on(work, picture):
-    """The numbers of the parts whose codes stand on a page."""
+    """The numbers of the parts whose codes are on a page."""
     run = subprocess.run(["zbarimg", "--quiet", "--raw", "-Sdisable", "-Sqrcode.enable", picture], capture_output=True, text=True)
     return sorted(int(it) for it in re.findall(r"^QRBU:(\d+):", run.stdout, re.M))
 
 
 def largest_one(browser, program, work, told):
-    """The largest report: all codes are read in any order, and a page that is missing is told by the numbers of its parts"""
+    """The largest report: all codes are read in any order, and a missing page is reported by the numbers of its parts"""
     browser.go(f"file://{made(program, work, 'M')}")
     found = pages(browser, work, "maior")
     read = scanned(work, found[::-1])
@@ -126,12 +126,12 @@ def largest_one(browser, program, work, told):
     left = next(it for it in found if 1 < len(parts[it]))
     status, _, said = scanned(work, [it for it in found if it != left])
     numbers = " a ".join(str(parts[left][at]) for at in (0, -1))
-    want(status == 1 and said.endswith(f"faltam {numbers}"), f"without the parts {parts[left]} it is told: {said}")
+    want(status == 1 and said.endswith(f"faltam {numbers}"), f"without the parts {parts[left]} the message is: {said}")
     told.append(f"the largest report: {largest.report().count(10)} codes, {len(found)} pages of A4")
 
 
 def blacked(browser, program, work, told):
-    """A code with a black column of pixels is read to the byte, or the part is told as missing"""
+    """A code with a black column of pixels is read to the byte, or the part is reported as missing"""
     lines = largest.report().split(b"\n")
     for level in LEVELS:
         with open(made_at(program, work, level)) as file:
@@ -143,7 +143,7 @@ def blacked(browser, program, work, told):
         picture = pixels.read(pages(browser, work, "codigo", "A4", 0)[0]).cropped(0, 0, SIDE, SIDE)
         columns = range(0, SIDE, STEP)
         count = sum(is_read(work, picture.blacked(it, 1), lines[0]) for it in columns)
-        told.append(f"a black column of pixels at level {level}: {count} of {len(columns)} are read, and the others told as missing")
+        told.append(f"a black column of pixels at level {level}: {count} of {len(columns)} are read, and the others reported as missing")
 
 
 def made_at(program, work, level):
@@ -152,7 +152,7 @@ def made_at(program, work, level):
 
 
 def is_read(work, picture, line):
-    """Whether the code of a picture is read, to the byte; where it isn't, it is told that nothing was."""
+    """Whether the code of a picture is read, to the byte; if it isn't, the message says that nothing was read."""
     name = picture.save(os.path.join(work, "coluna.pgm"))
     status, _, said = scanned(work, [name])
     if said == "nenhuma parte de um boletim foi lida":
@@ -163,7 +163,7 @@ def is_read(work, picture, line):
 
 
 def tried(new, program, work, told):
-    """What the papers show, with what is to be told of it in numbers."""
+    """What the papers show, with its measurements."""
     browser = new()
     for part in (largest_one, blacked):
         part(browser, program, work, told)

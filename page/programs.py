@@ -1,4 +1,4 @@
-"""The built program, run over the files of a folder. Its words go to it as they are, and nothing reaches a shell."""
+"""Runs the built program over the files of a folder. Its arguments are passed as they are; no shell is involved."""
 
 import os
 import shutil
@@ -10,12 +10,12 @@ TOP = os.path.dirname(os.path.dirname(os.path.abspath(__file__)))
 EXAMPLES = os.path.join(TOP, "examples")
 sys.path += [os.path.join(TOP, it) for it in ("trials", "tools")]
 
-# How long a command may take, in seconds.
+# The time limit of a command, in seconds.
 LONGEST = 60
 
 
 class Refused(Exception):
-    """A request that is not done: the status of the answer, and why, in words for who reads the page."""
+    """A request that is refused: the status of the response, and the reason in words for the user."""
 
     def __init__(self, status, why):
         super().__init__(why)
@@ -23,13 +23,13 @@ class Refused(Exception):
 
 
 def lines_of(shown):
-    """The lines that a command showed. Nothing but a line feed ends one, whatever else a name may have."""
+    """The lines of a command's output. Only a line feed ends one, whatever a name may contain."""
     lines = shown.decode(errors="replace").split("\n")
     return lines if lines[-1] else lines[:-1]
 
 
 class Ended(NamedTuple):
-    """A command that ended: its words, its status, with a signal as a number below zero, and the lines that it showed."""
+    """A command that ended: its arguments, its status, with a signal as a negative number, and its output lines."""
 
     words: list
     status: int
@@ -40,13 +40,13 @@ class Ended(NamedTuple):
 
 
 class Program:
-    """The built program, and the library that stops it in the middle of a write, where there is one (trials/failing.c)."""
+    """The built program, and the library that stops it in the middle of a write, if there is one (trials/failing.c)."""
 
     def __init__(self, path, library):
         self.path, self.library = path, library
 
     def run(self, folder, words, **asked):
-        """Does a command in a folder. What is asked of the library stands in the command's surroundings."""
+        """Runs a command in a folder. The settings of the library are environment variables of the command."""
         environment = {"LD_PRELOAD": self.library, **asked} if asked else {}
         streams = {"stdin": subprocess.DEVNULL, "stdout": subprocess.PIPE, "stderr": subprocess.DEVNULL}
         run = subprocess.Popen([self.path, *words], cwd=folder, env=environment, **streams)
@@ -61,7 +61,7 @@ class Program:
 
 
 def anew(folder):
-    """An empty folder. What was in it is gone."""
+    """An empty folder. Its old content is removed."""
     shutil.rmtree(folder, ignore_errors=True)
     os.mkdir(folder)
 
@@ -72,7 +72,7 @@ def content(*path):
 
 
 def put(data, *path):
-    """Writes a file. What stood there is replaced, and not followed."""
+    """Writes a file. An existing one is replaced, and a link isn't followed."""
     path = os.path.join(*path)
     if os.path.lexists(path):
         os.remove(path)

@@ -1,5 +1,5 @@
-"""The power pulled at each operation of one commit, by requests: whoever saw FIM begin is in the count, once, and whoever did not is asked for by
-the program itself."""
+"""The power pulled at each operation of one commit, by requests. A voter who saw FIM begin is counted, once; for any other voter the
+program asks again."""
 
 from client import Client, fields
 from commands import want
@@ -33,7 +33,7 @@ def want_cut(told, number, what):
 
 
 def voter_at(client, number):
-    """The second voter's last press, with the power pulled at an operation of its commit. Answers how many of these there are."""
+    """The second voter's last press, with the power pulled at an operation of its commit. Returns how many of these there are."""
     what = f"the power pulled at operation {number}"
     client.press(*ballot(2))
     client.ask("arma", operacao=number)
@@ -44,7 +44,7 @@ def voter_at(client, number):
     told = client.ask("liga")
     came, again = told["inicio"]["linhas"], told["corte"]["volta"]
     want((came, again) in ((["URNA ABERTA 1"], f"ELEITOR {title(2)[-12:]}"), (["URNA ABERTA 2"], "RECUSA 5")), f"{what}: {came}, {again}")
-    want(again == "RECUSA 5" or not saw, f"{what}: whoever saw FIM begin is not counted")
+    want(again == "RECUSA 5" or not saw, f"{what}: a voter who saw FIM begin is not counted")
     if again != "RECUSA 5":
         client.press(*ballot(2))
         want(client.press("E C")["linhas"] == ["FIM"], f"{what}: the voter could not come again")
@@ -59,7 +59,7 @@ def sealed(client, what):
 
 
 def voters(port):
-    """The power pulled at each operation of a voter's commit, the poll sealed behind each"""
+    """The power pulled at each operation of a voter's commit, the poll sealed after each"""
     number, count = 1, 1
     while number <= count:
         client = begun(port)
@@ -94,22 +94,22 @@ def drawn(port):
         want_cut(told, told["corte"]["parou"], "a drawn operation")
         client.ask("liga")
         client.press(*ballot(3))
-        want(client.press("E C")["linhas"] == ["FIM"], "behind a drawn operation the poll does not go on")
+        want(client.press("E C")["linhas"] == ["FIM"], "after a drawn operation the poll does not continue")
     return 5
 
 
 def exchanged(port):
-    """Each flash lost and replaced, the other one lost behind it"""
+    """Each flash lost and replaced, the other one lost after it"""
     client = begun(port)
     for word in ("interna", "externa"):
         client.ask("desliga")
         client.ask("troca", memoria=word)
-        want(client.ask("liga")["resposta"]["linhas"] == [f"ERRO OUTRA CARGA {word.upper()}"], f"a blank {word} is not told")
+        want(client.ask("liga")["resposta"]["linhas"] == [f"ERRO OUTRA CARGA {word.upper()}"], f"a blank {word} is not reported")
         found = client.ask("repoe", memoria=word)["resposta"]["linhas"]
         want(found == [f"REPOSTA {word.upper()} 1 42 1"], f"repoe {word}: {found}")
         want(client.ask("liga")["ligada"], "it does not start")
     client.press(*ballot(2))
-    want(client.press("E C")["linhas"] == ["FIM"], "the poll does not go on")
+    want(client.press("E C")["linhas"] == ["FIM"], "the poll does not continue")
     sealed(client, "two flashes were replaced")
     return 2
 

@@ -1,4 +1,4 @@
-"""The sessions of the page: one for each browser, known by a token, with its files in a folder of its own."""
+"""The sessions of the page: one per browser, identified by a token, with its files in a folder of its own."""
 
 import base64
 import collections
@@ -14,12 +14,12 @@ from programs import Refused, anew
 from totals import Totals
 
 MOST_SESSIONS = 32
-# Of what the browser gives, by its key: the type.
+# The types of the browser's inputs, by key.
 TEXT, NUMBER, LIST = str, int, list
 
 
 def given(asked, key, kind):
-    """A value of a request, which has this type."""
+    """A value of a request, which must have this type."""
     value = asked.get(key)
     if not isinstance(value, kind) or isinstance(value, bool):
         raise Refused(400, f"falta {key}, ou não tem a forma")
@@ -45,14 +45,14 @@ def device_given(asked):
 
 
 class Session:
-    """What one browser does. One request after the other."""
+    """The requests of one browser, one after the other."""
 
     def __init__(self, program, top):
         self.program, self.top, self.lock = program, top, threading.Lock()
         self.folder, self.is_closed = None, False
 
     def open(self):
-        """The folder of the session, made with the first request that needs it."""
+        """The folder of the session, created by the first request that needs it."""
         if self.is_closed:
             raise Refused(410, "esta sessão foi fechada: recarregar a página")
         if not self.folder:
@@ -69,7 +69,7 @@ class Session:
     def path(self, name):
         return os.path.join(self.folder, name)
 
-    # ---- what a request asks for
+    # ---- the requests
 
     def state(self, asked=None):
         return {"preparada": bool(self.program.library), **self.machine.state()}
@@ -78,7 +78,7 @@ class Session:
         return {"nomes": self.names, "titulos": self.titles}
 
     def begin(self, asked):
-        """Another election, which is there to begin with, or whose tables and roll are given."""
+        """Starts another election: a built-in one, or one with the given tables and roll."""
         if "exemplo" in asked:
             anew(self.path("ensaio"))
             tables, roll, zone, section = elections.poll(self.program, self.path("ensaio"), given(asked, "exemplo", TEXT))
@@ -132,8 +132,8 @@ class Session:
         return {"resposta": self.machine.recount().told()}
 
     def totals(self, asked):
-        """The totals of an example, of the example day with the report of this machine, or of the files that are given; of these under the
-        tables of the machine, where no others are."""
+        """The totals of an example, of the example day with the report of this machine, or of the given files; for the latter with the
+        tables of the machine, if no others are given."""
         if "exemplo" in asked:
             return self.totalled.tell(*self.example(given(asked, "exemplo", TEXT)))
         tables = file_given(asked, "tabelas", elections.MOST_TABLES) if asked.get("tabelas") is not None else self.tables
@@ -151,7 +151,7 @@ class Session:
         return tables, reports
 
     def verify(self, asked):
-        """What the program says of a certificate of these totals, or of a file that is given in its place."""
+        """The program's answer about a certificate of these totals, or about a file that is given instead of it."""
         name = given(asked, "certificado", TEXT)
         if "base64" not in asked:
             return {"resposta": self.totalled.check(name).told()}
@@ -168,7 +168,7 @@ class Session:
 
 
 class Sessions:
-    """All sessions. Where there are too many, the one that was longest without a request is closed."""
+    """All sessions. If there are too many, the one that was idle longest is closed."""
 
     def __init__(self, program, top):
         self.program, self.top, self.lock = program, top, threading.Lock()
@@ -191,7 +191,7 @@ class Sessions:
         return token
 
     def close(self):
-        """Closes each session, behind the request that it does."""
+        """Closes each session, after its current request."""
         with self.lock:
             kept = list(self.kept.values())
         for it in kept:

@@ -1,4 +1,5 @@
-"""Requests that are refused: of another machine, host or origin, of a wrong form, too large, without a session; and two sessions side by side."""
+"""Requests that are refused: from another machine, host or origin, of a wrong form, too large, without a session; and two sessions side
+by side."""
 
 import base64
 import json
@@ -17,11 +18,11 @@ def encoded(data):
 def want_refused(client, what, statuses, way="POST", path="/api/tecla", body=b'{"tecla": "M LIBERA"}', **changed):
     status, _, told = client.send(way, path, body, **changed)
     want(status in statuses, f"{what}: answered {status} {told[:200]!r}")
-    want(b"Traceback" not in told, f"{what}: tells of the server's own")
+    want(b"Traceback" not in told, f"{what}: shows something of the server")
 
 
 def listeners(port):
-    """The addresses at which something listens at a port, as the system tells them."""
+    """The addresses on which something listens at a port, as the system reports them."""
     found = []
     for name in ("/proc/net/tcp", "/proc/net/tcp6"):
         with open(name) as file:
@@ -31,12 +32,12 @@ def listeners(port):
 
 
 def strangers(port):
-    """Another machine, another host name, and what another page sends."""
+    """Another machine, another host name, and requests of another page."""
     want(listeners(port) == ["0100007F"], f"the page is served at {listeners(port)}")
     client = Client(port)
     client.ask("comeca", exemplo="dia")
     for host in ("urna.example", f"urna.example:{port}", "127.0.0.1", f"127.0.0.1:{port + 1}", ""):
-        # So asks a page whose name was made to lead to this machine.
+        # Such is the request of a page whose name was made to lead to this machine.
         want_refused(client, f"host {host!r}", [400, 403], Host=host, Origin=f"http://{host}")
         for path in ("/", "/api/estado"):
             want_refused(client, f"{path} for host {host!r}", [400, 403], way="GET", path=path, body=None, Host=host, Origin=None)
@@ -52,7 +53,7 @@ def strangers(port):
 
 
 def forms(port):
-    """What has another form than the page sends."""
+    """Requests of another form than the page's."""
     client = Client(port)
     client.ask("comeca", exemplo="dia")
     for body in (b"", b"{", b"[]", b"1", b'"M LIBERA"', b"\xff", b"[" * 4000, b'{"tecla": 1}', b'{"tecla": null}', b'{"tecla": ["M"]}', b"{}"):
@@ -76,7 +77,7 @@ def forms(port):
         status, _, told = client.send("POST", f"/api/{path}", json.dumps(words).encode())
         want(status in (400, 409), f"{path} {words}: answered {status} {told!r}")
     for name in ("2026-10-04", "nan", "[[]]", "{a = 1}", "'" + "\u2028" * 24 + "'"):
-        # Tables that are no tables, or have odd names, are the program's to refuse.
+        # Invalid tables, or ones with odd names, are for the program to refuse.
         tables = content(EXAMPLES, "tabelas.toml").replace(b'"ANA"', name.encode())
         told = client.ask("comeca", tabelas=encoded(tables), rol=encoded(content(EXAMPLES, "rol.txt")), zona=1, secao=42)
         want(told["carga"]["numero"] in (0, 3), f"tables with the name {name}: {told['carga']}")
@@ -86,7 +87,7 @@ def forms(port):
 
 
 def certificates(port):
-    """A certificate is of the totals of its session, and what is given in its place is bounded."""
+    """A certificate belongs to the totals of its session, and a file given instead of it is bounded."""
     one, other = Client(port), Client(port)
     for client in (one, other):
         told = client.ask("totais", exemplo="federacao")["certificados"]
@@ -105,7 +106,7 @@ def certificates(port):
 
 
 def sizes(port):
-    """What is too large, or does not say how large it is."""
+    """Requests that are too large, or have no length."""
     client = Client(port)
     want_refused(client, "a long press", [413], body=b" " * 5000)
     want_refused(client, "large totals", [413], path="/api/totais", body=bytes(33_554_433))
@@ -127,7 +128,7 @@ def sizes(port):
 
 
 def sessions(port):
-    """Two browsers have two sessions, and a name in a list is no name of a file."""
+    """Two browsers have two sessions, and a name in a list is not the name of a file."""
     one, other = Client(port), Client(port)
     one.ask("comeca", exemplo="dia")
     other.ask("comeca", exemplo="dia")

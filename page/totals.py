@@ -1,8 +1,7 @@
-"""The totals of reports that were dropped on the page: `totaliza` over files in a folder of the session, under names of the server; of each
-office whose seats are given in proportion the certificate, which `certifica` makes; and the check of it, or of a file that is given as one,
-by `verifica`.
+"""The totals of reports that were dropped on the page: `totaliza` over files in a folder of the session, under names of the server; for
+each proportional office the certificate, which `certifica` makes; and the check of it, or of a file given as one, by `verifica`.
 
-What else is to be told of these files is one more command of `tell`, and one more part of static/totais.js.
+To add another command over these files, add it to `tell`, and a part to static/totais.js.
 """
 
 import os
@@ -15,7 +14,7 @@ MOST_TOLD = 255
 
 
 def proportional(lines):
-    """The codes of the offices whose seats are given in proportion: the totals tell a quotient of them, or that there is none."""
+    """The codes of the proportional offices: the totals have a quotient for them, or the line that there is none."""
     code, found = None, []
     for line in lines:
         if line.startswith("CARGO "):
@@ -26,7 +25,7 @@ def proportional(lines):
 
 
 class Totals:
-    """The totals that a session saw last. Those before them are gone, and no name of a certificate stands for two."""
+    """The totals that a session saw last. Earlier ones are gone, and no name of a certificate is used twice."""
 
     def __init__(self, program, folder):
         self.program, self.folder = program, folder
@@ -41,7 +40,7 @@ class Totals:
         anew(self.folder)
 
     def tell(self, tables, reports):
-        """The reports, each with the name by which it is told, totalled in their order."""
+        """The reports, each with the name under which it is shown, totalled in order."""
         if len(tables) > elections.MOST_TABLES or any(len(data) > elections.MOST_REPORT for _, data in reports):
             raise Refused(413, "o arquivo é grande demais")
         if len(reports) > elections.MOST_REPORTS:
@@ -61,7 +60,7 @@ class Totals:
         }
 
     def certify(self, code):
-        """The certificate of an office's seats: its name, what the command showed, and its text, where it made one."""
+        """The certificate of an office's seats: its name, the output of the command, and its text, if it made one."""
         name = f"cargo-{code}-{self.number}"
         ended = self.run("certifica", TABLES, LIST, code, name)
         text = content(self.folder, f"{name}.cer").decode(errors="replace") if ended.status == 0 else None
@@ -75,11 +74,11 @@ class Totals:
         return self.certificates[name]
 
     def check(self, name):
-        """What the program says of the certificate of this name."""
+        """The program's answer about the certificate of this name."""
         return self.run("verifica", TABLES, LIST, self.office_of(name), name)
 
     def check_given(self, name, data):
-        """What the program says of a file that is given in the place of the certificate of this name."""
+        """The program's answer about a file that is given instead of the certificate of this name."""
         code = self.office_of(name)
         put(data, self.folder, GIVEN)
         try:

@@ -1,5 +1,5 @@
-"""The page in a browser: a whole day by clicks and by keys, the power pulled, a flash replaced, the report, the totals, a hostile name, and each
-control by the keyboard."""
+"""The page in a browser: a whole day by clicks and by keys, the power pulled, a flash replaced, the report, the totals, a hostile name,
+and each control by the keyboard."""
 
 import base64
 import os
@@ -19,7 +19,7 @@ from visible import visible
 ENTER, BACKSPACE, TAB = "\ue007", "\ue003", "\ue004"
 PHONE = 390
 HOSTILE = certificate_views.MARKUP
-# It is no line feed, and ends no line of the program.
+# It isn't a line feed, and ends no line of the program.
 SEPARATOR = "\u2028"
 
 
@@ -60,7 +60,7 @@ class Page:
             self.browser.click(f'[data-press="{it}"]')
 
     def picture(self, name):
-        """A picture of the view, and one at a phone's width, where nothing may lie beside the paper."""
+        """A picture of the view, and one at a phone's width, where nothing may be wider than the page."""
         self.browser.picture(os.path.join(self.pictures, f"{name}.png"))
         wide = self.browser.picture(os.path.join(self.pictures, f"{name}-celular.png"), PHONE)
         want(wide <= PHONE, f"{name}: at a phone's width the page is {wide} wide")
@@ -69,7 +69,7 @@ class Page:
         return self.browser.run("return [...document.querySelectorAll(arguments[0])].map((it) => it.textContent)", selector)
 
     def choose(self, *paths):
-        """Files for the totals, in the place of those that were chosen before."""
+        """Files for the totals, which replace those that were chosen before."""
         self.browser.run("const it = document.querySelector('#soma [name=arquivos]'); it.value = ''; it.dispatchEvent(new Event('change'))")
         if paths:
             self.browser.give("#soma [name=arquivos]", "\n".join(paths))
@@ -96,7 +96,7 @@ def begin(page, choice):
 
 
 def opened(page):
-    """A key before the opening is refused, and the zero report is of zeros."""
+    """A key before the opening is refused, and the zero report has only zeros."""
     page.clerk("TITULO", "RECUSA 1")
     page.clerk("ABRE", "ABERTA 20261004080000")
     page.clerk("ABRE", "RECUSA 2")
@@ -136,7 +136,7 @@ def by_keys(page):
     page.browser.run("document.querySelector('#terminal').focus()")
     page.browser.press("b")
     page.screen("BRANCO", "the key for blank")
-    # CONFIRMA with one digit, which is not taken, changes nothing; nor does a key that is held down.
+    # CONFIRMA after one digit is ignored and changes nothing; nor does a key that is held down.
     page.browser.press(ENTER, "1", ENTER)
     page.screen("Prefeito", "the second office is not called")
     page.browser.press(BACKSPACE, "1")
@@ -146,7 +146,7 @@ def by_keys(page):
 
 
 def suspended(page):
-    """One voter goes away and comes again; one confirmed a vote before."""
+    """One voter leaves and comes again; one confirmed a vote before."""
     page.identify(3)
     page.click_keys("13")
     page.clerk("SUSPENDE", "SUSPENSO")
@@ -187,7 +187,7 @@ def sealed(page):
 
 
 def printed(page):
-    """What is printed is one column of paper, and nothing else."""
+    """One column of paper is printed, and nothing else."""
     page.browser.run("window.printed = 0; window.print = () => { window.printed += 1; }")
     page.browser.click("#papeis .sheet:first-child button")
     want(page.browser.run("return [window.printed, document.body.dataset.print].join()") == "1,zeresima", "the zero report is not printed")
@@ -256,7 +256,7 @@ def pulled(page):
 
 
 def pairs_in(text):
-    """What a picture says of itself: each label with its number."""
+    """The texts of a picture: each label with its number."""
     return [(label.strip(), int(value)) for label, _, value in (it.rpartition(":") for it in text.split(";") if it.strip())]
 
 
@@ -306,7 +306,7 @@ def rehearsed(page, program, work):
 
 
 def chosen(page, program, work):
-    """Files that are chosen, and such that are dropped at the place for them and beside it."""
+    """Files that are chosen, and files dropped on the place for them and beside it."""
     names = ["tabelas.toml", "secao43.bu", "federacao-42.bu"]
     page.choose(*(os.path.join(EXAMPLES, it) for it in names))
     want_listed(page, program, work, names)
@@ -319,13 +319,13 @@ def chosen(page, program, work):
 
 
 def listed_files(work, names):
-    """The tables, and a list of reports, of such files of the examples."""
+    """The tables and the list of reports, from such files of the examples."""
     tables, *reports = (os.path.join(EXAMPLES, it) for it in names)
     return tables, certificate_views.put_down(work, "lista-dada", "".join(f"{it}\n" for it in reports).encode())
 
 
 def want_listed(page, program, work, names):
-    """The files that were given are totalled as the program totals them; a report of another election is a stranger among them."""
+    """The given files are totalled as the program totals them; a report of another election is a stranger among them."""
     page.browser.run("document.querySelector('#totalizado').replaceChildren()")
     page.browser.click("#soma button")
     strange = "federacao-42.bu" in names
@@ -376,7 +376,7 @@ def controls(page):
     page.browser.wait("#totalizado", lambda text: "FRENTE" in text, "the federation is not totalled")
     for view in ("urna", "tomada", "boletim", "totais"):
         page.view(view)
-        want(page.texts('nav [aria-current="page"]') == page.texts(f'nav [href="#{view}"]'), f"{view}: it is not told which view it is")
+        want(page.texts('nav [aria-current="page"]') == page.texts(f'nav [href="#{view}"]'), f"{view}: the name of the view is not announced")
         page.browser.run("document.querySelector('.skip').focus()")
         page.browser.press(ENTER)
         shown = "return [document.activeElement.id, document.body.dataset.view]"
@@ -396,10 +396,10 @@ def controls(page):
 
 
 def bounds(page):
-    """The page and its server have the same bounds"""
+    """The page and its server have the same limits"""
     found = page.browser.run("return import('/parts.js').then((it) => it.MOST)")
     wanted = [elections.MOST_TABLES, elections.MOST_ROLL, elections.MOST_REPORT, elections.MOST_CERTIFICATE, handler.LARGE]
-    want([found[it] for it in ("tables", "roll", "report", "certificate", "asked")] == wanted, f"the page has the bounds {found}")
+    want([found[it] for it in ("tables", "roll", "report", "certificate", "asked")] == wanted, f"the page has the limits {found}")
 
 
 def tried(new, program, address, pictures, work):
@@ -422,16 +422,16 @@ def tried(new, program, address, pictures, work):
     page.clerk("LIBERA", "RECUSA 3")
     yield "Two browsers have two sessions"
     for it in (page, other):
-        # What the server refuses is said there too.
+        # What the server refuses is reported there too.
         complaints = [line for line in it.browser.log() if "favicon" not in line and "/api/verifica" not in line]
-        want(not complaints, f"the browser complains: {complaints[:3]}")
-    yield "The browser complains of nothing else"
+        want(not complaints, f"the browser reports errors: {complaints[:3]}")
+    yield "The browser reports no other errors"
 
 
 def unprepared(new, address, pictures):
-    """Where there is no C compiler the page says so, and the power is not pulled"""
+    """Without a C compiler the page says so, and the power is not pulled"""
     page = Page(new(), address, pictures)
     page.view("tomada")
-    page.browser.wait("#energia", lambda text: "Sem compilador de C" in text, "it is not said")
+    page.browser.wait("#energia", lambda text: "Sem compilador de C" in text, "the page doesn't say that there is no C compiler")
     want(page.browser.run("return document.querySelector('#arma').disabled"), "the power can be pulled")
     yield unprepared.__doc__
