@@ -69,7 +69,7 @@ class Handler(http.server.BaseHTTPRequestHandler):
     def log_message(self, *words):
         """Logs nothing, so that the times of presses aren't recorded."""
 
-    # ---- who asks
+    # ---- the sender
 
     def hosts(self):
         port = self.server.server_address[1]
@@ -97,7 +97,7 @@ class Handler(http.server.BaseHTTPRequestHandler):
         cookie = cookies.get(self.cookie_name())
         return self.server.sessions.of(cookie.value) if cookie else None
 
-    # ---- what is asked
+    # ---- the request
 
     def asked(self, most):
         """The object of a request."""

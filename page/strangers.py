@@ -37,7 +37,7 @@ def strangers(port):
     client = Client(port)
     client.ask("comeca", exemplo="dia")
     for host in ("urna.example", f"urna.example:{port}", "127.0.0.1", f"127.0.0.1:{port + 1}", ""):
-        # Such is the request of a page whose name was made to lead to this machine.
+        # The request of a page whose host name was made to point to this machine.
         want_refused(client, f"host {host!r}", [400, 403], Host=host, Origin=f"http://{host}")
         for path in ("/", "/api/estado"):
             want_refused(client, f"{path} for host {host!r}", [400, 403], way="GET", path=path, body=None, Host=host, Origin=None)

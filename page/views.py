@@ -104,7 +104,7 @@ def opened(page):
 
 
 def count_sayings(page):
-    """Counts how often a screen reader is told of the clerk's terminal."""
+    """Counts how often a screen reader announces the clerk's terminal."""
     page.browser.run(
         "window.sayings = 0;"
         "const seen = new MutationObserver(() => { window.sayings += 1; });"

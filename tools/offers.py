@@ -224,7 +224,7 @@ class Run:
         forms[words[0]][0](*words[1:])
 
     def do(self, size, dev, what, slot, value):
-        """Does a step, or half of it if there is no room or the call of its number fails. No read comes before such a call."""
+        """Does a step, or half of it if there is no room or the call of its number fails. No read precedes such a call."""
         if len(self.done) in self.fails or size > self.room:
             if what == "show":
                 self.shown += value[: min(size // 2, self.room)]

@@ -209,10 +209,10 @@ class Centre:
         free = draw.choice([place for place in range(2000) if place not in ledger])
         past = one_of(draw, range(len(self.voters), 2000))
         sums = sum(map(len, self.choices))
-        kind = draw.choice(["version", "front", "fewer", "more", "a section that isn't there", "behind the marks", "hash", "sum", "end"])
-        if kind == "a section that isn't there":
+        kind = draw.choice(["version", "front", "fewer", "more", "an unknown section", "after the marks", "hash", "sum", "end"])
+        if kind == "an unknown section":
             body[8 + past // 8] |= 128 >> past % 8
-        if kind in ("fewer", "more") or (kind == "a section that isn't there" and draw.random() < 0.5):
+        if kind in ("fewer", "more") or (kind == "an unknown section" and draw.random() < 0.5):
             body[4:8] = (number + (-1 if kind == "fewer" else 1)).to_bytes(4, "big")
         if kind == "sum":
             at = SUMS + 8 * draw.randrange(sums)
@@ -220,7 +220,7 @@ class Centre:
         ranges = {
             "version": range(1),
             "front": range(1, 4),
-            "behind the marks": range(258, 512),
+            "after the marks": range(258, 512),
             "hash": range(HASHES + 64 * free, HASHES + 64 * free + 64),
             "end": range(SUMS + 8 * sums, BODY),
         }

@@ -1,12 +1,12 @@
-// The zero report and the report as they are printed, the two files, and what the program says of them. Behind the seal the report is the paper
-// that the server makes of its file, with the codes; where it can't, the counts as the program showed them.
+// The zero report and the report as they are printed, the two files, and the program's answers about them. After the seal the report is the
+// paper that the server makes from its file, with the codes; if it can't, the counts as the program showed them.
 
 import { ask, find, make, moment, number, office, renew } from "./parts.js";
 import { told } from "./urna.js";
 
 const TITLES = { ZERESIMA: "ZERÉSIMA", BOLETIM: "BOLETIM DE URNA" };
 
-// A count line, with the name that the tables have for its number.
+// A count line, with the name from the tables for its number.
 function counted(line, code, names) {
   const [what, count] = line.split(" ");
   const name = (names.candidatos || {})[`${code} ${what}`] || (what.length === 2 ? (names.partidos || {})[what] : "") || "";
@@ -28,13 +28,13 @@ function printed(line, code, names) {
   return word === "ENCERRADA" ? make("p", {}, `Encerrada em ${moment(value)}. Compareceram ${number(more)}`) : counted(line, code, names);
 }
 
-// Of which section the paper is: that of the load.
+// The section of the paper: that of the load.
 function section(state) {
   const [, zone, place, voters] = state.carga.linhas[0].split(" ");
   return make("p", {}, `Zona ${zone}, seção ${place}, ${number(voters)} eleitores`);
 }
 
-// One column of paper, and a button that prints it alone.
+// One column of paper, and a button that prints only this column.
 function paper(kind, lines, page) {
   const names = page.names;
   let code = "";
@@ -53,7 +53,7 @@ function paper(kind, lines, page) {
 
 const frame = () => find("papel").querySelector("iframe");
 
-// The paper of the sealed poll, asked for once.
+// The paper of the sealed poll, requested once.
 async function showPaper(page) {
   const answer = await fetch("/papel").catch(() => null);
   find("sem-papel").textContent = answer?.ok ? "" : `Sem o papel com os códigos: ${(await answer?.json().catch(() => null))?.erro || "o servidor não responde"}`;

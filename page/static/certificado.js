@@ -1,9 +1,9 @@
-// The certificate of an office's seats as tables, its check, and the substitutes: out of what `certifica` put and showed, and of `verifica`.
+// The certificate of an office's seats as tables, its check, and the substitutes: from the file and the output of `certifica`, and of `verifica`.
 
 import { MOST, ask, blocName, candidateName, dropZone, encoded, make, number, table, textBlock } from "./parts.js";
 import { told } from "./urna.js";
 
-// As much of a file as is shown. A certificate of an election is shorter.
+// The part of a file that is shown. A certificate of an election is shorter.
 const MOST_SHOWN = 262144;
 
 const average = (word) => {
@@ -11,7 +11,7 @@ const average = (word) => {
   return { bloc, votes, divisor };
 };
 
-// The text of a certificate (docs/FORMATS.md, "Certificate"), its numbers as they stand there.
+// The text of a certificate (docs/FORMATS.md, "Certificate"), its numbers as written.
 function read(text) {
   const certificate = { quotient: "", first: [], rounds: [], vacant: "" };
   for (const line of text.split("\n")) {
@@ -33,10 +33,10 @@ function read(text) {
 
 const hint = (text) => make("p", { class: "hint" }, text);
 
-// The bloc of a number, as the totals tell it.
+// The bloc of a number, from the totals.
 const blocOf = (contest, bloc) => contest.blocs.find((it) => it.number === bloc) || { kind: "PARTIDO", number: bloc, votes: 0 };
 
-// The rules in words, each of them beside what it explains (docs/RULES.md, "The seats").
+// The rules in words, each next to what it explains (docs/RULES.md, "The seats").
 const RULES = {
   quotient: "O quociente são os votos divididos pelas vagas, sem a fração que não passa da metade; uma maior conta como um (Código Eleitoral, art. 106).",
   first:
@@ -75,7 +75,7 @@ function competing(round) {
   return make("ul", { class: "averages" }, ...items);
 }
 
-// The remaining seats, one after the other, with the averages of those that compete where a certificate tells them.
+// The remaining seats, one after the other, with the averages of those that compete, if a certificate has them.
 function rounds(all, contest, names) {
   if (!all.length) {
     return [make("p", {}, contest.vacant ? "Nenhuma sobra foi dada: ninguém concorre." : "Nenhuma vaga sobrou da primeira fase.")];
@@ -93,14 +93,14 @@ function vacant(count) {
   return make("p", { class: "vacancies" }, count === "0" ? "Nenhuma vaga fica vazia." : some);
 }
 
-// Of which reports a certificate is. It is also made of some sections alone.
+// The reports of a certificate. It may also be made from only some sections.
 function scope(sections) {
   const [counted, all] = sections.map(number);
   const which = counted === all ? "os de todas as seções" : `de ${counted} de ${all} seções, e ainda não é o da eleição`;
   return hint(`É sobre os boletins aceitos acima, ${which}. Cada linha se confere à mão, com as que estão antes dela e com as somas; não é uma assinatura.`);
 }
 
-// The line of a text of which an answer of `verifica` speaks, from 0; -1 where it speaks of none.
+// The number of the line that an answer of `verifica` names, from 0; -1 if it names none.
 function lineOf(answer, lines) {
   const [, what, which] = /^(?:RECUSADO|ERRO CERTIFICADO) (QUOCIENTE|PRIMEIRA|RODADA|FIM|LINHA)(?: (\d+))?$/.exec(answer) || [];
   const begins = { QUOCIENTE: "QUOCIENTE ", PRIMEIRA: "PARTIDO ", RODADA: "RODADA ", FIM: "VAZIAS ", LINHA: "" }[what];
@@ -108,7 +108,7 @@ function lineOf(answer, lines) {
   return places[(which || 1) - 1] ?? -1;
 }
 
-// A text in which the line of which the answer speaks is marked.
+// A text with the line marked that the answer names.
 function marked(text, answer) {
   const lines = text.split("\n");
   const at = lineOf(answer, lines);
@@ -119,7 +119,7 @@ function marked(text, answer) {
 
 const answered = (answer) => [`${answer.comando}: `, ...told(answer.linhas[0] || "", answer.numero)];
 
-// The certificate that the program made: to be checked, taken away and read.
+// The certificate that the program made: to check, download and read.
 function own(it) {
   const said = make("p", { class: "said", role: "status", "data-resposta": "" });
   const button = make("button", { type: "button", "data-verifica": it.cargo }, "verifica");
@@ -138,7 +138,7 @@ async function textOf(file) {
   return `${new TextDecoder().decode(bytes)}${file.size > MOST_SHOWN ? "\n…" : ""}`;
 }
 
-// What the program says of a file, and the file with the line that it means.
+// The program's answer about a file, and the file with the line that it names.
 async function check(it, file, said, shown) {
   said.replaceChildren(`${file.name}: o programa confere…`);
   const base64 = await encoded(file, MOST.certificate).catch(() => null);
@@ -150,7 +150,7 @@ async function check(it, file, said, shown) {
   shown.hidden = false;
 }
 
-// A file that somebody else made, in the place of the certificate.
+// A file that somebody else made, instead of the certificate.
 function other(it) {
   const said = make("p", { class: "said", role: "status", "data-resposta": "outro" });
   const shown = textBlock("O texto deste arquivo", { "data-outro": it.cargo, hidden: "" });
@@ -174,7 +174,7 @@ function notMade(it, contest, names) {
   return [make("p", {}, ...answered(it.certifica)), ...(contest.rounds.length ? rounds(contest.rounds, contest, names) : [])];
 }
 
-// The substitutes of each bloc, as `certifica` tells them.
+// The substitutes of each bloc, as `certifica` prints them.
 function substitutes(it, contest, names) {
   const lists = new Map();
   for (const line of it.certifica.linhas.filter((other) => other.startsWith("SUPLENTE "))) {
@@ -193,7 +193,7 @@ function substitutes(it, contest, names) {
   ];
 }
 
-// All of an office whose seats are given in proportion.
+// Everything about a proportional office.
 export function certified(it, contest, names, sections) {
   const seats = it.texto === null ? notMade(it, contest, names) : made(it, contest, names, sections);
   return [make("h4", {}, "O certificado das vagas"), ...seats, other(it), ...(it.texto === null ? [] : substitutes(it, contest, names))];

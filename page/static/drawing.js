@@ -1,4 +1,4 @@
-// Pictures in SVG, each with its numbers as text for who can't see it.
+// Pictures in SVG, each with its numbers as text for those who can't see it.
 
 import { make, number } from "./parts.js";
 
@@ -23,7 +23,7 @@ export function bars(rows, title) {
 
 const cut = (label) => (label.length > 46 ? `${label.slice(0, 45)}…` : label);
 
-// How far from the middle each row of a half-circle is, and how large a seat, where it has so many rows.
+// The distance of each row of a half-circle from the middle, and the size of a seat, for this number of rows.
 function rowsOf(count, rows, outer) {
   const step = rows === 1 ? outer : (outer * 0.6) / (rows - 1);
   const radii = Array.from({ length: rows }, (_, at) => outer - at * step);
@@ -31,7 +31,7 @@ function rowsOf(count, rows, outer) {
   return { radii, size: 0.45 * Math.min(58, step, length / Math.max(1, count - rows)) };
 }
 
-// The places of seats in a half-circle, from the left to the right, in as many rows as leave them largest.
+// The places of seats in a half-circle, from left to right, in the number of rows that makes them largest.
 function places(count) {
   const outer = Math.min(260, Math.max(60, count * 22));
   const tried = Array.from({ length: 10 }, (_, at) => rowsOf(count, at + 1, outer));
@@ -46,7 +46,7 @@ function places(count) {
   return { seats: seats.sort((one, other) => one.turn - other.turn || other.radius - one.radius), size, outer };
 }
 
-// Whose colour is which, and how many seats each has.
+// The colours of the parties, and how many seats each has.
 function legend(entries) {
   const items = entries.map((it) => {
     const kind = it.colour ? { class: "seat", fill: it.colour } : { class: "seat vacant" };

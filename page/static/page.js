@@ -1,4 +1,4 @@
-// The page: its views, and the state of the session, which each of them shows after every request.
+// The page: its views, and the state of the session, which every view shows after each request.
 
 import { MOST, ask, encoded, find, read } from "./parts.js";
 import * as boletim from "./boletim.js";
@@ -17,7 +17,7 @@ function show(state) {
   }
 }
 
-// One request after the other, in the order in which they were asked for.
+// One request after the other, in the order of the user's actions.
 let last = Promise.resolve();
 function change(what, words) {
   last = last.then(() => ask(what, words)).then((told) => (show(told), told)).catch(() => null);
@@ -26,7 +26,7 @@ function change(what, words) {
 
 function go() {
   const asked = location.hash.slice(1);
-  // Another place, as the one to which the first link of the page leads, is inside the view that is shown.
+  // Any other anchor, such as the target of the page's first link, is inside the current view.
   const view = VIEWS.includes(asked) ? asked : document.body.dataset.view;
   document.body.dataset.view = view;
   for (const it of document.querySelectorAll("[data-views]")) {

@@ -1,4 +1,4 @@
-// What the views share: requests, elements, and the words of the field. Whatever is shown goes in as text, never as markup.
+// Shared by the views: requests, elements, and the words of the field. Everything is inserted as text, never as markup.
 
 export const OFFICES = {
   1: ["Presidente", 2], 3: ["Governador", 2], 5: ["Senador", 3], 6: ["Deputado federal", 4],
@@ -9,7 +9,7 @@ export const office = (code) => (OFFICES[code] ? OFFICES[code][0] : `Cargo ${cod
 
 export const find = (name) => document.getElementById(name);
 
-// The most bytes of the files that a page can be given, and of a request, as the server has them.
+// The maximum bytes of the page's input files, and of a request, as in the server.
 export const MOST = { tables: 4194304, roll: 16384, report: 1048576, certificate: 1048576, asked: 33554432 };
 
 const failure = (why) => {
@@ -48,7 +48,7 @@ export function make(kind, attributes = {}, ...inside) {
   return made;
 }
 
-// Puts these in the place of what an element has. What would be the same stays, so that a screen reader doesn't say it again.
+// Replaces the content of an element by these. Equal content stays, so that a screen reader doesn't repeat it.
 export function renew(element, ...inside) {
   const made = make("div", {}, ...inside);
   if (made.innerHTML !== element.innerHTML) {
@@ -60,20 +60,20 @@ export const number = (value) => Number(value).toLocaleString("pt-BR");
 
 export const candidateName = (names, code, it) => (names.candidatos || {})[`${code} ${it}`] || "";
 
-// A party or a federation, as the lines of the totals tell it.
+// A party or a federation, from the lines of the totals.
 export function blocName(names, it) {
   const federation = it.kind === "FEDERACAO";
   const name = (federation ? names.federacoes : names.partidos)?.[it.number] || "";
   return `${federation ? "federação" : "partido"} ${it.number}${name ? ` ${name}` : ""}`;
 }
 
-// A moment of 14 digits, or a day of 8, as it is read.
+// A moment of 14 digits, or a day of 8, for a reader.
 export function moment(digits) {
   const [, year, month, day, hour, minute] = /^(\d{4})(\d\d)(\d\d)(?:(\d\d)(\d\d)\d\d)?$/.exec(digits) || [];
   return year ? `${day}/${month}/${year}${hour ? `, ${hour}h${minute}` : ""}` : digits;
 }
 
-// The bytes of a file of at most so many, for a request.
+// The bytes of a file with at most this many, for a request.
 export async function encoded(file, most) {
   if (file.size > most) {
     fail(`${file.name} é grande demais: tem ${number(file.size)} bytes, e são no máximo ${number(most)}`);
@@ -86,7 +86,7 @@ export async function encoded(file, most) {
   return btoa(text);
 }
 
-// A text as it is, which takes the keyboard so that it can be scrolled.
+// A text as it is, which can have the keyboard focus so that it can be scrolled.
 export const textBlock = (label, attributes, ...inside) => make("pre", { tabindex: "0", role: "group", "aria-label": label, ...attributes }, ...inside);
 
 // A place on which files can be dropped.

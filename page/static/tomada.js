@@ -1,4 +1,4 @@
-// The power pulled inside a commit, and a flash that is lost.
+// The power pulled inside a commit, and a lost flash.
 
 import { find, make, number, renew } from "./parts.js";
 import { told } from "./urna.js";
@@ -68,7 +68,7 @@ function power(state) {
   return (state.ligada ? `Ligada: ${inWords(state.inicio.linhas[0] || "")}.` : "Desligada.") + lacking;
 }
 
-// As many operations to choose from as the last commit had, or as one usually has.
+// The operations to choose from: as many as the last commit had, or as a commit usually has.
 function choices(state) {
   const count = state.corte ? state.corte.operacoes.length : 29;
   const field = find("qual");

@@ -1,4 +1,4 @@
-// The totals of reports: the verdicts, the votes and the seats, all of them out of the lines of `totaliza`.
+// The totals of reports: the verdicts, the votes and the seats, all from the lines of `totaliza`.
 
 import { certified } from "./certificado.js";
 import { bars, halfCircle } from "./drawing.js";
@@ -7,7 +7,7 @@ import { inWords, ofNumber } from "./words.js";
 
 const pairs = (words) => Object.fromEntries(words.flatMap((it, at) => (at % 2 ? [] : [[it, words[at + 1]]])));
 
-// The lines as the verdicts, how many sections, and one contest for each office.
+// The lines parsed into the verdicts, the number of sections, and one contest for each office.
 export function read(lines) {
   const totals = { verdicts: [], sections: null, contests: [], faults: [] };
   let contest = null;
@@ -161,7 +161,7 @@ async function total(page) {
   return words ? asked(words) : null;
 }
 
-// Files that fall beside a place for them are reports in this view, and are never opened in the place of the page.
+// In this view, files dropped beside a place for them are reports; they are never opened instead of the page.
 function dropBeside() {
   const hasFiles = (event) => !event.defaultPrevented && event.dataTransfer?.types.includes("Files");
   document.addEventListener("dragover", (event) => hasFiles(event) && event.preventDefault());

@@ -8,13 +8,13 @@ const COLOURED = [["B", "BRANCO", "branco"], ["R", "CORRIGE", "corrige"], ["C", 
 const CLERK = ["LIBERA", "CANCELA", "SUSPENDE"];
 const KEYBOARD = { b: "B", B: "B", Backspace: "R", Enter: "C" };
 
-// A line of the program, and what it says in words.
+// A line of the program, and its meaning in words.
 export function told(line, status) {
   const words = line ? inWords(line) : ofNumber(status);
   return [line ? make("code", {}, line) : "", words ? ` ${words}` : ""];
 }
 
-// What the lines of a visit leave on both terminals.
+// What both terminals show after the lines of a visit.
 export function visitOf(lines) {
   let visit = { at: "nobody" };
   for (const line of lines) {
@@ -51,7 +51,7 @@ function labelled(label, value) {
   return value ? make("p", { class: "labelled" }, make("span", {}, `${label}: `), make("strong", {}, value)) : null;
 }
 
-// What a vote will count as, where CONFIRMA would take it.
+// What a vote will count as, if CONFIRMA would accept it.
 function countsAs(visit) {
   return visit.field === "BRANCO" ? "VOTO EM BRANCO" : KINDS[visit.kind] || "";
 }
@@ -165,7 +165,7 @@ function key(label, press, kind) {
   return make("button", { type: "button", "data-press": press, class: `key ${kind}` }, label);
 }
 
-// The title after the one that was called, so that a clerk in training goes through the roll.
+// The title after the last called one, so that a clerk in training goes through the roll.
 function nextTitle(page) {
   const field = find("titulo").elements.titulo;
   const at = page.titles.indexOf(field.value);
@@ -186,7 +186,7 @@ export function start(page, change) {
     const pressed = event.target.closest("[data-press]");
     if (pressed) {
       vote(pressed.dataset.press);
-      // A click of the mouse leaves the keyboard with the whole terminal.
+      // After a click of the mouse the whole terminal keeps the keyboard focus.
       if (event.detail > 0) {
         find("terminal").focus({ preventScroll: true });
       }

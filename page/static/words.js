@@ -1,4 +1,4 @@
-// The program's lines in words. What they say is the program's; docs/MANUAL.md has all of them.
+// The program's lines in words. docs/MANUAL.md has all of them.
 
 import { moment, number } from "./parts.js";
 
@@ -66,7 +66,7 @@ function came(n) {
   return n === "0" ? "ninguém votou ainda" : n === "1" ? "1 veio" : `${number(n)} vieram`;
 }
 
-// What a line says, in words; nothing where it has none.
+// A line in words; nothing if it has none.
 export function inWords(line) {
   for (const [form, say] of LINES) {
     const found = form.exec(line);
@@ -77,7 +77,7 @@ export function inWords(line) {
   return "";
 }
 
-// Where a command shows no line its number is all that it says.
+// If a command shows no line, its status is all there is.
 const NUMBERS = { 1: "faltou memória ao computador", 20: "um arquivo não pôde ser lido ou gravado", 21: "a memória interna falhou",
   22: "a memória externa falhou", 23: "a tela falhou", "-9": "o programa foi parado" };
 
