@@ -243,7 +243,7 @@ def write(folder, name, text):
 
 
 def make(seed, number, count, folder):
-    """Makes the folder of one of this many municipalities, with its documents, and what was drawn beside them."""
+    """Makes the folder of one of this many municipalities, with its documents, and a file with what was drawn."""
     its = Municipality(seed, number)
     files = its.files([*range(1, number), *range(number + 1, count + 1)] or [number + 1])
     os.mkdir(folder)

@@ -166,7 +166,7 @@ def alone(flashes, dev):
     return left
 
 
-# A step is the number of its bytes, its device, its operation, and the slot and the value of the operation.
+# A step is its number of bytes, its device, its operation, and the slot and the value of the operation.
 
 
 def slot_steps(dev, slot, is_open, ledger, sizes):
