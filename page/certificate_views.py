@@ -135,8 +135,8 @@ def none(page):
     """An office without seats has no certificate, and the program says why."""
     page.choose(os.path.join(EXAMPLES, "tabelas.toml"))
     page.browser.click("#soma button")
-    page.browser.wait("#totalizado", lambda text: "ERRO SEM VAGAS nenhuma vaga é dada" in text, "that there are no seats")
-    want(not page.texts(f"{OFFICE} a[download]"), "there is a certificate of no seats")
+    page.browser.wait("#totalizado", lambda text: "ERRO SEM VAGAS nenhuma vaga é dada" in text, "the page doesn't say that there are no seats")
+    want(not page.texts(f"{OFFICE} a[download]"), "there is a certificate without seats")
     told = given(page, os.path.join(EXAMPLES, "rol.txt"))
     want("ERRO CERTIFICADO LINHA 1" in told, f"a roll as a certificate: {told!r}")
 

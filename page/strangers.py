@@ -124,7 +124,7 @@ def sizes(port):
     words = {TABLES: "", "boletins": [{"nome": "a", "base64": ""}] * 4097}
     want_refused(client, "too many reports", [413], path="/api/totais", body=json.dumps(words).encode())
     words = {TABLES: "", "boletins": ["a"]}
-    want_refused(client, "a report that is no object", [400], path="/api/totais", body=json.dumps(words).encode())
+    want_refused(client, "a report that isn't an object", [400], path="/api/totais", body=json.dumps(words).encode())
 
 
 def sessions(port):

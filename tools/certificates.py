@@ -134,7 +134,7 @@ def other_certificates(text):
     text = re.sub(r"\\\n\s*", "", text).replace("\\n", "\n")
     rows = CERTIFIED.findall(text)
     if not rows:
-        yield "no row of certificates is found"
+        yield "found no row of certificates"
     for contest, told, changes in rows:
         found = certificate(13, *contest_of(contest))
         if found != told:
