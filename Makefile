@@ -7,10 +7,10 @@ PREFIX = /usr/local
 URNA = $(CURDIR)/crates/urna_app/out/urna_app
 LEDGER = $(CURDIR)/crates/ledger_app/out/ledger_app
 
-# The minutes are those of four idle processors, with no proof made before. A proof where nothing has changed since takes seconds.
+# The minutes are those of four shared processors, with no proof made before (bench/COST.md). Where nothing has changed it takes seconds.
 list:
 	@echo "make try           an example day and a known election, unproved: minutes"
-	@echo "make demo          both programs proved, each example on real files: DEMO"
+	@echo "make demo          both programs proved, each example on real files: 42 minutes"
 	@echo "make page          urna proved, with a page for this browser, at PORT if given"
 	@echo "make page-unproved the same over urna compiled without a proof: two minutes"
 	@echo "make check-page    that page tried in Chromium, pictures in out/page: minutes"
@@ -22,7 +22,7 @@ list:
 	@echo "make install       the same under PREFIX (/usr/local), with manual pages"
 	@echo "make check         formats and proves changed crates, then check-house"
 	@echo "make check-house   what no proof finds in documents and sources: a minute"
-	@echo "make test          the gate: every proof, edit, test and program: over an hour"
+	@echo "make test          the gate: every proof, edit, test and program: 82 minutes"
 	@echo "make wrong-bodies  plays every wrong body in trials/: each must be refused"
 	@echo "make laws          proves the laws of calls"
 	@echo "make check-bench   the benchmarks compiled and run: a minute"
