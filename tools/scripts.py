@@ -4,6 +4,7 @@ line `# NAME: ..`, and its lines are those that aren't indented by four spaces. 
 into `args`.
 """
 
+import argparse
 import os
 import re
 import sys
@@ -121,8 +122,9 @@ def write(path, text):
 
 
 if __name__ == "__main__":
-    if sys.argv[1:] != ["--split"]:
-        sys.exit(f"usage: {sys.argv[0]} --split")
+    parser = argparse.ArgumentParser(description=__doc__.partition("\n")[0])
+    parser.add_argument("--split", action="store_true", required=True, help="write the scripts from the expected text")
+    parser.parse_args()
     for name, text in split():
         write(f"data/{name}", text)
     write("args", args_of(split()))
