@@ -112,6 +112,19 @@ class Browser:
     def clear(self, selector):
         self.ask("POST", f"/element/{self.find(selector)}/clear", {})
 
+    def accept(self):
+        """Accepts the question that the page asks. Returns it."""
+        until = time.monotonic() + LONGEST
+        while True:
+            try:
+                asked = self.ask("GET", "/alert/text")
+                self.ask("POST", "/alert/accept", {})
+                return asked
+            except Failed:
+                if time.monotonic() > until:
+                    raise
+                time.sleep(0.02)
+
     def press(self, *keys):
         """Keys of the keyboard, each down and up."""
         actions = [{"type": kind, "value": key} for key in keys for kind in ("keyDown", "keyUp")]

@@ -19,6 +19,8 @@ from visible import visible
 ENTER, BACKSPACE, TAB = "\ue007", "\ue003", "\ue004"
 PHONE = 390
 HOSTILE = certificate_views.MARKUP
+# What the page asks before these keys of the example day.
+QUESTIONS = {"ABRE": "Abrir em 04/10/2026, 08h00?", "ENCERRA": "Encerrar em 04/10/2026, 17h00? Ninguém mais vota."}
 # It isn't a line feed, and ends no line of the program.
 SEPARATOR = "\u2028"
 
@@ -43,7 +45,14 @@ class Page:
     def clerk(self, word, form):
         button = "#titulo button" if word == "TITULO" else f'.clerk button[value="{word}"]'
         self.browser.click(button)
+        if word in QUESTIONS:
+            self.want_asked(QUESTIONS[word])
         self.reply(form, word)
+
+    def want_asked(self, words):
+        """The page asks this before it does what nothing undoes."""
+        asked = self.browser.accept()
+        want(words in asked, f"the page asks {asked!r} and not {words!r}")
 
     def title(self, voter):
         self.browser.clear("#titulo input")
@@ -97,6 +106,7 @@ def begin(page, choice):
 
 def opened(page):
     """A key before the opening is refused, and the zero report has only zeros."""
+    page.title(1)
     page.clerk("TITULO", "RECUSA 1")
     page.clerk("ABRE", "ABERTA 20261004080000")
     page.clerk("ABRE", "RECUSA 2")
@@ -125,6 +135,7 @@ def by_clicks(page):
     page.screen("VOTO NULO", "a null vote is not shown")
     page.click_keys("R45C")
     page.screen("FIM", "the first voter sees no FIM")
+    want(page.browser.run("return document.querySelector('#titulo input').value") == "", "behind FIM a title is left")
     page.picture("fim")
 
 
@@ -168,6 +179,7 @@ def suspended(page):
 def sealed(page):
     """The paper has the counts of the file."""
     page.browser.give('[data-palavra="ENCERRA"] input', ENTER)
+    page.want_asked(QUESTIONS["ENCERRA"])
     page.reply("ENCERRADA 20261004170000 4", "the seal by keys")
     page.view("boletim")
     for command, answer in (("confere", "ACEITO 1 42"), ("reconta", "CONFERE")):
@@ -247,12 +259,14 @@ def pulled(page):
     page.browser.click("#desliga")
     page.browser.wait("#energia", lambda text: "Desligada" in text, "it is not switched off")
     page.browser.click("[data-troca=interna]")
+    page.want_asked("em branco no lugar da interna?")
     page.browser.wait('[data-memoria="interna"]', lambda text: "ERRO OUTRA CARGA INTERNA" in text, "the blank flash")
     page.picture("troca")
     page.browser.click("[data-repoe=interna]")
     page.browser.wait("#reposta", lambda text: "REPOSTA INTERNA 1 42 1" in text, "repoe")
     page.browser.click("#liga")
-    page.browser.wait("#energia", lambda text: "Ligada" in text, "it does not start")
+    page.browser.wait("#energia", lambda text: "Ligada: URNA ABERTA 1" in text, "it does not start")
+    want(page.browser.text("#reposta") == "", "the answer of before the start is left")
 
 
 def pairs_in(text):

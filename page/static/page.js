@@ -5,15 +5,20 @@ import * as boletim from "./boletim.js";
 import * as tomada from "./tomada.js";
 import * as totais from "./totais.js";
 import * as urna from "./urna.js";
-import { inWords } from "./words.js";
 
 const VIEWS = ["urna", "tomada", "boletim", "totais"];
-const page = { state: { carregada: false }, names: {}, titles: [] };
+const page = { state: { carregada: false }, names: {}, titles: [], waiting: "" };
+// The buttons of the clerk and of the power.
+const PRESSED = ".clerk button, [data-views=tomada] button";
 
 function show(state) {
   page.state = state;
   for (const view of [urna, tomada, boletim]) {
     view.show(page);
+  }
+  // They keep the keyboard focus, which a disabled button loses.
+  for (const it of document.querySelectorAll(PRESSED)) {
+    it.setAttribute("aria-disabled", String(Boolean(page.waiting)));
   }
 }
 
@@ -22,6 +27,19 @@ let last = Promise.resolve();
 function change(what, words) {
   last = last.then(() => ask(what, words)).then((told) => (show(told), told)).catch(() => null);
   return last;
+}
+
+// One press of the clerk or of the power at a time: while it is under way, a second one isn't taken.
+async function once(what, words) {
+  if (page.waiting) {
+    return null;
+  }
+  page.waiting = what;
+  show(page.state);
+  const told = await change(what, words);
+  page.waiting = "";
+  show(page.state);
+  return told;
 }
 
 function go() {
@@ -43,20 +61,23 @@ function named(told) {
   urna.name(page);
 }
 
+function loaded(answer) {
+  find("carga").replaceChildren(...urna.told(answer.linhas[0] || "", answer.numero));
+}
+
 async function begin(words) {
   const told = await change("comeca", words);
   if (told) {
     named(told);
     show(told);
-    const line = told.carga.linhas[0] || "";
-    find("carga").replaceChildren(...urna.told(line, told.carga.numero));
+    loaded(told.carga);
   }
 }
 
 async function beginOwn(form) {
   const [tables, roll] = [form.elements.tabelas.files[0], form.elements.rol.files[0]];
   if (!tables || !roll) {
-    find("carga").textContent = "faltam os arquivos das tabelas e do rol";
+    find("carga").textContent = "faltam os arquivos das tabelas e da lista de eleitores";
     return;
   }
   const [zone, section] = [form.elements.zona.value, form.elements.secao.value].map(Number);
@@ -77,14 +98,14 @@ find("comeca").elements.exemplo.addEventListener("change", (event) => {
 addEventListener("hashchange", go);
 go();
 for (const view of [urna, tomada, boletim, totais]) {
-  view.start(page, change);
+  view.start(page, change, once);
 }
 
 const state = await read("estado");
 if (state.carregada) {
   named(await read("eleicao"));
   show(state);
-  find("carga").textContent = inWords(state.inicio.linhas[0] || "");
+  loaded(state.carga);
 } else {
   await begin({ exemplo: "dia" });
 }

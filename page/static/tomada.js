@@ -2,7 +2,6 @@
 
 import { find, make, number, renew } from "./parts.js";
 import { told } from "./urna.js";
-import { inWords } from "./words.js";
 
 const DONE = { grava: "gravação", sincroniza: "sincronização", mostra: "linha mostrada" };
 
@@ -35,7 +34,7 @@ function comesAgain(cut) {
   }
   const counted = cut.volta === "RECUSA 5";
   const words = counted ? "o voto já está contado, uma vez: este eleitor não vota de novo" : "o voto não foi contado: este eleitor é identificado outra vez, e vota do começo";
-  return make("li", { class: counted ? "counted" : "again" }, `Identificado outra vez, o título ${cut.titulo} tem: `, make("code", {}, cut.volta), ` ${words}.`);
+  return make("li", { class: counted ? "counted" : "again" }, `Se o título ${cut.titulo} for identificado outra vez (falta apertar TITULO), a resposta será: `, make("code", {}, cut.volta), ` ${words}.`);
 }
 
 function started(cut) {
@@ -56,16 +55,24 @@ function held(cut) {
   return cut.memorias.map((it) => make("li", {}, `Na queda, a ${it.nome} sozinha: `, ...told(it.linha, it.numero)));
 }
 
+// The line with which the machine started, or with which it did not.
+function supplied(state) {
+  if (state.ligada) {
+    return ["Ligada: ", ...told(state.inicio.linhas[0] || "", state.inicio.numero), "."];
+  }
+  return state.recusada ? ["A urna não ligou: ", ...told(state.recusada.linhas[0] || "", state.recusada.numero), "."] : ["Desligada."];
+}
+
 function power(state) {
   if (!state.carregada) {
-    return "A urna não foi carregada.";
+    return ["A urna não foi carregada."];
   }
   if (state.armada) {
     const where = state.armada.operacao ? `na operação ${state.armada.operacao}` : "em uma operação sorteada";
-    return `A próxima gravação vai ser parada ${where}: agora apertar a tecla que grava: o último CONFIRMA de um eleitor, ABRE ou ENCERRA.`;
+    return [`A próxima gravação vai ser parada ${where}: agora apertar a tecla que grava: o último CONFIRMA de um eleitor, ABRE ou ENCERRA.`];
   }
   const lacking = state.preparada ? "" : " Sem compilador de C (cc) o programa não pode ser parado no meio de uma gravação.";
-  return (state.ligada ? `Ligada: ${inWords(state.inicio.linhas[0] || "")}.` : "Desligada.") + lacking;
+  return [...supplied(state), lacking];
 }
 
 // The operations to choose from: as many as the last commit had, or as a commit usually has.
@@ -80,10 +87,17 @@ function choices(state) {
   }
 }
 
+// Whether the machine had power when it was last shown; the answer about a flash is from before a change of it.
+let wasOn = false;
+
 export function show(page) {
   const state = page.state;
-  const isOn = state.carregada && state.ligada;
-  renew(find("energia"), power(state));
+  const isOn = Boolean(state.carregada && state.ligada);
+  renew(find("energia"), ...(["", "tecla"].includes(page.waiting) ? power(state) : ["aguarde..."]));
+  if (wasOn !== isOn) {
+    wasOn = isOn;
+    find("reposta").replaceChildren();
+  }
   find("energia").className = !state.carregada || state.ligada ? (state.armada ? "power armed" : "power on") : "power off";
   choices(state);
   find("arma").textContent = state.armada ? "Não tirar da tomada" : "Tirar da tomada na próxima gravação";
@@ -96,22 +110,27 @@ export function show(page) {
   renew(find("corte"), ...report(page));
 }
 
-export function start(page, change) {
+export function start(page, change, once) {
   const tell = (answer) => answer && find("reposta").replaceChildren(...told(answer.resposta.linhas[0] || "", answer.resposta.numero));
   find("arma").addEventListener("click", () => {
     const chosen = find("qual").value;
-    return page.state.armada ? change("desarma") : change("arma", { operacao: chosen ? Number(chosen) : null });
+    return page.state.armada ? once("desarma") : once("arma", { operacao: chosen ? Number(chosen) : null });
   });
-  find("desliga").addEventListener("click", () => change("desliga"));
-  find("liga").addEventListener("click", async () => tell(await change("liga")));
+  find("desliga").addEventListener("click", () => once("desliga"));
+  find("liga").addEventListener("click", () => {
+    find("reposta").replaceChildren();
+    return once("liga");
+  });
   for (const word of ["interna", "externa"]) {
     const exchange = make("button", { type: "button", "data-troca": word }, `Pôr uma em branco no lugar da ${word}`);
     exchange.addEventListener("click", async () => {
-      const answer = await change("troca", { memoria: word });
-      find("reposta").textContent = answer ? `a ${word} é agora uma memória em branco` : "";
+      if (window.confirm(`Pôr uma memória em branco no lugar da ${word}? O que a ${word} guarda se perde.`)) {
+        const answer = await once("troca", { memoria: word });
+        find("reposta").textContent = answer ? `a ${word} é agora uma memória em branco` : "";
+      }
     });
     const reload = make("button", { type: "button", "data-repoe": word }, `repoe ${word}`);
-    reload.addEventListener("click", async () => tell(await change("repoe", { memoria: word })));
+    reload.addEventListener("click", async () => tell(await once("repoe", { memoria: word })));
     find("trocas").append(exchange, reload);
   }
 }

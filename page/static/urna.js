@@ -1,6 +1,6 @@
 // The two terminals, and the two flashes.
 
-import { OFFICES, find, make, number, office, renew } from "./parts.js";
+import { OFFICES, find, make, moment, number, office, renew } from "./parts.js";
 import { inWords, ofNumber } from "./words.js";
 
 const KEYS = ["1", "2", "3", "4", "5", "6", "7", "8", "9", "0"];
@@ -92,10 +92,10 @@ function screen(page) {
 }
 
 const STEPS = {
-  nobody: "Um título do rol, e TITULO.",
+  nobody: "Um título da lista de eleitores, e TITULO.",
   identified: "LIBERA chama o primeiro voto; CANCELA desfaz a identificação.",
   voting: "O eleitor vota. SUSPENDE, se ele vai embora antes de acabar.",
-  end: "O voto está guardado. O próximo: um título do rol, e TITULO; ou ENCERRA.",
+  end: "O voto está guardado. O próximo: um título da lista de eleitores, e TITULO; ou ENCERRA.",
 };
 
 function step(state) {
@@ -142,7 +142,7 @@ export function show(page) {
   find("tela").className = `screen ${kind}`;
   renew(find("tela"), ...inside);
   renew(find("passo"), step(page.state));
-  renew(find("resposta"), ...reply(page.state.mesario));
+  renew(find("resposta"), ...(page.waiting === "tecla" ? [make("p", {}, "aguarde...")] : reply(page.state.mesario)));
   renew(find("memorias"), ...(page.state.memorias || []).map(memory));
   renew(find("linhas"), (page.state.visita || []).join("\n"));
   const isOff = !page.state.carregada || !page.state.ligada;
@@ -157,7 +157,7 @@ export function name(page) {
   const [opening, closing] = find("momentos").querySelectorAll("input");
   opening.value = `${day}080000`;
   closing.value = `${day}170000`;
-  find("titulo").elements.titulo.value = page.titles[0] || "";
+  find("titulo").elements.titulo.value = "";
   find("titulos").replaceChildren(...page.titles.map((it) => make("option", { value: it })));
 }
 
@@ -165,21 +165,36 @@ function key(label, press, kind) {
   return make("button", { type: "button", "data-press": press, class: `key ${kind}` }, label);
 }
 
-// The title after the last called one, so that a clerk in training goes through the roll.
-function nextTitle(page) {
-  const field = find("titulo").elements.titulo;
-  const at = page.titles.indexOf(field.value);
-  field.value = page.titles[at + 1] || field.value;
+// The question before a key that nothing undoes.
+const asked = (word, digits) => (word === "ABRE" ? `Abrir em ${moment(digits)}? Este momento não se corrige mais.` : `Encerrar em ${moment(digits)}? Ninguém mais vota.`);
+
+// A title that is written replaces the one before it.
+function selectsAll(field) {
+  let isEntered = false;
+  field.addEventListener("focus", () => {
+    isEntered = true;
+    field.select();
+  });
+  // The click that enters the field would set the caret.
+  field.addEventListener("click", () => {
+    if (isEntered) {
+      field.select();
+    }
+    isEntered = false;
+  });
 }
 
-export function start(page, change) {
-  const press = (line) => change("tecla", { tecla: line });
-  const vote = async (it) => {
-    const answer = await press(`E ${it}`);
+export function start(page, change, once) {
+  const field = find("titulo").elements.titulo;
+  // After FIM the field is empty, so that the next voter isn't called by this title.
+  const leave = (answer) => {
     if (answer && answer.linhas.includes("FIM")) {
-      nextTitle(page);
+      field.value = "";
     }
   };
+  // The voter's keys wait for each other, and none is lost; a second key of the clerk isn't taken while one is under way.
+  const vote = async (it) => leave(await change("tecla", { tecla: `E ${it}` }));
+  const press = async (line) => leave(await once("tecla", { tecla: line }));
   find("teclado").append(...KEYS.map((it) => key(it, it, it === "0" ? "digitkey zero" : "digitkey")));
   find("teclado").append(...COLOURED.map(([it, label, kind]) => key(label, it, kind)));
   find("teclado").addEventListener("click", (event) => {
@@ -208,12 +223,16 @@ export function start(page, change) {
   });
   find("mesario").append(...CLERK.map((it) => make("button", { type: "button", value: it }, it)));
   find("mesario").addEventListener("click", (event) => event.target.value && press(`M ${event.target.value}`));
+  selectsAll(field);
   find("titulo").addEventListener("submit", (event) => {
     event.preventDefault();
-    press(`M TITULO ${event.target.elements.titulo.value}`);
+    press(`M TITULO ${field.value.replace(/\D/g, "")}`);
   });
   find("momentos").addEventListener("submit", (event) => {
     event.preventDefault();
-    press(`M ${event.target.dataset.palavra} ${event.target.elements.momento.value}`);
+    const [word, digits] = [event.target.dataset.palavra, event.target.elements.momento.value];
+    if (window.confirm(asked(word, digits))) {
+      press(`M ${word} ${digits}`);
+    }
   });
 }

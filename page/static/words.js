@@ -6,7 +6,7 @@ const REFUSED = {
   1: "a votação ainda não foi aberta: falta ABRE",
   2: "a votação já foi aberta",
   3: "a urna está lacrada: ninguém mais vota",
-  4: "este título não está no rol desta seção",
+  4: "este título não está na lista de eleitores desta seção",
   5: "este eleitor já votou, e não vota outra vez",
   6: "há alguém identificado ou votando",
   7: "ninguém está identificado: falta TITULO",
@@ -17,28 +17,28 @@ const REFUSED = {
 const FLASH = { INTERNA: "interna", EXTERNA: "externa" };
 
 const FAULTS = [
-  [/^ERRO LINHA \d+$/, () => "a tecla não tem a forma: um título tem 12 algarismos, um momento 14"],
+  [/^ERRO LINHA \d+$/, () => "número errado: um título tem 12 algarismos, um momento 14, sem espaços"],
   [/^ERRO OUTRA CARGA (\w+)$/, (f) => `a memória ${FLASH[f]} não tem a carga desta eleição`],
   [/^ERRO SEM IMAGEM$/, () => "nenhuma das duas guarda uma votação"],
   [/^ERRO SEM IMAGEM (\w+)$/, (f) => `a memória ${FLASH[f]}, de que a outra ia ser carregada, não guarda nenhuma votação`],
   [/^ERRO EM USO (\w+)$/, (f) => `a memória ${FLASH[f]} está em uso, e não é apagada`],
   [/^ERRO TABELAS/, () => "o arquivo não tem as tabelas de uma eleição"],
-  [/^ERRO ROL/, () => "o rol não tem a forma: um título de 12 algarismos em cada linha, em ordem crescente"],
+  [/^ERRO ROL/, () => "a lista de eleitores não tem a forma: um título de 12 algarismos em cada linha, em ordem crescente"],
   [/^ERRO CARGO$/, () => "as tabelas não têm um cargo proporcional com esse código"],
   [/^ERRO SEM VAGAS$/, () => "nenhuma vaga é dada nesse cargo sobre estes boletins: não há certificado"],
   [/^ERRO CERTIFICADO LINHA (\d+)$/, (k) => `a linha ${k} do arquivo é a primeira que não pode estar em um certificado deste cargo, ou falta, ou não tem a sua quebra de linha`],
   [/^ERRO TAMANHO CERTIFICADO$/, () => "é grande demais para um certificado"],
-  [/^ERRO SECAO$/, () => "as tabelas não têm esta seção, ou ela tem outro número de eleitores que o rol"],
+  [/^ERRO SECAO$/, () => "as tabelas não têm esta seção, ou ela não tem tantos eleitores como a lista de eleitores"],
 ];
 
 const LINES = [
   [/^URNA PRONTA 0$/, () => "pronta: ninguém votou, e falta abrir"],
-  [/^URNA ABERTA (\d+)$/, (n) => `aberta: ${came(n)}`],
-  [/^URNA LACRADA (\d+)$/, (n) => `lacrada: ${came(n)}`],
+  [/^URNA ABERTA (\d+)$/, (n) => `aberta: ${voted(n)}`],
+  [/^URNA LACRADA (\d+)$/, (n) => `lacrada: ${voted(n)}`],
   [/^CARGA (\d+) (\d+) (\d+)$/, (z, s, n) => `as duas memórias estão carregadas para a seção ${s} da zona ${z}, de ${number(n)} eleitores`],
-  [/^REPOSTA (\w+) (\d+) (\d+) (\d+)$/, (f, z, s, n) => `a memória ${FLASH[f]} guarda outra vez a votação da seção ${s} da zona ${z}: ${came(n)}`],
+  [/^REPOSTA (\w+) (\d+) (\d+) (\d+)$/, (f, z, s, n) => `a memória ${FLASH[f]} guarda outra vez a votação da seção ${s} da zona ${z}: ${voted(n)}`],
   [/^ABERTA (\d+)$/, (m) => `a votação está aberta desde ${moment(m)}`],
-  [/^ENCERRADA (\d+) (\d+)$/, (m, n) => `a votação está lacrada desde ${moment(m)}: ${came(n)}`],
+  [/^ENCERRADA (\d+) (\d+)$/, (m, n) => `a votação está lacrada desde ${moment(m)}: ${voted(n)}`],
   [/^ELEITOR (\d+)$/, (t) => `o título ${t} está identificado: falta LIBERA`],
   [/^LIBERADO$/, () => "a urna está liberada: o eleitor vota"],
   [/^CANCELADO$/, () => "a identificação foi desfeita"],
@@ -62,8 +62,8 @@ const LINES = [
   ...FAULTS,
 ];
 
-function came(n) {
-  return n === "0" ? "ninguém votou ainda" : n === "1" ? "1 veio" : `${number(n)} vieram`;
+function voted(n) {
+  return n === "0" ? "ninguém votou ainda" : n === "1" ? "1 votou" : `${number(n)} votaram`;
 }
 
 // A line in words; nothing if it has none.
