@@ -62,7 +62,7 @@ class Machine:
         anew(self.folder)
         put(tables, self.folder, TABLES)
         put(roll, self.folder, ROLL)
-        self.is_loaded, self.is_on, self.armed, self.cut = False, False, None, None
+        self.is_loaded, self.is_on, self.armed, self.cut, self.unstarted = False, False, None, None, None
         self.visit, self.known, self.shown = [], [], []
         self.zero, self.count, self.clerk, self.looked_at = [], [], None, (None, None)
         ended = self.run(["carga", TABLES, ROLL, zone, section])
@@ -128,8 +128,14 @@ class Machine:
             self.count = lines
 
     def answer(self, line, lines, status):
+        """The clerk's terminal has the answers to the clerk's keys. Of a voter's key it has only that it failed, until one doesn't; not
+        which key it was, nor what the voter's screen showed."""
         if begins(line, "M "):
             self.clerk = {"tecla": line, "linhas": lines, "numero": status}
+        elif status != 0:
+            self.clerk = {"tecla": None, "linhas": [it for it in lines if it == "FIM" or begins(it, "ERRO ")], "numero": status}
+        elif self.clerk and self.clerk["tecla"] is None:
+            self.clerk = None
 
     # ---- the power
 
@@ -220,6 +226,7 @@ class Machine:
         self.want_off()
         self.opening = self.vota([])
         self.is_on = self.opening.status == 0
+        self.unstarted = None if self.is_on else self.opening.told()
         if self.is_on:
             self.shown, self.clerk = [], None
         if self.cut:
@@ -238,11 +245,15 @@ class Machine:
         """Replaces this flash by a blank one, with the power off."""
         self.want_off()
         put(bytes(self.size), self.folder, FLASHES[device])
+        self.unstarted = None
 
     def reload(self, device):
         """Loads the replaced flash from the other one."""
         self.want_off()
-        return self.run(["repoe", TABLES, ROLL, WORDS[device]])
+        ended = self.run(["repoe", TABLES, ROLL, WORDS[device]])
+        if ended.status == 0:
+            self.unstarted = None
+        return ended
 
     def memories(self):
         """What each flash alone holds, as the program reports it over a copy in which the other one has only its frame; and its gates."""
@@ -254,7 +265,8 @@ class Machine:
     def memory(self, flashes, device):
         pair = [flash if it == device else self.frames[it] for it, flash in enumerate(flashes)]
         ended = self.asked_of_copy([], pair)
-        gates = [{"lugar": at, "byte": f"{flashes[device][at]:02X}"} for at in GATES]
+        # A file that is too short has no byte there.
+        gates = [{"lugar": at, "byte": flashes[device][at : at + 1].hex().upper()} for at in GATES]
         return {"nome": WORDS[device], "linha": "".join(ended.lines[:1]), "numero": ended.status, "portas": gates}
 
     # ---- the results
@@ -300,6 +312,7 @@ class Machine:
             "ligada": self.is_on,
             "carga": self.loaded.told(),
             "inicio": self.opening.told(),
+            "recusada": self.unstarted,
             "visita": self.shown,
             "mesario": self.clerk,
             "ocupada": bool(self.visit),

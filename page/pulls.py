@@ -1,6 +1,9 @@
 """The power pulled at each operation of one commit, by requests. A voter who saw FIM begin is counted, once; for any other voter the
 program asks again."""
 
+import glob
+import os
+
 from client import Client, fields
 from commands import want
 
@@ -114,6 +117,23 @@ def exchanged(port):
     return 2
 
 
-def tried(port):
+def shortened(port, folder):
+    """A flash cut short under a voter: the clerk is told that a key failed, and neither which one nor a line of the voter's"""
+    client = begun(port)
+    client.press(*ballot(2))
+    for path in glob.glob(os.path.join(folder, "*", "urna", "internal.flash")):
+        os.truncate(path, 100)
+    told = client.press("E C")
+    clerk = told["mesario"]
+    want((clerk["tecla"], clerk["linhas"]) == (None, []) and clerk["numero"] != 0, f"a failed key of a voter: {clerk}")
+    want([it["byte"] for it in told["memorias"][0]["portas"]] == ["", ""], f"the gates of a short flash: {told['memorias'][0]}")
+    client.ask("desliga")
+    told = client.ask("liga")
+    want(not told["ligada"] and told["recusada"]["numero"] == clerk["numero"], f"a machine with a short flash: {told['recusada']}")
+    return 1
+
+
+def tried(port, folder):
     for part in (voters, moments, drawn, exchanged):
         yield f"{part.__doc__}: {part(port)}"
+    yield f"{shortened.__doc__}: {shortened(port, folder)}"

@@ -6,6 +6,11 @@ import { told } from "./urna.js";
 
 const TITLES = { ZERESIMA: "ZERÉSIMA", BOLETIM: "BOLETIM DE URNA" };
 
+const NOT_YET = "A urna ainda não foi aberta, nem lacrada: não há o que imprimir.";
+const LOST = "A urna está aberta; a zerésima se perdeu na queda de energia, e não aparece outra vez.";
+
+const isOpen = (state) => Boolean(state.carregada) && (state.inicio.linhas[0] || "").startsWith("URNA ABERTA");
+
 // A count line, with the name from the tables for its number.
 function counted(line, code, names) {
   const [what, count] = line.split(" ");
@@ -76,6 +81,7 @@ export function show(page) {
   }
   renew(find("papeis"), ...papers);
   find("papel").hidden = !state.lacrada || page.paper !== "made";
+  find("sem-boletim").textContent = isOpen(state) ? LOST : NOT_YET;
   find("sem-boletim").hidden = papers.length > 0 || Boolean(state.lacrada);
   find("resultados").hidden = !state.lacrada;
   find("texto-boletim").hidden = !state.lacrada;

@@ -56,7 +56,10 @@ function countsAs(visit) {
   return visit.field === "BRANCO" ? "VOTO EM BRANCO" : KINDS[visit.kind] || "";
 }
 
-function voting(visit, names) {
+// Whether the voter's last key failed.
+const hasFailed = ({ mesario }) => Boolean(mesario && mesario.tecla === null);
+
+function voting(visit, names, failed) {
   const typed = /^\d+$/.test(visit.field) ? visit.field : "";
   const parties = names.partidos || {};
   const isNamed = ["CANDIDATO", "LEGENDA"].includes(visit.kind);
@@ -68,7 +71,8 @@ function voting(visit, names) {
     labelled("Nome", visit.kind === "CANDIDATO" ? visit.name : ""),
     labelled("Partido", isNamed ? parties[typed.slice(0, 2)] || (visit.kind === "LEGENDA" ? visit.name : "") : ""),
     countsAs(visit) ? make("p", { class: "counts" }, countsAs(visit)) : null,
-    confirmable ? make("p", { class: "foot" }, "Aperte CONFIRMA para confirmar este voto, ou CORRIGE para reiniciá-lo") : null,
+    failed ? make("p", { class: "counts" }, "Chame o mesário") : null,
+    confirmable && !failed ? make("p", { class: "foot" }, "Aperte CONFIRMA para confirmar este voto, ou CORRIGE para reiniciá-lo") : null,
   ];
 }
 
@@ -85,7 +89,10 @@ function screen(page) {
     return ["end", [make("p", { class: "fim" }, "FIM"), make("p", { class: "small" }, "VOTOU")]];
   }
   if (visit.at === "voting" && visit.code) {
-    return ["voting", voting(visit, page.names)];
+    return ["voting", voting(visit, page.names, hasFailed(page.state))];
+  }
+  if (hasFailed(page.state)) {
+    return ["wait", says("Chame o mesário")];
   }
   const line = page.state.inicio.linhas[0] || "";
   return ["wait", says(visit.at === "identified" ? "Eleitor identificado" : "Aguarde o mesário", inWords(line))];
@@ -103,7 +110,8 @@ function step(state) {
     return "Falta carregar a urna.";
   }
   if (!state.ligada) {
-    return "A urna está desligada: 2. Tirar da tomada, Ligar.";
+    const { linhas, numero } = state.recusada || {};
+    return state.recusada ? `A urna não ligou: ${linhas[0] || ofNumber(numero)}. Parar, e chamar quem cuida do computador.` : "A urna está desligada: 2. Tirar da tomada, Ligar.";
   }
   const line = state.inicio.linhas[0] || "";
   if (line.startsWith("URNA PRONTA")) {
@@ -118,13 +126,15 @@ function reply(clerk) {
     return [];
   }
   const lines = clerk.linhas.filter((it) => !/^(ZERESIMA|BOLETIM|CARGO|VOTO|BRANCO|NULO|TOTAL|\d+) ?/.test(it));
-  const shown = lines.length ? lines : [""];
-  return [make("p", { class: "pressed" }, clerk.tecla.slice(2)), ...shown.map((it) => make("p", {}, ...told(it, clerk.numero)))];
+  // A number that no line tells is told after the lines.
+  const shown = lines.length && (clerk.numero === 0 || lines.some((it) => it.startsWith("ERRO "))) ? lines : [...lines, ""];
+  const pressed = clerk.tecla ? clerk.tecla.slice(2) : "uma tecla do eleitor falhou";
+  return [make("p", { class: "pressed" }, pressed), ...shown.map((it) => make("p", {}, ...told(it, clerk.numero)))];
 }
 
 function gate(it) {
-  const isOpen = it.byte === "A5";
-  return make("li", {}, `porta no byte ${number(it.lugar)}: `, make("code", {}, it.byte), isOpen ? " aberta" : " fechada");
+  const where = `porta no byte ${number(it.lugar)}: `;
+  return it.byte ? make("li", {}, where, make("code", {}, it.byte), it.byte === "A5" ? " aberta" : " fechada") : make("li", {}, `${where}o arquivo é curto, e não a tem`);
 }
 
 export function memory(it) {
