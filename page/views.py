@@ -187,7 +187,7 @@ def sealed(page):
         page.browser.wait("#conferido", lambda text: answer in text, command)
     page.picture("boletim")
     first, council, mayor = fields(page.file("urna.bu"))
-    rows = papers.rows(page.browser) if not papers.lacking() else page.texts("[data-paper=boletim] .count span")
+    rows = papers.rows(page.browser) if "python3-segno" not in papers.lacking() else page.texts("[data-paper=boletim] .count span")
     counts = {name.upper(): count for name, count in zip(*[iter(rows)] * 2)}
     want(first["COMP"] == "4" and counts["TOTAL"] == "4", f"not four voters: {counts}")
     told = council["13001"], council["LEGP"], council["BRAN"], mayor["45"], mayor["13"], mayor["BRAN"], mayor["NULO"]

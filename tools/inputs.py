@@ -41,14 +41,33 @@ def tell(line):
     print(visible.visible(line), file=sys.stderr)
 
 
+def open_streams():
+    """Gives each closed standard stream the null device, so that no line for one goes to another, and names their encoding. A name of a list
+    is bytes: with another encoding of file names, the file that is checked would not be the file that is listed."""
+    for number, (name, how) in enumerate((("stdin", "r"), ("stdout", "w"), ("stderr", "w"))):
+        if getattr(sys, name) is None:
+            setattr(sys, name, open(os.devnull, how))
+        if number:
+            getattr(sys, name).reconfigure(encoding="utf-8", errors="surrogateescape")
+    if sys.getfilesystemencoding().lower() != "utf-8":
+        raise Stopped("os nomes de arquivos deste computador não são UTF-8 (LC_ALL)")
+
+
 def run_tool(main):
     """Ends the process with the status of a tool, or with one line that says why it stopped."""
     try:
-        sys.exit(main())
+        open_streams()
+        status = main()
+        sys.stdout.flush()
+        sys.exit(status)
     except Stopped as stopped:
         print(stopped, file=sys.stderr)
         sys.exit(stopped.status)
     except BrokenPipeError:
+        os._exit(UNUSABLE)
+    except (OSError, MemoryError, UnicodeError) as fault:
+        print(f"não foi feito: {getattr(fault, 'strerror', None) or type(fault).__name__}", file=sys.stderr, flush=True)
+        # Standard output that can't be written would fail once more at the end.
         os._exit(UNUSABLE)
     except KeyboardInterrupt:
         sys.exit(130)
@@ -85,15 +104,24 @@ def want_new(path):
 
 
 def put(path, data):
-    """Writes a file under an unused name."""
+    """Writes a file under an unused name; a write that fails leaves none."""
     want_plain(path)
     try:
-        with open(path, "xb") as file:
-            file.write(data)
+        file = open(path, "xb")
     except FileExistsError:
         raise Stopped(f"{path}: já existe, e não é substituído")
     except OSError as fault:
         raise Stopped(f"{path}: não pode ser gravado: {fault.strerror}")
+    try:
+        with file:
+            file.write(data)
+            file.flush()
+            os.fsync(file.fileno())
+    except BaseException as fault:
+        os.unlink(path)
+        if isinstance(fault, OSError):
+            raise Stopped(f"{path}: não pode ser gravado: {fault.strerror}")
+        raise
 
 
 def ran(words, data=b"", folder=None, **environment):
@@ -110,7 +138,7 @@ def ran(words, data=b"", folder=None, **environment):
 
 def program_of(asked):
     """The named program, else the one built here or the installed one."""
-    return os.path.abspath(asked) if asked else BUILT if os.access(BUILT, os.X_OK) else "urna"
+    return os.path.abspath(asked) if asked is not None else BUILT if os.access(BUILT, os.X_OK) else "urna"
 
 
 def add_program(parser):

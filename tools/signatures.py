@@ -92,7 +92,7 @@ class Keys:
         for number, line in enumerate(data.split(b"\n"), 1):
             if line.strip() and not line.startswith(b"#") and (not SIGNER.fullmatch(line) or set(line.split(b" ")[0]) & set(b'*?!"')):
                 raise Stopped(f"{signers}: a linha {number} não é de uma chave com nomes inteiros")
-        self.given = {"signers": data, "lost": lost_in(lost) if lost else None}
+        self.given = {"signers": data, "lost": lost_in(lost) if lost is not None else None}
 
     def __enter__(self):
         self.folder = tempfile.TemporaryDirectory(prefix="urna-chaves-")

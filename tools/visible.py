@@ -3,12 +3,15 @@
 import tomllib
 import unicodedata
 
-# Unicode's controls, formats, separators of lines and of paragraphs; and the stand-in for a byte that isn't text.
-HIDDEN = ("Cc", "Cf", "Zl", "Zp", "Cs")
+# Unicode's controls, formats, separators of lines and of paragraphs, private and unassigned characters; and the stand-in for a byte that isn't text.
+HIDDEN = ("Cc", "Cf", "Zl", "Zp", "Cs", "Co", "Cn")
+# Letters and marks that are shown as nothing (Unicode's Default_Ignorable_Code_Point), and the empty pattern of Braille.
+IGNORED = (0x034F, 0x115F, 0x1160, 0x17B4, 0x17B5, *range(0x180B, 0x1810), 0x2800, 0x3164, *range(0xFE00, 0xFE10), 0xFFA0, *range(0xE0100, 0xE01F0))
 
 
 def is_hidden(character):
-    return unicodedata.category(character) in HIDDEN
+    is_blank = unicodedata.category(character) == "Zs" and character != " "
+    return is_blank or unicodedata.category(character) in HIDDEN or ord(character) in IGNORED
 
 
 def visible(text):
